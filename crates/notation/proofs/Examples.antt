@@ -1,0 +1,9 @@
+pub mod Text
+pub mod Chars
+pub mod Packed
+pub mod Reading
+pub mod Unrolling
+pub mod Inverses
+pub mod WellFormed
+pub mod Ranges
+pub mod Entries

@@ -1,0 +1,4 @@
+-- Closed examples that pin the definitions of specs/, and the marked items of document 01.
+pub mod Opened
+pub mod Examples
+pub mod Marked

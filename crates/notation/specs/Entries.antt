@@ -1,0 +1,223 @@
+-- The entries: for each its answer and the final bytes of its buffer, on accepted and refused inputs alike.
+use Prim.Native.Nat.{ℕ, zero, suc, _+_, _*_, _/_}
+use Prim.Native.Char.{code}
+use mathlib.Core.Bool.{Bool, true, false, not, _&&_, _||_}
+use mathlib.Core.List.{List, [], _∷_, _++_}
+use mathlib.Core.Option.{Option, none, some}
+use lib.Dec.{eqb, leb, ltb}
+use lib.ListN.{length, drop, getElem?}
+use Rattle.notation.specs.Basics.{pick, between}
+use Rattle.notation.specs.Utf8.{utf8}
+use Rattle.notation.specs.Numbers.{bigEndian}
+use Rattle.notation.specs.Refusals.{
+  Outcome, refusal, result, _>>=_, _>>_, unless, orRefuse,
+  TOO-LONG, NOT-UTF8, TOO-NESTED, NOT-NOTATION, NO-ROOM, NOT-WELL-FORMED, TOO-MANY-STEPS, NO-SUCH-PLACE, NO-SUCH-LAYER-COUNT, NO-SUCH-RECORD
+}
+use Rattle.notation.specs.Layers.{Range, MAX-LAYER, clampToLayerCount, setRanges, keep, simplified}
+use Rattle.notation.specs.Tree.{Span, partOf, Layers, noLayers, singleLayer, layerRange, layerSet, Leaf, rotation, move, pause, pair, slash, megaminx, Tree}
+use Rattle.notation.specs.Packed.{RECORD, Head, leafHead, groupHead, binaryHead, headAt, leafRecord, pack, unpack, bit}
+use Rattle.notation.specs.Grammar.{notation}
+use Rattle.notation.specs.Meaning.{layerSetIn, orEmpty}
+use Rattle.notation.specs.WellFormed.{wellFormed, MAX-NESTING}
+use Rattle.notation.specs.Invert.{inv, invDeep}
+use Rattle.notation.specs.Print.{printed}
+use Rattle.notation.specs.Unroll.{flatten}
+use Rattle.notation.specs.declared.features.Features.{Features}
+use Rattle.notation.specs.declared.answer.Answer.{Answer}
+use Rattle.notation.specs.declared.answer.Answer.the-variants.{Value, Refused}
+
+-- Answers. The code's enum says an outcome; document 01's fields are the refusal's number (0 for none) and the value (0 where refused).
+abbrev pub outcome : Answer → Outcome ℕ
+outcome (Value v) = result v
+outcome (Refused r) = refusal r
+
+abbrev pub refusalNumber : {A : Type 0} → Outcome A → ℕ
+refusalNumber (refusal r) = r
+refusalNumber (result a) = 0
+
+-- Lent buffers, of bytes or of layer ranges: a refusal keeps the buffer; what does not fit is refused 5 and keeps it too;
+-- else the result takes the front, its length is the answer and the rest stays.
+pub record Lent (A : Type 0) : Type 0 where
+  pub answer : Outcome ℕ
+  pub buffer : List A
+
+abbrev pub kept : {A : Type 0} → ℕ → List A → Lent A
+kept r buffer = record { answer = refusal r; buffer = buffer }
+
+abbrev pub lend : {A : Type 0} → Outcome (List A) → List A → Lent A
+lend (refusal r) buffer = kept r buffer
+lend (result l) buffer =
+    pick (leb (length l) (length buffer))
+    (record { answer = result (length l); buffer = l ++ drop (length l) buffer })
+    (kept NO-ROOM buffer)
+
+-- Texts: refusals 1 and 2.
+abbrev pub MAX-TEXT : ℕ
+MAX-TEXT = 65535
+
+abbrev pub textOk : List ℕ → Outcome (Unit {0})
+textOk text = do
+  unless TOO-LONG (leb (length text) MAX-TEXT)
+  unless NOT-UTF8 (utf8 text)
+
+-- Refusal 3: some starting part of the text has over 64 more of `(` `[` than of `)` `]`.
+abbrev pub opens : ℕ → ℕ
+opens b = bit (eqb b (code "(") || eqb b (code "["))
+
+abbrev pub closes : ℕ → ℕ
+closes b = bit (eqb b (code ")") || eqb b (code "]"))
+
+unfoldable pub nestingOk : (opened closed : ℕ) → List ℕ → Bool
+nestingOk opened closed [] = leb opened (closed + MAX-NESTING)
+nestingOk opened closed (b ∷ s) = leb opened (closed + MAX-NESTING) && nestingOk (opened + opens b) (closed + closes b) s
+
+-- Reading: refusals 1, 2, 3, 4.
+unfoldable pub treeIn : Features → List ℕ → Outcome Tree
+treeIn f text = do
+  textOk text
+  unless TOO-NESTED (nestingOk 0 0 text)
+  orRefuse NOT-NOTATION (notation f text)
+
+abbrev pub reading : Features → List ℕ → Outcome (List ℕ)
+reading f text = do t ← treeIn f text; result (pack t)
+
+abbrev pub parseNotation : Features → List ℕ → List ℕ → Lent ℕ
+parseNotation f text buffer = lend (reading f text) buffer
+
+-- Trees: refusals 1, 2, 6.
+unfoldable pub checked : List ℕ → List ℕ → Outcome Tree
+checked text tree = do
+  textOk text
+  unless NOT-WELL-FORMED (wellFormed text tree)
+  result (unpack tree)
+
+-- Inverses: refusals 7 and 8 as the walk meets them.
+abbrev pub inverse : List ℕ → List ℕ → Outcome (List ℕ)
+inverse text tree = do t ← checked text tree; t′ ← inv t; result (pack t′)
+
+abbrev pub invEntry : List ℕ → List ℕ → List ℕ → Lent ℕ
+invEntry text tree buffer = lend (inverse text tree) buffer
+
+abbrev pub deepInverse : List ℕ → List ℕ → Outcome (List ℕ)
+deepInverse text tree = do t ← checked text tree; t′ ← invDeep t; result (pack t′)
+
+abbrev pub invDeepEntry : List ℕ → List ℕ → List ℕ → Lent ℕ
+invDeepEntry text tree buffer = lend (deepInverse text tree) buffer
+
+-- Printing.
+abbrev pub display : List ℕ → List ℕ → Outcome (List ℕ)
+display text tree = do t ← checked text tree; result (printed text t)
+
+abbrev pub displayEntry : List ℕ → List ℕ → List ℕ → Lent ℕ
+displayEntry text tree buffer = lend (display text tree) buffer
+
+-- Unrolling, counting and seeking: refusals 7 or 8, then 9, then 10.
+abbrev pub MAX-STEPS : ℕ
+MAX-STEPS = 4294967295
+
+unfoldable pub steps : List ℕ → List ℕ → Outcome (List Leaf)
+steps text tree = do
+  t ← checked text tree
+  l ← flatten t
+  unless TOO-MANY-STEPS (leb (length l) MAX-STEPS)
+  result l
+
+unfoldable pub records : List Leaf → List ℕ
+records [] = []
+records (x ∷ l) = leafRecord x ++ records l
+
+abbrev pub unrolled : List ℕ → List ℕ → Outcome (List ℕ)
+unrolled text tree = do l ← steps text tree; result (records l)
+
+abbrev pub flattenEntry : List ℕ → List ℕ → List ℕ → Lent ℕ
+flattenEntry text tree buffer = lend (unrolled text tree) buffer
+
+abbrev pub countSteps : List ℕ → List ℕ → Outcome ℕ
+countSteps text tree = do l ← steps text tree; result (length l)
+
+abbrev pub stepAt : List ℕ → List ℕ → ℕ → Outcome (List ℕ)
+stepAt text tree k = do
+  l ← steps text tree
+  x ← orRefuse NO-SUCH-PLACE (getElem? l k)
+  result (leafRecord x)
+
+abbrev pub seekStep : List ℕ → List ℕ → ℕ → List ℕ → Lent ℕ
+seekStep text tree k buffer = lend (stepAt text tree k) buffer
+
+-- Layer ranges and families. A record is named by its number in the tree.
+abbrev pub recordAt : List ℕ → ℕ → Outcome Head
+recordAt tree k = do
+  unless NO-SUCH-RECORD (ltb k (length tree / RECORD))
+  result (headAt (drop (RECORD * k) tree))
+
+abbrev pub layersOf : Head → Outcome (Layers Span)
+layersOf (leafHead (move t l f c m)) = result l
+layersOf (leafHead (rotation f c m)) = refusal NO-SUCH-RECORD
+layersOf (leafHead pause) = refusal NO-SUCH-RECORD
+layersOf (leafHead (pair u d)) = refusal NO-SUCH-RECORD
+layersOf (leafHead slash) = refusal NO-SUCH-RECORD
+layersOf (leafHead (megaminx k)) = refusal NO-SUCH-RECORD
+layersOf (groupHead k n m) = refusal NO-SUCH-RECORD
+layersOf (binaryHead k n n′ m) = refusal NO-SUCH-RECORD
+
+-- no contents: layer 1; the tilde changes nothing
+abbrev pub rangesIn : List ℕ → ℕ → Bool → Layers Span → List Range
+rangesIn text n neg noLayers = keep (clampToLayerCount n (record { low = 1; high = 1 })) []
+rangesIn text n neg (singleLayer i) = keep (clampToLayerCount n (record { low = i; high = i })) []
+rangesIn text n neg (layerRange i j) = keep (clampToLayerCount n (record { low = i; high = j })) []
+rangesIn text n neg (layerSet p) = setRanges n neg (orEmpty (layerSetIn (partOf text p)))
+
+-- refusals 1, 2, 6, 11, 12
+unfoldable pub layerRanges : List ℕ → List ℕ → ℕ → ℕ → Bool → Outcome (List Range)
+layerRanges text tree k n neg = do
+  checked text tree
+  unless NO-SUCH-LAYER-COUNT (between 1 MAX-LAYER n)
+  h ← recordAt tree k
+  l ← layersOf h
+  result (simplified (rangesIn text n neg l))
+
+abbrev pub simplify : List ℕ → List ℕ → ℕ → ℕ → Bool → List Range → Lent Range
+simplify text tree k n neg buffer = lend (layerRanges text tree k n neg) buffer
+
+-- the same in bytes: each range as low and high, 16 bits big-endian; the answer counts ranges
+unfoldable pub rangeBytes : List Range → List ℕ
+rangeBytes [] = []
+rangeBytes (r ∷ l) = bigEndian 2 (r .low) ++ bigEndian 2 (r .high) ++ rangeBytes l
+
+abbrev pub lendRanges : Outcome (List Range) → List ℕ → Lent ℕ
+lendRanges (refusal r) buffer = kept r buffer
+lendRanges (result l) buffer =
+    pick (leb (4 * length l) (length buffer))
+    (record { answer = result (length l); buffer = rangeBytes l ++ drop (4 * length l) buffer })
+    (kept NO-ROOM buffer)
+
+abbrev pub simplifyBytes : List ℕ → List ℕ → ℕ → ℕ → Bool → List ℕ → Lent ℕ
+simplifyBytes text tree k n neg buffer = lendRanges (layerRanges text tree k n neg) buffer
+
+abbrev pub familyOf : Head → Outcome Span
+familyOf (leafHead (move t l f c m)) = result f
+familyOf (leafHead (rotation f c m)) = result f
+familyOf (leafHead pause) = refusal NO-SUCH-RECORD
+familyOf (leafHead (pair u d)) = refusal NO-SUCH-RECORD
+familyOf (leafHead slash) = refusal NO-SUCH-RECORD
+familyOf (leafHead (megaminx k)) = refusal NO-SUCH-RECORD
+familyOf (groupHead k n m) = refusal NO-SUCH-RECORD
+familyOf (binaryHead k n n′ m) = refusal NO-SUCH-RECORD
+
+-- refusals 1, 2, 6, 12
+unfoldable pub familySpan : List ℕ → List ℕ → ℕ → Outcome Span
+familySpan text tree k = do
+  checked text tree
+  h ← recordAt tree k
+  familyOf h
+
+-- the very part of the text, empty where refused; beside it the refusal
+abbrev pub partIn : List ℕ → Outcome Span → List ℕ
+partIn text (refusal r) = []
+partIn text (result p) = partOf text p
+
+abbrev pub family : List ℕ → List ℕ → ℕ → List ℕ
+family text tree k = partIn text (familySpan text tree k)
+
+abbrev pub familyRefusal : List ℕ → List ℕ → ℕ → ℕ
+familyRefusal text tree k = refusalNumber (familySpan text tree k)

@@ -1,0 +1,117 @@
+-- Layer ranges (layer/ and `LayerPrefixContents::simplify`). A layer is a number from 1, the shallowest, to 32,767.
+use Prim.Native.Nat.{ℕ, suc, _+_, _-_, min, max}
+use mathlib.Core.Bool.{Bool, true, false, _&&_, _||_}
+use mathlib.Core.List.{List, [], _∷_}
+use mathlib.Core.Option.{Option, none, some}
+use lib.Dec.{leb, ltb, eqb}
+use lib.IntN.{ℤ, pos, negsuc}
+use Rattle.notation.specs.Basics.{pick, choose}
+
+-- from `low` to `high`, both included; `low` is not above `high`
+pub record Range : Type 0 where
+  pub low : ℕ
+  pub high : ℕ
+
+abbrev pub MAX-LAYER : ℕ
+MAX-LAYER = 32767
+
+-- an element of a layer set
+pub data LayerSetElement : Type 0 where
+  single : ℤ → LayerSetElement
+  range : ℤ → ℤ → LayerSetElement
+
+abbrev pub rangeOf : ℕ → ℕ → Range
+rangeOf a b = record { low = min a b; high = max a b }
+
+-- −i is `max_layer` + 1 − i if negatives are allowed; out of range gives none
+abbrev pub resolve : ℕ → Bool → ℤ → Option ℕ
+resolve n neg (pos i) = pick (leb i n) (some i) none
+resolve n neg (negsuc i) = pick (leb (suc i) n && neg) (some (n - i)) none
+
+-- an end of a range in a set, before it is brought inside
+pub data UnclampedLayer : Type 0 where
+  beyondShallowest : UnclampedLayer
+  concrete : ℕ → UnclampedLayer
+  beyondDeepest : UnclampedLayer
+  invalid : UnclampedLayer
+
+abbrev pub unclamped : Option ℕ → UnclampedLayer → UnclampedLayer
+unclamped (some i) other = concrete i
+unclamped none other = other
+
+abbrev pub resolveUnclamped : ℕ → Bool → ℤ → UnclampedLayer
+resolveUnclamped n neg (pos i) = unclamped (resolve n neg (pos i)) beyondDeepest
+resolveUnclamped n neg (negsuc i) = unclamped (resolve n neg (negsuc i)) (pick neg beyondShallowest invalid)
+
+-- both ends beyond the same side, or an invalid end, gives none
+abbrev pub clampRange : ℕ → UnclampedLayer → UnclampedLayer → Option Range
+clampRange n invalid b = none
+clampRange n beyondShallowest invalid = none
+clampRange n beyondShallowest beyondShallowest = none
+clampRange n beyondShallowest (concrete b) = some (rangeOf 1 b)
+clampRange n beyondShallowest beyondDeepest = some (rangeOf 1 n)
+clampRange n (concrete a) invalid = none
+clampRange n (concrete a) beyondShallowest = some (rangeOf a 1)
+clampRange n (concrete a) (concrete b) = some (rangeOf a b)
+clampRange n (concrete a) beyondDeepest = some (rangeOf a n)
+clampRange n beyondDeepest invalid = none
+clampRange n beyondDeepest beyondShallowest = some (rangeOf n 1)
+clampRange n beyondDeepest (concrete b) = some (rangeOf n b)
+clampRange n beyondDeepest beyondDeepest = none
+
+abbrev pub resolveRange : ℕ → Bool → ℤ → ℤ → Option Range
+resolveRange n neg i j = clampRange n (resolveUnclamped n neg i) (resolveUnclamped n neg j)
+
+-- a range's low end above `max_layer` gives nothing, a high end above it becomes `max_layer`
+abbrev pub clampToLayerCount : ℕ → Range → Option Range
+clampToLayerCount n r = pick (leb (r .low) n) (some (record { low = r .low; high = min (r .high) n })) none
+
+abbrev pub alone : Option ℕ → Option Range
+alone none = none
+alone (some i) = some (record { low = i; high = i })
+
+abbrev pub elementRange : ℕ → Bool → LayerSetElement → Option Range
+elementRange n neg (single i) = alone (resolve n neg i)
+elementRange n neg (range i j) = resolveRange n neg i j
+
+abbrev pub keep : {A : Type 0} → Option A → List A → List A
+keep none l = l
+keep (some a) l = a ∷ l
+
+unfoldable pub setRanges : ℕ → Bool → List LayerSetElement → List Range
+setRanges n neg [] = []
+setRanges n neg (e ∷ es) = keep (elementRange n neg e) (setRanges n neg es)
+
+-- sort: by low end, then by high end
+abbrev pub before : Range → Range → Bool
+before a b = ltb (a .low) (b .low) || eqb (a .low) (b .low) && leb (a .high) (b .high)
+
+unfoldable pub insert : Range → List Range → List Range
+insert a [] = a ∷ []
+insert a (b ∷ l) = pick (before a b) (a ∷ b ∷ l) (b ∷ insert a l)
+
+unfoldable pub sort : List Range → List Range
+sort [] = []
+sort (a ∷ l) = insert a (sort l)
+
+-- join: overlapping or touching neighbours become one
+abbrev pub touching : Range → Range → Bool
+touching a b = leb (max (a .low) (b .low)) (min (a .high) (b .high) + 1)
+
+abbrev pub joined : Range → Range → Range
+joined a b = record { low = min (a .low) (b .low); high = max (a .high) (b .high) }
+
+-- `LayerRange::union`
+abbrev pub union : Range → Range → Option Range
+union a b = pick (touching a b) (some (joined a b)) none
+
+unfoldable pub joinFrom : Range → List Range → List Range
+joinFrom a [] = a ∷ []
+joinFrom a (b ∷ l) = choose (touching a b) (λ _. joinFrom (joined a b) l) (λ _. a ∷ joinFrom b l)
+
+unfoldable pub join : List Range → List Range
+join [] = []
+join (a ∷ l) = joinFrom a l
+
+abbrev pub simplified : List Range → List Range
+simplified l = join (sort l)

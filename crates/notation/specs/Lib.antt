@@ -1,0 +1,19 @@
+-- Every rule of document 01, in its order. Nothing else in the repository has to be believed.
+pub mod Basics
+pub mod Features
+pub mod Chars
+pub mod Utf8
+pub mod Numbers
+pub mod Layers
+pub mod Tree
+pub mod Packed
+pub mod Grammar
+pub mod Meaning
+pub mod WellFormed
+pub mod Refusals
+pub mod Invert
+pub mod Print
+pub mod Unroll
+pub mod Entries
+pub mod Demands
+pub mod Marked

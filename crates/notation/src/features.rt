@@ -1,0 +1,81 @@
+// Which parts of the notation a reader admits: `Features` and `LayerFeatures` of the Rust's lib.rs.
+ghost use mathlib.Core.Path.{_≡_};
+ghost use Rattle.notation.specs.Features as rule;
+
+// Features of layer prefixes.
+pub struct LayerFeatures {
+    // `~` before a layer prefix.
+    pub inverted_layers: bool,
+    // Layer sets, as `{1..3, 5}R`.
+    pub layer_sets: bool,
+    // `i-j` in a layer set, as `{1-3, 5}R`; of no effect without `layer_sets`.
+    pub hsc1_layer_ranges: bool,
+}
+
+pub struct Features {
+    pub layers: LayerFeatures,
+    // Rotations written with `@`.
+    pub generalized_rotations: bool,
+    // Constraints, as `U{R->F, I->P}`.
+    pub transform_constraints: bool,
+    // `R++`, `R--`, `D++`, `D--`.
+    pub megaminx: bool,
+    // `/` and `(u,d)`.
+    pub sq1: bool,
+}
+
+impl LayerFeatures {
+    pub const SIMPLE: LayerFeatures = LayerFeatures {
+        inverted_layers: false,
+        layer_sets: false,
+        hsc1_layer_ranges: false,
+    };
+    pub const HYPERCUBING: LayerFeatures = LayerFeatures {
+        inverted_layers: true,
+        layer_sets: true,
+        hsc1_layer_ranges: true,
+    };
+}
+
+impl Features {
+    pub const MINIMAL: Features = Features {
+        layers: LayerFeatures::SIMPLE,
+        generalized_rotations: false,
+        transform_constraints: false,
+        megaminx: false,
+        sq1: false,
+    };
+    pub const WCA: Features = Features {
+        layers: LayerFeatures::SIMPLE,
+        generalized_rotations: false,
+        transform_constraints: false,
+        megaminx: true,
+        sq1: true,
+    };
+    pub const MAXIMAL: Features = Features {
+        layers: LayerFeatures::HYPERCUBING,
+        generalized_rotations: true,
+        transform_constraints: true,
+        megaminx: true,
+        sq1: true,
+    };
+}
+
+// The named settings as values, each tied to its rule: an associated constant has no contract of its own.
+pub fn minimal() -> Features
+    ensures { λ r. ⌜ r ≡ rule.MINIMAL ⌝ }
+{
+    Features::MINIMAL
+}
+
+pub fn wca() -> Features
+    ensures { λ r. ⌜ r ≡ rule.WCA ⌝ }
+{
+    Features::WCA
+}
+
+pub fn maximal() -> Features
+    ensures { λ r. ⌜ r ≡ rule.MAXIMAL ⌝ }
+{
+    Features::MAXIMAL
+}

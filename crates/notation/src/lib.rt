@@ -1,0 +1,7 @@
+// What every other crate speaks of: the feature settings of the Rust's lib.rs, the small types of its
+// common.rs, unspanned.rs and charsets.rs, and in specs/ every rule of document 01.
+
+pub mod answer;
+pub mod charsets;
+pub mod common;
+pub mod features;
