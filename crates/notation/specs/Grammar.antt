@@ -12,7 +12,7 @@ use lib.ListN.{length, take, drop}
 use Rattle.notation.specs.Basics.{pick, between}
 use Rattle.notation.specs.Chars.{isFamilyChar, whiteSpace}
 use Rattle.notation.specs.Utf8.{run}
-use Rattle.notation.specs.Numbers.{isDigit, decimal}
+use Rattle.notation.specs.Numbers.{digitRun, decimal}
 use Rattle.notation.specs.Layers.{LayerSetElement, MAX-LAYER}
 use Rattle.notation.specs.Layers as Layers
 use Rattle.notation.specs.Tree.{
@@ -98,7 +98,7 @@ spanned p at s = andThen (p at s) (λ a at′. done (span at (at′ - at)) at′
 -- Numbers: at least one digit, leading zeros pass, out of bounds is no number.
 unfoldable pub uint : (low high : ℕ) → Reader ℕ
 uint low high at s =
-    let n = run isDigit s in
+    let n = digitRun s in
     let value = decimal 0 (take n s) in
     pick (ltb 0 n && between low high value) (read value (at + n) (drop n s)) rejected
 

@@ -4,7 +4,7 @@ use mathlib.Core.Bool.{Bool}
 use mathlib.Core.List.{List, [], _∷_}
 use lib.Dec.{ltb}
 use lib.IntN.{ℤ, pos, negsuc}
-use Rattle.notation.specs.Basics.{pick, between}
+use Rattle.notation.specs.Basics.{pick, choose, between}
 
 -- the number that the digits write after those that gave n, most significant digit first
 unfoldable pub positional : ℕ → ℕ → List ℕ → ℕ
@@ -36,13 +36,17 @@ abbrev pub fitsBits : ℕ → ℤ → Bool
 fitsBits w (pos n) = ltb n (2 ^ (w - 1))
 fitsBits w (negsuc n) = ltb n (2 ^ (w - 1))
 
--- decimal digits, as characters
+-- decimal digits as bytes: how many stand at the start, and the number that they write after those that gave n
 abbrev pub isDigit : ℕ → Bool
-isDigit c = between 48 57 c
+isDigit b = between 48 57 b
 
-abbrev pub decimal : ℕ → List ℕ → ℕ
+unfoldable pub digitRun : List ℕ → ℕ
+digitRun [] = 0
+digitRun (b ∷ s) = choose (isDigit b) (λ _. suc (digitRun s)) (λ _. 0)
+
+unfoldable pub decimal : ℕ → List ℕ → ℕ
 decimal n [] = n
-decimal n (c ∷ cs) = decimal (n * 10 + (c - 48)) cs
+decimal n (b ∷ s) = decimal (n * 10 + (b - 48)) s
 
 -- n in decimal without leading zeros, in front of what follows; k is more than enough digits
 unfoldable pub showFrom : ℕ → ℕ → List ℕ → List ℕ

@@ -3,9 +3,9 @@ use Prim.Native.Nat.{ℕ}
 use mathlib.Core.Path.{_≡_, refl}
 use mathlib.Core.Bool.{true, false}
 use mathlib.Core.List.{List, [], _∷_, map}
-use Rattle.notation.specs.Chars.{classify, classNumber, whiteSpace, isGreekLetter, isLatinLetter}
-use Rattle.notation.specs.Utf8.{charWidth, codePoint, utf8, run}
-use Rattle.notation.specs.Numbers.{isDigit, fromBits, toBits, bigEndian, show}
+use Rattle.notation.specs.Chars.{classify, classNumber, whiteSpace}
+use Rattle.notation.specs.Utf8.{charWidth, codePoint}
+use Rattle.notation.specs.Numbers.{digitRun, bigEndian, show}
 use Rattle.notation.proofs.Opened.{opened}
 use Rattle.notation.proofs.Examples.Text.{bytes}
 
@@ -41,6 +41,6 @@ points : map codePoint
 unfolding opened
 points = refl
 
-numbers : (show 0 [] ≡ bytes "0") × (show 4294967295 [] ≡ bytes "4294967295") × (bigEndian 4 258 ≡ 0 ∷ 0 ∷ 1 ∷ 2 ∷ []) × (run isDigit (bytes "007R") ≡ 3)
+numbers : (show 0 [] ≡ bytes "0") × (show 4294967295 [] ≡ bytes "4294967295") × (bigEndian 4 258 ≡ 0 ∷ 0 ∷ 1 ∷ 2 ∷ []) × (digitRun (bytes "007R") ≡ 3)
 unfolding opened bytes
 numbers = (refl, refl, refl, refl)

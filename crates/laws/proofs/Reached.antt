@@ -1,0 +1,250 @@
+-- Which trees unroll in both directions: those in which no NISS group and no pair with −2147483648 is reached.
+-- Assumes nothing.
+use Prim.Native.Nat.{ℕ, zero, suc}
+use mathlib.Core.Path.{_≡_, refl, sym, ap, _∙_}
+use mathlib.Core.Bool.{Bool, true, false, not, _&&_}
+use mathlib.Core.List.{List, [], _∷_, _++_}
+use mathlib.Core.Option.{Option, none, some}
+use native.Mathlib.Omega.{arith}
+use lib.IntN.{ℤ, natAbs, negℤ}
+use Rattle.notation.specs.Basics.{pick, every}
+use Rattle.notation.specs.Refusals.{Outcome, refusal, result, NISS, OVERFLOW}
+use Rattle.notation.specs.Tree.{Leaf, Node, leaf, block, Body, group, binaryGroup, nil, cons, append, Tree}
+use Rattle.notation.specs.Invert.{overflows, inv}
+use Rattle.notation.specs.Unroll.{copies, turned, isNiss, flatten, flattenNodes}
+use Rattle.notation.specs.declared.common.BinaryGroupKind.{BinaryGroupKind}
+use Rattle.notation.specs.declared.common.BinaryGroupKind.the-variants.{Commutator, Conjugate}
+use Rattle.laws.proofs.Unrolling.{
+  backwards, verdict, first, ifReached, firstInOrder, inOrder, flatBinary, refusalBinary, flatNode, flatBody, flat, flatten-is,
+  refusalNode, refusalBody, firstRefusal
+}
+use Rattle.laws.proofs.Inverses.{inverted, invertedNode, invRefusal, invRefusalNode, inv-is, flat-inverted, inverse-unrolls}
+
+-- a step that can be undone
+abbrev pub negatable : Leaf → Bool
+negatable x = not (overflows x)
+
+abbrev pub allIfReached : ℕ → Bool → Bool
+allIfReached zero b = true
+allIfReached (suc n) b = b
+
+unfoldable mutual
+  pub cleanNode : Node Leaf → Bool
+  cleanNode (leaf x) = negatable x
+  cleanNode (block b m) = not (isNiss b) && allIfReached (natAbs m) (cleanBody b)
+
+  pub cleanBody : Body Leaf → Bool
+  cleanBody (group k a) = clean a
+  cleanBody (binaryGroup k a b) = clean a && clean b
+
+  pub clean : Tree → Bool
+  clean nil = true
+  clean (cons n l) = cleanNode n && clean l
+
+-- Small facts of tests and options.
+pub and-left : (a b : Bool) → (a && b) ≡ true → a ≡ true
+and-left true b e = refl
+and-left false b e = e
+
+pub and-right : (a b : Bool) → (a && b) ≡ true → b ≡ true
+and-right true b e = e
+and-right false b e = absurd (let z : _≡_ {A = Bool} false true = e in let n : _≡_ {A = ℕ} 0 1 = cc in omega arith)
+
+pub and-both : (a b : Bool) → a ≡ true → b ≡ true → (a && b) ≡ true
+and-both a b p q = rw (p, q)
+
+pub not-true : (b : Bool) → not b ≡ true → b ≡ false
+not-true true e = sym e
+not-true false e = refl
+
+pub no-some : {A : Type 0} {a : A} {B : Type 0} → _≡_ {A = Option A} (some a) none → B
+no-some e = absurd (let n : _≡_ {A = ℕ} 0 1 = cc in omega arith)
+
+pub first-left : (r q : Option ℕ) → first r q ≡ none → r ≡ none
+first-left none q e = refl
+first-left (some r) q e = e
+
+pub first-right : (r q : Option ℕ) → first r q ≡ none → q ≡ none
+first-right none q e = e
+first-right (some r) q e = no-some e
+
+pub first-both : (r q : Option ℕ) → r ≡ none → q ≡ none → first r q ≡ none
+first-both r q e h = rw (e, h)
+
+order-both : (d : Bool) (r q : Option ℕ) → r ≡ none → q ≡ none → firstInOrder d r q ≡ none
+order-both true r q e h = first-both q r h e
+order-both false r q e h = first-both r q e h
+
+order-left : (d : Bool) (r q : Option ℕ) → firstInOrder d r q ≡ none → r ≡ none
+order-left true r q e = first-right q r e
+order-left false r q e = first-left r q e
+
+order-right : (d : Bool) (r q : Option ℕ) → firstInOrder d r q ≡ none → q ≡ none
+order-right true r q e = first-left q r e
+order-right false r q e = first-right r q e
+
+binary-both : (k : BinaryGroupKind) (d : Bool) (a b : Bool → Option ℕ) → ((e : Bool) → a e ≡ none) → ((e : Bool) → b e ≡ none) →
+    refusalBinary k d a b ≡ none
+binary-both Commutator false a b p q = rw (p false, q false, p true, q true)
+binary-both Commutator true a b p q = rw (p false, q false, p true, q true)
+binary-both Conjugate d a b p q = rw (p false, q d, p true)
+
+if-reached : (n : ℕ) (b : Bool) (q : Option ℕ) → allIfReached n b ≡ true → (b ≡ true → q ≡ none) → ifReached n q ≡ none
+if-reached zero b q e h = refl
+if-reached (suc n) b q e h = h e
+
+niss-or : (t : Bool) (q : Option ℕ) → t ≡ false → q ≡ none → pick t (some NISS) q ≡ none
+niss-or t q e h = rw (e, h)
+
+overflow-or : (d t : Bool) → t ≡ false → pick (d && t) (some OVERFLOW) none ≡ none
+overflow-or true t e = rw e
+overflow-or false t e = refl
+
+-- A clean tree meets no refusal, in either direction.
+mutual
+  unfolding cleanNode cleanBody clean refusalNode refusalBody firstRefusal
+  pub clean-node : (n : Node Leaf) (d : Bool) → cleanNode n ≡ true → refusalNode d n ≡ none
+  clean-node (leaf x) d e = overflow-or d (overflows x) (not-true (overflows x) e)
+  clean-node (block b m) d e =
+      niss-or (isNiss b) _ (not-true (isNiss b) (and-left _ _ e))
+      (if-reached (natAbs m) (cleanBody b) _ (and-right (not (isNiss b)) _ e) (λ h. clean-body b (turned m d) h))
+
+  pub clean-body : (b : Body Leaf) (d : Bool) → cleanBody b ≡ true → refusalBody d b ≡ none
+  clean-body (group k a) d e = clean-walks a d e
+  clean-body (binaryGroup k a b) d e =
+      binary-both k d (λ c. firstRefusal c a) (λ c. firstRefusal c b)
+      (λ c. clean-walks a c (and-left _ _ e)) (λ c. clean-walks b c (and-right (clean a) _ e))
+
+  pub clean-walks : (t : Tree) (d : Bool) → clean t ≡ true → firstRefusal d t ≡ none
+  clean-walks nil d e = refl
+  clean-walks (cons n l) d e =
+      order-both d (refusalNode d n) (firstRefusal d l) (clean-node n d (and-left _ _ e)) (clean-walks l d (and-right (cleanNode n) _ e))
+
+-- A tree that unrolls in one direction, to steps that can all be undone, is clean.
+every-left : {A : Type 0} (p : A → Bool) (a b : List A) → every p (a ++ b) ≡ true → every p a ≡ true
+unfolding every
+every-left p [] b e = refl
+every-left p (x ∷ a) b e = and-both (p x) _ (and-left _ _ e) (every-left p a b (and-right (p x) _ e))
+
+every-right : {A : Type 0} (p : A → Bool) (a b : List A) → every p (a ++ b) ≡ true → every p b ≡ true
+unfolding every
+every-right p [] b e = e
+every-right p (x ∷ a) b e = every-right p a b (and-right (p x) _ e)
+
+order-every-left : (d : Bool) (a b : List Leaf) → every negatable (inOrder d a b) ≡ true → every negatable a ≡ true
+order-every-left true a b e = every-right negatable b a e
+order-every-left false a b e = every-left negatable a b e
+
+order-every-right : (d : Bool) (a b : List Leaf) → every negatable (inOrder d a b) ≡ true → every negatable b ≡ true
+order-every-right true a b e = every-left negatable b a e
+order-every-right false a b e = every-right negatable a b e
+
+leaf-clean : (x : Leaf) (d : Bool) → refusalNode d (leaf x) ≡ none → every negatable (flatNode d (leaf x)) ≡ true → negatable x ≡ true
+unfolding refusalNode flatNode every
+leaf-clean x true r e = go (overflows x) r
+  where
+    go : (t : Bool) → pick t (some OVERFLOW) none ≡ none → not t ≡ true
+    go true h = no-some h
+    go false h = refl
+leaf-clean x false r e = and-left _ _ e
+
+niss-clean : (t : Bool) (q : Option ℕ) → pick t (some NISS) q ≡ none → (not t ≡ true) × (q ≡ none)
+niss-clean true q e = no-some e
+niss-clean false q e = (refl, e)
+
+reached-clean : (n : ℕ) (q : Option ℕ) (l : List Leaf) (b : Bool) → ifReached n q ≡ none → every negatable (copies n l) ≡ true →
+    (q ≡ none → every negatable l ≡ true → b ≡ true) → allIfReached n b ≡ true
+unfolding copies
+reached-clean zero q l b r e h = refl
+reached-clean (suc n) q l b r e h = h r (every-left negatable l (copies n l) e)
+
+binary-clean : (k : BinaryGroupKind) (d : Bool) (a b : Bool → Option ℕ) (la lb : Bool → List Leaf) (x y : Bool) →
+    refusalBinary k d a b ≡ none → every negatable (flatBinary k d la lb) ≡ true →
+    ((e : Bool) → a e ≡ none → every negatable (la e) ≡ true → x ≡ true) →
+    ((e : Bool) → b e ≡ none → every negatable (lb e) ≡ true → y ≡ true) → (x && y) ≡ true
+binary-clean Commutator false a b la lb x y r e p q =
+    and-both x y (p false (first-left _ _ r) (every-left negatable (la false) _ e))
+    (q false (first-left _ _ (first-right (a false) _ r)) (every-left negatable (lb false) _ (every-right negatable (la false) _ e)))
+binary-clean Commutator true a b la lb x y r e p q =
+    and-both x y (p false (first-left _ _ (first-right (b false) _ r)) (every-left negatable (la false) _ (every-right negatable (lb false) _ e)))
+    (q false (first-left _ _ r) (every-left negatable (lb false) _ e))
+binary-clean Conjugate d a b la lb x y r e p q =
+    and-both x y (p false (first-left _ _ r) (every-left negatable (la false) _ e))
+    (q d (first-left _ _ (first-right (a false) _ r)) (every-left negatable (lb d) _ (every-right negatable (la false) _ e)))
+
+mutual
+  unfolding cleanNode cleanBody clean refusalNode refusalBody firstRefusal flatNode flatBody flat
+  node-clean : (n : Node Leaf) (d : Bool) → refusalNode d n ≡ none → every negatable (flatNode d n) ≡ true → cleanNode n ≡ true
+  node-clean (leaf x) d r e = leaf-clean x d r e
+  node-clean (block b m) d r e =
+      and-both (not (isNiss b)) _ (niss-clean (isNiss b) _ r .0)
+      (reached-clean (natAbs m) (refusalBody (turned m d) b) (flatBody (turned m d) b) (cleanBody b) (niss-clean (isNiss b) _ r .1) e
+      (λ q h. body-clean b (turned m d) q h))
+
+  body-clean : (b : Body Leaf) (d : Bool) → refusalBody d b ≡ none → every negatable (flatBody d b) ≡ true → cleanBody b ≡ true
+  body-clean (group k a) d r e = walks-clean a d r e
+  body-clean (binaryGroup k a b) d r e =
+      binary-clean k d (λ c. firstRefusal c a) (λ c. firstRefusal c b) (λ c. flat c a) (λ c. flat c b) (clean a) (clean b) r e
+      (λ c q h. walks-clean a c q h) (λ c q h. walks-clean b c q h)
+
+  pub walks-clean : (t : Tree) (d : Bool) → firstRefusal d t ≡ none → every negatable (flat d t) ≡ true → clean t ≡ true
+  walks-clean nil d r e = refl
+  walks-clean (cons n l) d r e =
+      and-both (cleanNode n) _ (node-clean n d (order-left d _ _ r) (order-every-left d (flatNode d n) (flat d l) e))
+      (walks-clean l d (order-right d (refusalNode d n) _ r) (order-every-right d (flatNode d n) (flat d l) e))
+
+-- The shallow inverse of a clean tree is accepted and unrolls.
+pub clean-inverts : (t : Tree) → clean t ≡ true → invRefusal t ≡ none
+unfolding clean cleanNode invRefusal
+clean-inverts nil e = refl
+clean-inverts (cons (leaf x) l) e =
+    first-both (invRefusal l) _ (clean-inverts l (and-right (negatable x) _ e))
+    (overflow-or true (overflows x) (not-true (overflows x) (and-left _ _ e)))
+clean-inverts (cons (block b m) l) e =
+    first-both (invRefusal l) _ (clean-inverts l (and-right (cleanNode (block b m)) _ e)) refl
+
+refusal-append : (a b : Tree) → firstRefusal false a ≡ none → firstRefusal false b ≡ none → firstRefusal false (append a b) ≡ none
+unfolding firstRefusal append
+refusal-append nil b p q = q
+refusal-append (cons n a) b p q = first-both (refusalNode false n) _ (first-left _ _ p) (refusal-append a b (first-right (refusalNode false n) _ p) q)
+
+natAbs-neg : (m : ℤ) → natAbs (negℤ m) ≡ natAbs m
+natAbs-neg (ℤ.pos zero) = refl
+natAbs-neg (ℤ.pos (suc n)) = refl
+natAbs-neg (ℤ.negsuc n) = refl
+
+node-inverted-walks : (n : Node Leaf) → cleanNode n ≡ true → refusalNode false (invertedNode n) ≡ none
+unfolding refusalNode cleanNode
+node-inverted-walks (leaf x) e = refl
+node-inverted-walks (block b m) e =
+    niss-or (isNiss b) _ (not-true (isNiss b) (and-left _ _ e))
+    (if-reached (natAbs (negℤ m)) (cleanBody b) _ (rw (natAbs-neg m) (and-right (not (isNiss b)) _ e)) (λ h. clean-body b (turned (negℤ m) false) h))
+
+pub inverted-walks : (t : Tree) → clean t ≡ true → firstRefusal false (inverted t) ≡ none
+unfolding clean inverted firstRefusal
+inverted-walks nil e = refl
+inverted-walks (cons n l) e =
+    refusal-append (inverted l) (cons (invertedNode n) nil) (inverted-walks l (and-right (cleanNode n) _ e))
+    (first-both (refusalNode false (invertedNode n)) none (node-inverted-walks n (and-left _ _ e)) refl)
+
+-- From an unrolled list, all of whose steps can be undone, to the inverse's unrolled list.
+verdict-list : {A : Type 0} (r : Option ℕ) (l m : A) → verdict r l ≡ result m → (r ≡ none) × (l ≡ m)
+verdict-list none l m e = (refl, cc)
+verdict-list (some r) l m e = absurd (let n : _≡_ {A = ℕ} 0 1 = cc in omega arith)
+
+pub unrolled-list : (t : Tree) (list : List Leaf) → flatten t ≡ result list → (firstRefusal false t ≡ none) × (flat false t ≡ list)
+unrolled-list t list e = verdict-list (firstRefusal false t) (flat false t) list (sym (flatten-is t false) ∙ e)
+
+pub unrollable-clean : (t : Tree) (list : List Leaf) → flatten t ≡ result list → every negatable list ≡ true → clean t ≡ true
+unrollable-clean t list e h =
+    walks-clean t false (unrolled-list t list e .0) (ap (every negatable) (unrolled-list t list e .1) ∙ h)
+
+pub inverse-accepted : (t : Tree) → clean t ≡ true → inv t ≡ result (inverted t)
+inverse-accepted t e = inv-is t ∙ ap (λ (r : Option ℕ). verdict r (inverted t)) (clean-inverts t e)
+
+pub inverse-flattens : (t : Tree) (list : List Leaf) → flatten t ≡ result list → every negatable list ≡ true →
+    flatten (inverted t) ≡ result (backwards list)
+inverse-flattens t list e h =
+    flatten-is (inverted t) false
+    ∙ ap (λ (r : Option ℕ). verdict r (flat false (inverted t))) (inverted-walks t (unrollable-clean t list e h))
+    ∙ ap result (inverse-unrolls t ∙ ap backwards (unrolled-list t list e .1))

@@ -1,0 +1,229 @@
+-- Unrolling and direction: the walk with refusals is one equation with a walk without, and the other direction gives the
+-- reversed list of undone steps. Assumes nothing.
+use Prim.Native.Nat.{ℕ, zero, suc, _+_, _*_}
+use mathlib.Core.Path.{_≡_, refl, sym, ap, _∙_, fun-ext}
+use mathlib.Core.Bool.{Bool, true, false, not, _&&_}
+use mathlib.Core.List.{List, [], _∷_, _++_, map, reverse, append-assoc, append-nil, reverse-append, reverse-cons, map-append}
+use mathlib.Core.Option.{Option, none, some}
+use lib.IntN.{ℤ, pos, negsuc, negℤ, natAbs, negℤ-negℤ}
+use Rattle.notation.specs.Basics.{pick}
+use Rattle.notation.specs.Refusals.{Outcome, refusal, result, _>>=_, NISS, OVERFLOW}
+use Rattle.notation.specs.Tree.{LeafOf, rotation, move, pause, pair, slash, megaminx, Leaf, Node, leaf, block, Body, group, binaryGroup, NodeList, nil, cons, Tree}
+use Rattle.notation.specs.Invert.{undo, undone, overflows, exchanged}
+use Rattle.notation.specs.Unroll.{Steps, _then_, copies, repeated, turned, flattenBinary, isNiss, inDirection, flattenLeaf, flattenNode, flattenBody, flattenNodes}
+use Rattle.notation.specs.declared.common.BinaryGroupKind.{BinaryGroupKind}
+use Rattle.notation.specs.declared.common.BinaryGroupKind.the-variants.{Commutator, Conjugate}
+use Rattle.notation.specs.declared.common.MegaminxScrambleMove.{MegaminxScrambleMove}
+use Rattle.notation.specs.declared.common.MegaminxScrambleMove.the-variants.{Rpp, Rmm, Dpp, Dmm}
+
+-- undoing twice gives the step back
+exchanged-twice : (k : MegaminxScrambleMove) → exchanged (exchanged k) ≡ k
+exchanged-twice Rpp = refl
+exchanged-twice Rmm = refl
+exchanged-twice Dpp = refl
+exchanged-twice Dmm = refl
+
+pub undo-undo : {F C S : Type 0} (x : LeafOf F C S) → undo (undo x) ≡ x
+undo-undo (rotation f c m) = ap (rotation f c) (negℤ-negℤ m)
+undo-undo (move t l f c m) = ap (move t l f c) (negℤ-negℤ m)
+undo-undo pause = refl
+undo-undo (pair u d) = λ i. pair (negℤ-negℤ u i) (negℤ-negℤ d i)
+undo-undo slash = refl
+undo-undo (megaminx k) = ap megaminx (exchanged-twice k)
+
+-- a list reversed, each step undone
+abbrev pub backwards : List Leaf → List Leaf
+backwards l = reverse (map undo l)
+
+pub backwards-append : (a b : List Leaf) → backwards (a ++ b) ≡ backwards b ++ backwards a
+backwards-append a b = rw (map-append, reverse-append)
+
+pub backwards-twice : (l : List Leaf) → backwards (backwards l) ≡ l
+backwards-twice [] = refl
+backwards-twice (x ∷ l) =
+    ap backwards (reverse-cons (undo x) (map undo l))
+    ∙ backwards-append (backwards l) (undo x ∷ [])
+    ∙ (λ i. undo-undo x i ∷ backwards-twice l i)
+
+copies-comm : {A : Type 0} (n : ℕ) (l : List A) → copies n l ++ l ≡ l ++ copies n l
+unfolding copies
+copies-comm zero l = sym (append-nil l)
+copies-comm (suc n) l = rw (append-assoc, copies-comm n l)
+
+pub copies-backwards : (n : ℕ) (l : List Leaf) → backwards (copies n l) ≡ copies n (backwards l)
+unfolding copies
+copies-backwards zero l = refl
+copies-backwards (suc n) l = rw (backwards-append l (copies n l), copies-backwards n l) (copies-comm n (backwards l))
+
+-- The walk without refusals. A step that is undone is undone whatever its numbers.
+abbrev pub flatBinary : BinaryGroupKind → Bool → (Bool → List Leaf) → (Bool → List Leaf) → List Leaf
+flatBinary Commutator false a b = a false ++ (b false ++ (a true ++ b true))
+flatBinary Commutator true a b = b false ++ (a false ++ (b true ++ a true))
+flatBinary Conjugate inverted a b = a false ++ (b inverted ++ a true)
+
+abbrev pub inOrder : Bool → List Leaf → List Leaf → List Leaf
+inOrder false a b = a ++ b
+inOrder true a b = b ++ a
+
+unfoldable mutual
+  pub flatNode : Bool → Node Leaf → List Leaf
+  flatNode inverted (leaf x) = pick inverted (undo x) x ∷ []
+  flatNode inverted (block b m) = copies (natAbs m) (flatBody (turned m inverted) b)
+
+  pub flatBody : Bool → Body Leaf → List Leaf
+  flatBody inverted (group k a) = flat inverted a
+  flatBody inverted (binaryGroup k a b) = flatBinary k inverted (λ d. flat d a) (λ d. flat d b)
+
+  pub flat : Bool → Tree → List Leaf
+  flat inverted nil = []
+  flat inverted (cons n l) = inOrder inverted (flatNode inverted n) (flat inverted l)
+
+-- The first refusal that the walk meets.
+abbrev pub first : Option ℕ → Option ℕ → Option ℕ
+first none q = q
+first (some r) q = some r
+
+abbrev pub ifReached : ℕ → Option ℕ → Option ℕ
+ifReached zero q = none
+ifReached (suc n) q = q
+
+abbrev pub refusalBinary : BinaryGroupKind → Bool → (Bool → Option ℕ) → (Bool → Option ℕ) → Option ℕ
+refusalBinary Commutator false a b = first (a false) (first (b false) (first (a true) (b true)))
+refusalBinary Commutator true a b = first (b false) (first (a false) (first (b true) (a true)))
+refusalBinary Conjugate inverted a b = first (a false) (first (b inverted) (a true))
+
+abbrev pub firstInOrder : Bool → Option ℕ → Option ℕ → Option ℕ
+firstInOrder false a b = first a b
+firstInOrder true a b = first b a
+
+unfoldable mutual
+  pub refusalNode : Bool → Node Leaf → Option ℕ
+  refusalNode inverted (leaf x) = pick (inverted && overflows x) (some OVERFLOW) none
+  refusalNode inverted (block b m) = pick (isNiss b) (some NISS) (ifReached (natAbs m) (refusalBody (turned m inverted) b))
+
+  pub refusalBody : Bool → Body Leaf → Option ℕ
+  refusalBody inverted (group k a) = firstRefusal inverted a
+  refusalBody inverted (binaryGroup k a b) = refusalBinary k inverted (λ d. firstRefusal d a) (λ d. firstRefusal d b)
+
+  pub firstRefusal : Bool → Tree → Option ℕ
+  firstRefusal inverted nil = none
+  firstRefusal inverted (cons n l) = firstInOrder inverted (refusalNode inverted n) (firstRefusal inverted l)
+
+-- One equation: the refusing walk gives the first refusal, and else the plain list.
+abbrev pub verdict : {A : Type 0} → Option ℕ → A → Outcome A
+verdict none l = result l
+verdict (some r) l = refusal r
+
+then-verdict : (r q : Option ℕ) (a b : List Leaf) → verdict r a then verdict q b ≡ verdict (first r q) (a ++ b)
+then-verdict none none a b = refl
+then-verdict none (some q) a b = refl
+then-verdict (some r) none a b = refl
+then-verdict (some r) (some q) a b = refl
+
+chain : (r q : Option ℕ) (a b : List Leaf) {s : Steps} → s ≡ verdict q b → verdict r a then s ≡ verdict (first r q) (a ++ b)
+chain r q a b e = ap (λ (s : Steps). verdict r a then s) e ∙ then-verdict r q a b
+
+order-verdict : (d : Bool) (r q : Option ℕ) (a b : List Leaf) →
+    inDirection d (verdict r a) (verdict q b) ≡ verdict (firstInOrder d r q) (inOrder d a b)
+order-verdict false r q a b = then-verdict r q a b
+order-verdict true r q a b = then-verdict q r b a
+
+repeated-verdict : (n : ℕ) (r : Option ℕ) (l : List Leaf) → repeated n (verdict r l) ≡ verdict (ifReached n r) (copies n l)
+unfolding copies
+repeated-verdict zero r l = refl
+repeated-verdict (suc n) none l = refl
+repeated-verdict (suc n) (some r) l = refl
+
+leaf-verdict : (d : Bool) (x : Leaf) → flattenLeaf d x ≡ verdict (pick (d && overflows x) (some OVERFLOW) none) (pick d (undo x) x ∷ [])
+leaf-verdict false x = refl
+leaf-verdict true x = go (overflows x)
+  where
+    go : (b : Bool) → _>>=_ (pick b (refusal OVERFLOW) (result (undo x))) (λ x′. result (x′ ∷ [])) ≡ verdict (pick b (some OVERFLOW) none) (undo x ∷ [])
+    go true = refl
+    go false = refl
+
+commutator-verdict : (a b : Bool → Option ℕ) (la lb : Bool → List Leaf) →
+    flattenBinary Commutator false (λ e. verdict (a e) (la e)) (λ e. verdict (b e) (lb e))
+    ≡ verdict (refusalBinary Commutator false a b) (flatBinary Commutator false la lb)
+commutator-verdict a b la lb =
+    chain (a false) (first (b false) (first (a true) (b true))) (la false) (lb false ++ (la true ++ lb true))
+    (chain (b false) (first (a true) (b true)) (lb false) (la true ++ lb true)
+    (then-verdict (a true) (b true) (la true) (lb true)))
+
+binary-verdict : (k : BinaryGroupKind) (d : Bool) (a b : Bool → Option ℕ) (la lb : Bool → List Leaf) →
+    flattenBinary k d (λ e. verdict (a e) (la e)) (λ e. verdict (b e) (lb e)) ≡ verdict (refusalBinary k d a b) (flatBinary k d la lb)
+binary-verdict Commutator false a b la lb = commutator-verdict a b la lb
+binary-verdict Commutator true a b la lb = commutator-verdict b a lb la
+binary-verdict Conjugate d a b la lb =
+    chain (a false) (first (b d) (a true)) (la false) (lb d ++ la true) (then-verdict (b d) (a true) (lb d) (la true))
+
+niss-verdict : (t : Bool) (r : Option ℕ) (l : List Leaf) → pick t (refusal NISS) (verdict r l) ≡ verdict (pick t (some NISS) r) l
+niss-verdict true r l = refl
+niss-verdict false r l = refl
+
+mutual
+  unfolding flattenNode flattenBody flattenNodes flatNode flatBody flat refusalNode refusalBody firstRefusal
+  pub flattenNode-is : (n : Node Leaf) (d : Bool) → flattenNode d n ≡ verdict (refusalNode d n) (flatNode d n)
+  flattenNode-is (leaf x) d = leaf-verdict d x
+  flattenNode-is (block b m) d =
+      ap (λ (s : Steps). pick (isNiss b) (refusal NISS) (repeated (natAbs m) s)) (flattenBody-is b (turned m d))
+      ∙ ap (pick (isNiss b) (refusal NISS)) (repeated-verdict (natAbs m) (refusalBody (turned m d) b) (flatBody (turned m d) b))
+      ∙ niss-verdict (isNiss b) _ _
+
+  pub flattenBody-is : (b : Body Leaf) (d : Bool) → flattenBody d b ≡ verdict (refusalBody d b) (flatBody d b)
+  flattenBody-is (group k a) d = flatten-is a d
+  flattenBody-is (binaryGroup k a b) d =
+      ap (λ (f : Bool → Steps). flattenBinary k d f (λ e. flattenNodes e b)) (fun-ext λ e. flatten-is a e)
+      ∙ ap (λ (g : Bool → Steps). flattenBinary k d (λ e. verdict (firstRefusal e a) (flat e a)) g) (fun-ext λ e. flatten-is b e)
+      ∙ binary-verdict k d (λ e. firstRefusal e a) (λ e. firstRefusal e b) (λ e. flat e a) (λ e. flat e b)
+
+  pub flatten-is : (t : Tree) (d : Bool) → flattenNodes d t ≡ verdict (firstRefusal d t) (flat d t)
+  flatten-is nil d = refl
+  flatten-is (cons n l) d =
+      ap (λ (s : Steps). inDirection d s (flattenNodes d l)) (flattenNode-is n d)
+      ∙ ap (λ (s : Steps). inDirection d (verdict (refusalNode d n) (flatNode d n)) s) (flatten-is l d)
+      ∙ order-verdict d (refusalNode d n) (firstRefusal d l) (flatNode d n) (flat d l)
+
+-- The other direction: the reversed list of undone steps.
+turned-not : (m : ℤ) (d : Bool) → turned m (not d) ≡ not (turned m d)
+turned-not (pos n) d = refl
+turned-not (negsuc n) d = refl
+
+leaf-backwards : (d : Bool) (x : Leaf) → pick (not d) (undo x) x ∷ [] ≡ backwards (pick d (undo x) x ∷ [])
+leaf-backwards true x = ap (λ (y : Leaf). y ∷ []) (sym (undo-undo x))
+leaf-backwards false x = refl
+
+order-backwards : (d : Bool) (a b : List Leaf) → inOrder (not d) (backwards a) (backwards b) ≡ backwards (inOrder d a b)
+order-backwards true a b = sym (backwards-append b a)
+order-backwards false a b = sym (backwards-append a b)
+
+binary-backwards : (k : BinaryGroupKind) (d : Bool) (a b : Bool → List Leaf) →
+    ((e : Bool) → a (not e) ≡ backwards (a e)) → ((e : Bool) → b (not e) ≡ backwards (b e)) →
+    flatBinary k (not d) a b ≡ backwards (flatBinary k d a b)
+binary-backwards Commutator false a b ha hb =
+    rw (backwards-append (a false) _, backwards-append (b false) _, backwards-append (a true) _, ← ha false, ← hb false, ← ha true, ← hb true) (simp append-assoc)
+binary-backwards Commutator true a b ha hb =
+    rw (backwards-append (b false) _, backwards-append (a false) _, backwards-append (b true) _, ← ha false, ← hb false, ← ha true, ← hb true) (simp append-assoc)
+binary-backwards Conjugate d a b ha hb =
+    rw (backwards-append (a false) _, backwards-append (b d) _, ← ha false, ← hb d, ← ha true) (simp append-assoc)
+
+mutual
+  unfolding flatNode flatBody flat
+  pub flatNode-backwards : (n : Node Leaf) (d : Bool) → flatNode (not d) n ≡ backwards (flatNode d n)
+  flatNode-backwards (leaf x) d = leaf-backwards d x
+  flatNode-backwards (block b m) d =
+      ap (λ (e : Bool). copies (natAbs m) (flatBody e b)) (turned-not m d)
+      ∙ ap (copies (natAbs m)) (flatBody-backwards b (turned m d))
+      ∙ sym (copies-backwards (natAbs m) (flatBody (turned m d) b))
+
+  pub flatBody-backwards : (b : Body Leaf) (d : Bool) → flatBody (not d) b ≡ backwards (flatBody d b)
+  flatBody-backwards (group k a) d = flat-backwards a d
+  flatBody-backwards (binaryGroup k a b) d =
+      binary-backwards k d (λ e. flat e a) (λ e. flat e b) (λ e. flat-backwards a e) (λ e. flat-backwards b e)
+
+  pub flat-backwards : (t : Tree) (d : Bool) → flat (not d) t ≡ backwards (flat d t)
+  flat-backwards nil d = refl
+  flat-backwards (cons n l) d =
+      ap (λ (s : List Leaf). inOrder (not d) s (flat (not d) l)) (flatNode-backwards n d)
+      ∙ ap (inOrder (not d) (backwards (flatNode d n))) (flat-backwards l d)
+      ∙ order-backwards d (flatNode d n) (flat d l)
