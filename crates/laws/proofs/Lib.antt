@@ -1,3 +1,5 @@
+pub mod Bools
 pub mod Unrolling
 pub mod Inverses
 pub mod Reached
+pub mod InRange

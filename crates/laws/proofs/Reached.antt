@@ -14,6 +14,7 @@ use Rattle.notation.specs.Invert.{overflows, inv}
 use Rattle.notation.specs.Unroll.{copies, turned, isNiss, flatten, flattenNodes}
 use Rattle.notation.specs.declared.common.BinaryGroupKind.{BinaryGroupKind}
 use Rattle.notation.specs.declared.common.BinaryGroupKind.the-variants.{Commutator, Conjugate}
+use Rattle.laws.proofs.Bools.{and-left, and-right, and-both, not-true, no-some}
 use Rattle.laws.proofs.Unrolling.{
   backwards, verdict, first, ifReached, firstInOrder, inOrder, flatBinary, refusalBinary, flatNode, flatBody, flat, flatten-is,
   refusalNode, refusalBody, firstRefusal
@@ -41,25 +42,7 @@ unfoldable mutual
   clean nil = true
   clean (cons n l) = cleanNode n && clean l
 
--- Small facts of tests and options.
-pub and-left : (a b : Bool) → (a && b) ≡ true → a ≡ true
-and-left true b e = refl
-and-left false b e = e
-
-pub and-right : (a b : Bool) → (a && b) ≡ true → b ≡ true
-and-right true b e = e
-and-right false b e = absurd (let z : _≡_ {A = Bool} false true = e in let n : _≡_ {A = ℕ} 0 1 = cc in omega arith)
-
-pub and-both : (a b : Bool) → a ≡ true → b ≡ true → (a && b) ≡ true
-and-both a b p q = rw (p, q)
-
-pub not-true : (b : Bool) → not b ≡ true → b ≡ false
-not-true true e = sym e
-not-true false e = refl
-
-pub no-some : {A : Type 0} {a : A} {B : Type 0} → _≡_ {A = Option A} (some a) none → B
-no-some e = absurd (let n : _≡_ {A = ℕ} 0 1 = cc in omega arith)
-
+-- Small facts of options.
 pub first-left : (r q : Option ℕ) → first r q ≡ none → r ≡ none
 first-left none q e = refl
 first-left (some r) q e = e
