@@ -67,15 +67,15 @@ inv-is (cons n l) =
     ∙ last-verdict (invRefusal l) (invRefusalNode n) (inverted l) (invertedNode n)
 
 -- Appended lists unroll one after the other.
-pub flat-append : (a b : Tree) (d : Bool) → flat d (append a b) ≡ inOrder d (flat d a) (flat d b)
+pub flat-append : (a b : Tree) (d : Bool) → flat undo d (append a b) ≡ inOrder d (flat undo d a) (flat undo d b)
 unfolding append flat
-flat-append nil b true = sym (append-nil (flat true b))
+flat-append nil b true = sym (append-nil (flat undo true b))
 flat-append nil b false = refl
 flat-append (cons n a) b true = rw (flat-append a b true, append-assoc)
 flat-append (cons n a) b false = rw (flat-append a b false, append-assoc)
 
 -- The inverse unrolls as the tree does in the other direction.
-pub flatNode-inverted : (n : Node Leaf) (d : Bool) → flatNode d (invertedNode n) ≡ flatNode (not d) n
+pub flatNode-inverted : (n : Node Leaf) (d : Bool) → flatNode undo d (invertedNode n) ≡ flatNode undo (not d) n
 unfolding flatNode copies
 flatNode-inverted (leaf x) true = ap (λ (y : Leaf). y ∷ []) (undo-undo x)
 flatNode-inverted (leaf x) false = refl
@@ -92,17 +92,17 @@ order-nil : (d : Bool) (a : List Leaf) → inOrder d a [] ≡ a
 order-nil true a = refl
 order-nil false a = append-nil a
 
-pub flat-inverted : (t : Tree) (d : Bool) → flat d (inverted t) ≡ flat (not d) t
+pub flat-inverted : (t : Tree) (d : Bool) → flat undo d (inverted t) ≡ flat undo (not d) t
 unfolding inverted flat
 flat-inverted nil d = refl
 flat-inverted (cons n l) d =
     flat-append (inverted l) (cons (invertedNode n) nil) d
-    ∙ ap (inOrder d (flat d (inverted l))) (order-nil d (flatNode d (invertedNode n)) ∙ flatNode-inverted n d)
-    ∙ ap (λ (s : List Leaf). inOrder d s (flatNode (not d) n)) (flat-inverted l d)
-    ∙ order-not d (flatNode (not d) n) (flat (not d) l)
+    ∙ ap (inOrder d (flat undo d (inverted l))) (order-nil d (flatNode undo d (invertedNode n)) ∙ flatNode-inverted n d)
+    ∙ ap (λ (s : List Leaf). inOrder d s (flatNode undo (not d) n)) (flat-inverted l d)
+    ∙ order-not d (flatNode undo (not d) n) (flat undo (not d) l)
 
 -- the shallow inverse unrolls to the reversed list of undone steps
-pub inverse-unrolls : (t : Tree) → flat false (inverted t) ≡ backwards (flat false t)
+pub inverse-unrolls : (t : Tree) → flat undo false (inverted t) ≡ backwards (flat undo false t)
 inverse-unrolls t = flat-inverted t false ∙ flat-backwards t false
 
 -- Inverting twice gives the tree back.
@@ -223,24 +223,24 @@ commutator-exchanged false a b = refl
 
 mutual
   unfolding deeplyNode deeplyBody deeply flatNode flatBody flat
-  flatNode-deeply : (n : Node Leaf) (d : Bool) → flatNode d (deeplyNode n) ≡ flatNode (not d) n
+  flatNode-deeply : (n : Node Leaf) (d : Bool) → flatNode undo d (deeplyNode n) ≡ flatNode undo (not d) n
   flatNode-deeply (leaf x) d = flatNode-inverted (leaf x) d
   flatNode-deeply (block b m) d =
-      ap (copies (natAbs m)) (flatBody-deeply b (turned m d) ∙ ap (λ (e : Bool). flatBody e b) (turned-not m d))
+      ap (copies (natAbs m)) (flatBody-deeply b (turned m d) ∙ ap (λ (e : Bool). flatBody undo e b) (turned-not m d))
 
-  flatBody-deeply : (b : Body Leaf) (d : Bool) → flatBody d (deeplyBody b) ≡ flatBody (not d) b
+  flatBody-deeply : (b : Body Leaf) (d : Bool) → flatBody undo d (deeplyBody b) ≡ flatBody undo (not d) b
   flatBody-deeply (group k a) d = flat-deeply a d
-  flatBody-deeply (binaryGroup Commutator a b) d = commutator-exchanged d (λ e. flat e a) (λ e. flat e b)
+  flatBody-deeply (binaryGroup Commutator a b) d = commutator-exchanged d (λ e. flat undo e a) (λ e. flat undo e b)
   flatBody-deeply (binaryGroup Conjugate a b) d =
-      ap (λ (s : List Leaf). flat false a ++ (s ++ flat true a)) (flat-deeply b d)
+      ap (λ (s : List Leaf). flat undo false a ++ (s ++ flat undo true a)) (flat-deeply b d)
 
-  pub flat-deeply : (t : Tree) (d : Bool) → flat d (deeply t) ≡ flat (not d) t
+  pub flat-deeply : (t : Tree) (d : Bool) → flat undo d (deeply t) ≡ flat undo (not d) t
   flat-deeply nil d = refl
   flat-deeply (cons n l) d =
       flat-append (deeply l) (cons (deeplyNode n) nil) d
-      ∙ ap (inOrder d (flat d (deeply l))) (order-nil d (flatNode d (deeplyNode n)) ∙ flatNode-deeply n d)
-      ∙ ap (λ (s : List Leaf). inOrder d s (flatNode (not d) n)) (flat-deeply l d)
-      ∙ order-not d (flatNode (not d) n) (flat (not d) l)
+      ∙ ap (inOrder d (flat undo d (deeply l))) (order-nil d (flatNode undo d (deeplyNode n)) ∙ flatNode-deeply n d)
+      ∙ ap (λ (s : List Leaf). inOrder d s (flatNode undo (not d) n)) (flat-deeply l d)
+      ∙ order-not d (flatNode undo (not d) n) (flat undo (not d) l)
 
-pub deep-is-shallow : (t : Tree) (d : Bool) → flat d (deeply t) ≡ flat d (inverted t)
+pub deep-is-shallow : (t : Tree) (d : Bool) → flat undo d (deeply t) ≡ flat undo d (inverted t)
 deep-is-shallow t d = flat-deeply t d ∙ sym (flat-inverted t d)

@@ -2,4 +2,6 @@ pub mod Bools
 pub mod Unrolling
 pub mod Inverses
 pub mod Reached
+pub mod Counting
+pub mod Seeking
 pub mod InRange

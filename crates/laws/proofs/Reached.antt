@@ -10,7 +10,7 @@ use lib.IntN.{ℤ, natAbs, negℤ}
 use Rattle.notation.specs.Basics.{pick, every}
 use Rattle.notation.specs.Refusals.{Outcome, refusal, result, NISS, OVERFLOW}
 use Rattle.notation.specs.Tree.{Leaf, Node, leaf, block, Body, group, binaryGroup, nil, cons, append, Tree}
-use Rattle.notation.specs.Invert.{overflows, inv}
+use Rattle.notation.specs.Invert.{undo, overflows, inv}
 use Rattle.notation.specs.Unroll.{copies, turned, isNiss, flatten, flattenNodes}
 use Rattle.notation.specs.declared.common.BinaryGroupKind.{BinaryGroupKind}
 use Rattle.notation.specs.declared.common.BinaryGroupKind.the-variants.{Commutator, Conjugate}
@@ -122,7 +122,7 @@ order-every-right : (d : Bool) (a b : List Leaf) → every negatable (inOrder d 
 order-every-right true a b e = every-left negatable b a e
 order-every-right false a b e = every-right negatable a b e
 
-leaf-clean : (x : Leaf) (d : Bool) → refusalNode d (leaf x) ≡ none → every negatable (flatNode d (leaf x)) ≡ true → negatable x ≡ true
+leaf-clean : (x : Leaf) (d : Bool) → refusalNode d (leaf x) ≡ none → every negatable (flatNode undo d (leaf x)) ≡ true → negatable x ≡ true
 unfolding refusalNode flatNode every
 leaf-clean x true r e = go (overflows x) r
   where
@@ -157,24 +157,24 @@ binary-clean Conjugate d a b la lb x y r e p q =
 
 mutual
   unfolding cleanNode cleanBody clean refusalNode refusalBody firstRefusal flatNode flatBody flat
-  node-clean : (n : Node Leaf) (d : Bool) → refusalNode d n ≡ none → every negatable (flatNode d n) ≡ true → cleanNode n ≡ true
+  node-clean : (n : Node Leaf) (d : Bool) → refusalNode d n ≡ none → every negatable (flatNode undo d n) ≡ true → cleanNode n ≡ true
   node-clean (leaf x) d r e = leaf-clean x d r e
   node-clean (block b m) d r e =
       and-both (not (isNiss b)) _ (niss-clean (isNiss b) _ r .0)
-      (reached-clean (natAbs m) (refusalBody (turned m d) b) (flatBody (turned m d) b) (cleanBody b) (niss-clean (isNiss b) _ r .1) e
+      (reached-clean (natAbs m) (refusalBody (turned m d) b) (flatBody undo (turned m d) b) (cleanBody b) (niss-clean (isNiss b) _ r .1) e
       (λ q h. body-clean b (turned m d) q h))
 
-  body-clean : (b : Body Leaf) (d : Bool) → refusalBody d b ≡ none → every negatable (flatBody d b) ≡ true → cleanBody b ≡ true
+  body-clean : (b : Body Leaf) (d : Bool) → refusalBody d b ≡ none → every negatable (flatBody undo d b) ≡ true → cleanBody b ≡ true
   body-clean (group k a) d r e = walks-clean a d r e
   body-clean (binaryGroup k a b) d r e =
-      binary-clean k d (λ c. firstRefusal c a) (λ c. firstRefusal c b) (λ c. flat c a) (λ c. flat c b) (clean a) (clean b) r e
+      binary-clean k d (λ c. firstRefusal c a) (λ c. firstRefusal c b) (λ c. flat undo c a) (λ c. flat undo c b) (clean a) (clean b) r e
       (λ c q h. walks-clean a c q h) (λ c q h. walks-clean b c q h)
 
-  pub walks-clean : (t : Tree) (d : Bool) → firstRefusal d t ≡ none → every negatable (flat d t) ≡ true → clean t ≡ true
+  pub walks-clean : (t : Tree) (d : Bool) → firstRefusal d t ≡ none → every negatable (flat undo d t) ≡ true → clean t ≡ true
   walks-clean nil d r e = refl
   walks-clean (cons n l) d r e =
-      and-both (cleanNode n) _ (node-clean n d (order-left d _ _ r) (order-every-left d (flatNode d n) (flat d l) e))
-      (walks-clean l d (order-right d (refusalNode d n) _ r) (order-every-right d (flatNode d n) (flat d l) e))
+      and-both (cleanNode n) _ (node-clean n d (order-left d _ _ r) (order-every-left d (flatNode undo d n) (flat undo d l) e))
+      (walks-clean l d (order-right d (refusalNode d n) _ r) (order-every-right d (flatNode undo d n) (flat undo d l) e))
 
 -- The shallow inverse of a clean tree is accepted and unrolls.
 pub clean-inverts : (t : Tree) → clean t ≡ true → invRefusal t ≡ none
@@ -215,8 +215,8 @@ verdict-list : {A : Type 0} (r : Option ℕ) (l m : A) → verdict r l ≡ resul
 verdict-list none l m e = (refl, cc)
 verdict-list (some r) l m e = absurd (let n : _≡_ {A = ℕ} 0 1 = cc in omega arith)
 
-pub unrolled-list : (t : Tree) (list : List Leaf) → flatten t ≡ result list → (firstRefusal false t ≡ none) × (flat false t ≡ list)
-unrolled-list t list e = verdict-list (firstRefusal false t) (flat false t) list (sym (flatten-is t false) ∙ e)
+pub unrolled-list : (t : Tree) (list : List Leaf) → flatten t ≡ result list → (firstRefusal false t ≡ none) × (flat undo false t ≡ list)
+unrolled-list t list e = verdict-list (firstRefusal false t) (flat undo false t) list (sym (flatten-is t false) ∙ e)
 
 pub unrollable-clean : (t : Tree) (list : List Leaf) → flatten t ≡ result list → every negatable list ≡ true → clean t ≡ true
 unrollable-clean t list e h =
@@ -229,5 +229,5 @@ pub inverse-flattens : (t : Tree) (list : List Leaf) → flatten t ≡ result li
     flatten (inverted t) ≡ result (backwards list)
 inverse-flattens t list e h =
     flatten-is (inverted t) false
-    ∙ ap (λ (r : Option ℕ). verdict r (flat false (inverted t))) (inverted-walks t (unrollable-clean t list e h))
+    ∙ ap (λ (r : Option ℕ). verdict r (flat undo false (inverted t))) (inverted-walks t (unrollable-clean t list e h))
     ∙ ap result (inverse-unrolls t ∙ ap backwards (unrolled-list t list e .1))

@@ -8,7 +8,7 @@ use mathlib.Core.Option.{Option, none, some}
 use lib.IntN.{ℤ, pos, negsuc, negℤ, natAbs, negℤ-negℤ}
 use Rattle.notation.specs.Basics.{pick}
 use Rattle.notation.specs.Refusals.{Outcome, refusal, result, _>>=_, NISS, OVERFLOW}
-use Rattle.notation.specs.Tree.{LeafOf, rotation, move, pause, pair, slash, megaminx, Leaf, Node, leaf, block, Body, group, binaryGroup, NodeList, nil, cons, Tree}
+use Rattle.notation.specs.Tree.{LeafOf, rotation, move, pause, pair, slash, megaminx, Leaf, Node, leaf, block, Body, group, binaryGroup, NodeList, nil, cons, Tree, mapNode, mapBody, mapNodes}
 use Rattle.notation.specs.Invert.{undo, undone, overflows, exchanged}
 use Rattle.notation.specs.Unroll.{Steps, _then_, copies, repeated, turned, flattenBinary, isNiss, inDirection, flattenLeaf, flattenNode, flattenBody, flattenNodes}
 use Rattle.notation.specs.declared.common.BinaryGroupKind.{BinaryGroupKind}
@@ -56,27 +56,27 @@ copies-backwards zero l = refl
 copies-backwards (suc n) l = rw (backwards-append l (copies n l), copies-backwards n l) (copies-comm n (backwards l))
 
 -- The walk without refusals. A step that is undone is undone whatever its numbers.
-abbrev pub flatBinary : BinaryGroupKind → Bool → (Bool → List Leaf) → (Bool → List Leaf) → List Leaf
+abbrev pub flatBinary : {L : Type 0} → BinaryGroupKind → Bool → (Bool → List L) → (Bool → List L) → List L
 flatBinary Commutator false a b = a false ++ (b false ++ (a true ++ b true))
 flatBinary Commutator true a b = b false ++ (a false ++ (b true ++ a true))
 flatBinary Conjugate inverted a b = a false ++ (b inverted ++ a true)
 
-abbrev pub inOrder : Bool → List Leaf → List Leaf → List Leaf
+abbrev pub inOrder : {L : Type 0} → Bool → List L → List L → List L
 inOrder false a b = a ++ b
 inOrder true a b = b ++ a
 
 unfoldable mutual
-  pub flatNode : Bool → Node Leaf → List Leaf
-  flatNode inverted (leaf x) = pick inverted (undo x) x ∷ []
-  flatNode inverted (block b m) = copies (natAbs m) (flatBody (turned m inverted) b)
+  pub flatNode : {L : Type 0} → (L → L) → Bool → Node L → List L
+  flatNode undo inverted (leaf x) = pick inverted (undo x) x ∷ []
+  flatNode undo inverted (block b m) = copies (natAbs m) (flatBody undo (turned m inverted) b)
 
-  pub flatBody : Bool → Body Leaf → List Leaf
-  flatBody inverted (group k a) = flat inverted a
-  flatBody inverted (binaryGroup k a b) = flatBinary k inverted (λ d. flat d a) (λ d. flat d b)
+  pub flatBody : {L : Type 0} → (L → L) → Bool → Body L → List L
+  flatBody undo inverted (group k a) = flat undo inverted a
+  flatBody undo inverted (binaryGroup k a b) = flatBinary k inverted (λ d. flat undo d a) (λ d. flat undo d b)
 
-  pub flat : Bool → Tree → List Leaf
-  flat inverted nil = []
-  flat inverted (cons n l) = inOrder inverted (flatNode inverted n) (flat inverted l)
+  pub flat : {L : Type 0} → (L → L) → Bool → NodeList L → List L
+  flat undo inverted nil = []
+  flat undo inverted (cons n l) = inOrder inverted (flatNode undo inverted n) (flat undo inverted l)
 
 -- The first refusal that the walk meets.
 abbrev pub first : Option ℕ → Option ℕ → Option ℕ
@@ -120,8 +120,8 @@ then-verdict none (some q) a b = refl
 then-verdict (some r) none a b = refl
 then-verdict (some r) (some q) a b = refl
 
-chain : (r q : Option ℕ) (a b : List Leaf) {s : Steps} → s ≡ verdict q b → verdict r a then s ≡ verdict (first r q) (a ++ b)
-chain r q a b e = ap (λ (s : Steps). verdict r a then s) e ∙ then-verdict r q a b
+chain : (r q : Option ℕ) (a b : List Leaf) {s : Steps Leaf} → s ≡ verdict q b → verdict r a then s ≡ verdict (first r q) (a ++ b)
+chain r q a b e = ap (λ (s : Steps Leaf). verdict r a then s) e ∙ then-verdict r q a b
 
 order-verdict : (d : Bool) (r q : Option ℕ) (a b : List Leaf) →
     inDirection d (verdict r a) (verdict q b) ≡ verdict (firstInOrder d r q) (inOrder d a b)
@@ -134,7 +134,7 @@ repeated-verdict zero r l = refl
 repeated-verdict (suc n) none l = refl
 repeated-verdict (suc n) (some r) l = refl
 
-leaf-verdict : (d : Bool) (x : Leaf) → flattenLeaf d x ≡ verdict (pick (d && overflows x) (some OVERFLOW) none) (pick d (undo x) x ∷ [])
+leaf-verdict : (d : Bool) (x : Leaf) → flattenLeaf undone d x ≡ verdict (pick (d && overflows x) (some OVERFLOW) none) (pick d (undo x) x ∷ [])
 leaf-verdict false x = refl
 leaf-verdict true x = go (overflows x)
   where
@@ -163,26 +163,26 @@ niss-verdict false r l = refl
 
 mutual
   unfolding flattenNode flattenBody flattenNodes flatNode flatBody flat refusalNode refusalBody firstRefusal
-  pub flattenNode-is : (n : Node Leaf) (d : Bool) → flattenNode d n ≡ verdict (refusalNode d n) (flatNode d n)
+  pub flattenNode-is : (n : Node Leaf) (d : Bool) → flattenNode undone d n ≡ verdict (refusalNode d n) (flatNode undo d n)
   flattenNode-is (leaf x) d = leaf-verdict d x
   flattenNode-is (block b m) d =
-      ap (λ (s : Steps). pick (isNiss b) (refusal NISS) (repeated (natAbs m) s)) (flattenBody-is b (turned m d))
-      ∙ ap (pick (isNiss b) (refusal NISS)) (repeated-verdict (natAbs m) (refusalBody (turned m d) b) (flatBody (turned m d) b))
+      ap (λ (s : Steps Leaf). pick (isNiss b) (refusal NISS) (repeated (natAbs m) s)) (flattenBody-is b (turned m d))
+      ∙ ap (pick (isNiss b) (refusal NISS)) (repeated-verdict (natAbs m) (refusalBody (turned m d) b) (flatBody undo (turned m d) b))
       ∙ niss-verdict (isNiss b) _ _
 
-  pub flattenBody-is : (b : Body Leaf) (d : Bool) → flattenBody d b ≡ verdict (refusalBody d b) (flatBody d b)
+  pub flattenBody-is : (b : Body Leaf) (d : Bool) → flattenBody undone d b ≡ verdict (refusalBody d b) (flatBody undo d b)
   flattenBody-is (group k a) d = flatten-is a d
   flattenBody-is (binaryGroup k a b) d =
-      ap (λ (f : Bool → Steps). flattenBinary k d f (λ e. flattenNodes e b)) (fun-ext λ e. flatten-is a e)
-      ∙ ap (λ (g : Bool → Steps). flattenBinary k d (λ e. verdict (firstRefusal e a) (flat e a)) g) (fun-ext λ e. flatten-is b e)
-      ∙ binary-verdict k d (λ e. firstRefusal e a) (λ e. firstRefusal e b) (λ e. flat e a) (λ e. flat e b)
+      ap (λ (f : Bool → Steps Leaf). flattenBinary k d f (λ e. flattenNodes undone e b)) (fun-ext λ e. flatten-is a e)
+      ∙ ap (λ (g : Bool → Steps Leaf). flattenBinary k d (λ e. verdict (firstRefusal e a) (flat undo e a)) g) (fun-ext λ e. flatten-is b e)
+      ∙ binary-verdict k d (λ e. firstRefusal e a) (λ e. firstRefusal e b) (λ e. flat undo e a) (λ e. flat undo e b)
 
-  pub flatten-is : (t : Tree) (d : Bool) → flattenNodes d t ≡ verdict (firstRefusal d t) (flat d t)
+  pub flatten-is : (t : Tree) (d : Bool) → flattenNodes undone d t ≡ verdict (firstRefusal d t) (flat undo d t)
   flatten-is nil d = refl
   flatten-is (cons n l) d =
-      ap (λ (s : Steps). inDirection d s (flattenNodes d l)) (flattenNode-is n d)
-      ∙ ap (λ (s : Steps). inDirection d (verdict (refusalNode d n) (flatNode d n)) s) (flatten-is l d)
-      ∙ order-verdict d (refusalNode d n) (firstRefusal d l) (flatNode d n) (flat d l)
+      ap (λ (s : Steps Leaf). inDirection d s (flattenNodes undone d l)) (flattenNode-is n d)
+      ∙ ap (λ (s : Steps Leaf). inDirection d (verdict (refusalNode d n) (flatNode undo d n)) s) (flatten-is l d)
+      ∙ order-verdict d (refusalNode d n) (firstRefusal d l) (flatNode undo d n) (flat undo d l)
 
 -- The other direction: the reversed list of undone steps.
 turned-not : (m : ℤ) (d : Bool) → turned m (not d) ≡ not (turned m d)
@@ -209,21 +209,66 @@ binary-backwards Conjugate d a b ha hb =
 
 mutual
   unfolding flatNode flatBody flat
-  pub flatNode-backwards : (n : Node Leaf) (d : Bool) → flatNode (not d) n ≡ backwards (flatNode d n)
+  pub flatNode-backwards : (n : Node Leaf) (d : Bool) → flatNode undo (not d) n ≡ backwards (flatNode undo d n)
   flatNode-backwards (leaf x) d = leaf-backwards d x
   flatNode-backwards (block b m) d =
-      ap (λ (e : Bool). copies (natAbs m) (flatBody e b)) (turned-not m d)
+      ap (λ (e : Bool). copies (natAbs m) (flatBody undo e b)) (turned-not m d)
       ∙ ap (copies (natAbs m)) (flatBody-backwards b (turned m d))
-      ∙ sym (copies-backwards (natAbs m) (flatBody (turned m d) b))
+      ∙ sym (copies-backwards (natAbs m) (flatBody undo (turned m d) b))
 
-  pub flatBody-backwards : (b : Body Leaf) (d : Bool) → flatBody (not d) b ≡ backwards (flatBody d b)
+  pub flatBody-backwards : (b : Body Leaf) (d : Bool) → flatBody undo (not d) b ≡ backwards (flatBody undo d b)
   flatBody-backwards (group k a) d = flat-backwards a d
   flatBody-backwards (binaryGroup k a b) d =
-      binary-backwards k d (λ e. flat e a) (λ e. flat e b) (λ e. flat-backwards a e) (λ e. flat-backwards b e)
+      binary-backwards k d (λ e. flat undo e a) (λ e. flat undo e b) (λ e. flat-backwards a e) (λ e. flat-backwards b e)
 
-  pub flat-backwards : (t : Tree) (d : Bool) → flat (not d) t ≡ backwards (flat d t)
+  pub flat-backwards : (t : Tree) (d : Bool) → flat undo (not d) t ≡ backwards (flat undo d t)
   flat-backwards nil d = refl
   flat-backwards (cons n l) d =
-      ap (λ (s : List Leaf). inOrder (not d) s (flat (not d) l)) (flatNode-backwards n d)
-      ∙ ap (inOrder (not d) (backwards (flatNode d n))) (flat-backwards l d)
-      ∙ order-backwards d (flatNode d n) (flat d l)
+      ap (λ (s : List Leaf). inOrder (not d) s (flat undo (not d) l)) (flatNode-backwards n d)
+      ∙ ap (inOrder (not d) (backwards (flatNode undo d n))) (flat-backwards l d)
+      ∙ order-backwards d (flatNode undo d n) (flat undo d l)
+
+-- Unrolling commutes with a change of leaves that commutes with undoing.
+map-copies : {L M : Type 0} (g : L → M) (n : ℕ) (l : List L) → map g (copies n l) ≡ copies n (map g l)
+unfolding copies
+map-copies g zero l = refl
+map-copies g (suc n) l = map-append g l (copies n l) ∙ ap (λ s. map g l ++ s) (map-copies g n l)
+
+map-order : {L M : Type 0} (g : L → M) (d : Bool) (a b : List L) → map g (inOrder d a b) ≡ inOrder d (map g a) (map g b)
+map-order g true a b = map-append g b a
+map-order g false a b = map-append g a b
+
+map-binary : {L M : Type 0} (g : L → M) (k : BinaryGroupKind) (d : Bool) (a b : Bool → List L) →
+    map g (flatBinary k d a b) ≡ flatBinary k d (λ e. map g (a e)) (λ e. map g (b e))
+map-binary g Commutator false a b = simp map-append
+map-binary g Commutator true a b = simp map-append
+map-binary g Conjugate d a b = simp map-append
+
+leaf-map : {L M : Type 0} (g : L → M) (u : L → L) (v : M → M) → ((x : L) → v (g x) ≡ g (u x)) → (d : Bool) (x : L) →
+    pick d (v (g x)) (g x) ∷ [] ≡ map g (pick d (u x) x ∷ [])
+leaf-map g u v h true x = ap (λ y. y ∷ []) (h x)
+leaf-map g u v h false x = refl
+
+mutual
+  unfolding flatNode flatBody flat mapNode mapBody mapNodes
+  flatNode-map : {L M : Type 0} (n : Node L) (g : L → M) (u : L → L) (v : M → M) (h : (x : L) → v (g x) ≡ g (u x)) (d : Bool) →
+      flatNode v d (mapNode g n) ≡ map g (flatNode u d n)
+  flatNode-map (leaf x) g u v h d = leaf-map g u v h d x
+  flatNode-map (block b m) g u v h d =
+      ap (copies (natAbs m)) (flatBody-map b g u v h (turned m d)) ∙ sym (map-copies g (natAbs m) (flatBody u (turned m d) b))
+
+  flatBody-map : {L M : Type 0} (b : Body L) (g : L → M) (u : L → L) (v : M → M) (h : (x : L) → v (g x) ≡ g (u x)) (d : Bool) →
+      flatBody v d (mapBody g b) ≡ map g (flatBody u d b)
+  flatBody-map (group k a) g u v h d = flat-map a g u v h d
+  flatBody-map (binaryGroup k a b) g u v h d =
+      ap (λ f. flatBinary k d f (λ e. flat v e (mapNodes g b))) (fun-ext λ e. flat-map a g u v h e)
+      ∙ ap (λ f. flatBinary k d (λ e. map g (flat u e a)) f) (fun-ext λ e. flat-map b g u v h e)
+      ∙ sym (map-binary g k d (λ e. flat u e a) (λ e. flat u e b))
+
+  pub flat-map : {L M : Type 0} (t : NodeList L) (g : L → M) (u : L → L) (v : M → M) (h : (x : L) → v (g x) ≡ g (u x)) (d : Bool) →
+      flat v d (mapNodes g t) ≡ map g (flat u d t)
+  flat-map nil g u v h d = refl
+  flat-map (cons n l) g u v h d =
+      ap (λ s. inOrder d s (flat v d (mapNodes g l))) (flatNode-map n g u v h d)
+      ∙ ap (inOrder d (map g (flatNode u d n))) (flat-map l g u v h d)
+      ∙ sym (map-order g d (flatNode u d n) (flat u d l))

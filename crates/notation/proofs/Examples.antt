@@ -7,3 +7,4 @@ pub mod Inverses
 pub mod WellFormed
 pub mod Ranges
 pub mod Entries
+pub mod Adversarial

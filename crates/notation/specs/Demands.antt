@@ -29,15 +29,19 @@ pub record Unrollable (f : Features) (text tree : List ℕ) (list : List Leaf) :
   pub countable : length list ≤ MAX-STEPS
   pub negatable : every (λ x. not (overflows x)) list ≡ true
 
--- Its inverse, printed, can be read back, and both agree about every step.
+-- Its inverse, printed as text′, can be read back, and both agree about every step: entry k of the unrolled list is found at place k,
+-- and entry n − 1 − k of the unrolled list of the inverse read back, found there, is the same step as entry k undone.
 pub record Agrees (f : Features) (text tree : List ℕ) (list : List Leaf) (text′ : List ℕ) : Type 0 where
   pub tree′ : List ℕ
+  pub list′ : List Leaf
   pub readBack : Gives (parseNotation f text′) tree′
+  pub unrollsBack : flatten (unpack tree′) ≡ result list′
   pub count : countSteps text tree ≡ result (length list)
   pub countBack : countSteps text′ tree′ ≡ result (length list)
   pub seek : (k : ℕ) (x : Leaf) → getElem? list k ≡ some x → Gives (seekStep text tree k) (leafRecord x)
   pub seekBack : (k : ℕ) (x : Leaf) → getElem? list k ≡ some x →
-      (y : Leaf) × Gives (seekStep text′ tree′ (length list - suc k)) (leafRecord y) × SameStep text′ y text (undo x)
+      (y : Leaf) × (getElem? list′ (length list - suc k) ≡ some y)
+      × Gives (seekStep text′ tree′ (length list - suc k)) (leafRecord y) × SameStep text′ y text (undo x)
 
 pub record Demand3 (f : Features) (text tree : List ℕ) (list : List Leaf) : Type 0 where
   pub reads : Gives (parseNotation f text) tree

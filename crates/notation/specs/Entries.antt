@@ -35,6 +35,10 @@ abbrev pub refusalNumber : {A : Type 0} → Outcome A → ℕ
 refusalNumber (refusal r) = r
 refusalNumber (result a) = 0
 
+abbrev pub value : Outcome ℕ → ℕ
+value (refusal r) = 0
+value (result v) = v
+
 -- Lent buffers, of bytes or of layer ranges: a refusal keeps the buffer; what does not fit is refused 5 and keeps it too;
 -- else the result takes the front, its length is the answer and the rest stays.
 pub record Lent (A : Type 0) : Type 0 where

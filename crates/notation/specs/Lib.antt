@@ -15,5 +15,6 @@ pub mod Invert
 pub mod Print
 pub mod Unroll
 pub mod Entries
+pub mod Lister
 pub mod Demands
 pub mod Marked
