@@ -4,4 +4,5 @@ pub mod Inverses
 pub mod Reached
 pub mod Counting
 pub mod Seeking
+pub mod WellFormedInverses
 pub mod InRange
