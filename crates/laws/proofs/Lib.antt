@@ -6,3 +6,10 @@ pub mod Counting
 pub mod Seeking
 pub mod WellFormedInverses
 pub mod InRange
+pub mod Packing
+pub mod Accepting
+pub mod Parens
+pub mod PlainBytes
+pub mod Nesting
+pub mod PrintedNesting
+pub mod DemandThree

@@ -1,7 +1,7 @@
 -- Which trees unroll in both directions: those in which no NISS group and no pair with −2147483648 is reached.
 -- Assumes nothing.
 use Prim.Native.Nat.{ℕ, zero, suc}
-use mathlib.Core.Path.{_≡_, refl, sym, ap, _∙_}
+use mathlib.Core.Path.{_≡_, refl, sym, ap, ap₂, _∙_}
 use mathlib.Core.Bool.{Bool, true, false, not, _&&_}
 use mathlib.Core.List.{List, [], _∷_, _++_}
 use mathlib.Core.Option.{Option, none, some}
@@ -9,9 +9,10 @@ use native.Mathlib.Omega.{arith}
 use lib.IntN.{ℤ, natAbs, negℤ}
 use Rattle.notation.specs.Basics.{pick, every}
 use Rattle.notation.specs.Refusals.{Outcome, refusal, result, NISS, OVERFLOW}
-use Rattle.notation.specs.Tree.{Leaf, Node, leaf, block, Body, group, binaryGroup, nil, cons, append, Tree}
+use Rattle.notation.specs.Tree.{LeafOf, Leaf, Node, leaf, block, Body, group, binaryGroup, NodeList, nil, cons, append, Tree, mapNode, mapBody, mapNodes}
 use Rattle.notation.specs.Invert.{undo, overflows, inv}
 use Rattle.notation.specs.Unroll.{copies, turned, isNiss, flatten, flattenNodes}
+use Rattle.notation.specs.declared.common.GroupKind.the-variants.{Simple, Macro, Simultaneous, Niss}
 use Rattle.notation.specs.declared.common.BinaryGroupKind.{BinaryGroupKind}
 use Rattle.notation.specs.declared.common.BinaryGroupKind.the-variants.{Commutator, Conjugate}
 use Rattle.laws.proofs.Bools.{and-left, and-right, and-both, not-true, no-some}
@@ -22,7 +23,7 @@ use Rattle.laws.proofs.Unrolling.{
 use Rattle.laws.proofs.Inverses.{inverted, invertedNode, invRefusal, invRefusalNode, inv-is, flat-inverted, inverse-unrolls}
 
 -- a step that can be undone
-abbrev pub negatable : Leaf → Bool
+abbrev pub negatable : {F C S : Type 0} → LeafOf F C S → Bool
 negatable x = not (overflows x)
 
 abbrev pub allIfReached : ℕ → Bool → Bool
@@ -30,17 +31,21 @@ allIfReached zero b = true
 allIfReached (suc n) b = b
 
 unfoldable mutual
-  pub cleanNode : Node Leaf → Bool
-  cleanNode (leaf x) = negatable x
-  cleanNode (block b m) = not (isNiss b) && allIfReached (natAbs m) (cleanBody b)
+  pub cleanNode : {L : Type 0} → (L → Bool) → Node L → Bool
+  cleanNode p (leaf x) = p x
+  cleanNode p (block b m) = not (isNiss b) && allIfReached (natAbs m) (cleanBody p b)
 
-  pub cleanBody : Body Leaf → Bool
-  cleanBody (group k a) = clean a
-  cleanBody (binaryGroup k a b) = clean a && clean b
+  pub cleanBody : {L : Type 0} → (L → Bool) → Body L → Bool
+  cleanBody p (group k a) = cleanNodes p a
+  cleanBody p (binaryGroup k a b) = cleanNodes p a && cleanNodes p b
 
-  pub clean : Tree → Bool
-  clean nil = true
-  clean (cons n l) = cleanNode n && clean l
+  pub cleanNodes : {L : Type 0} → (L → Bool) → NodeList L → Bool
+  cleanNodes p nil = true
+  cleanNodes p (cons n l) = cleanNode p n && cleanNodes p l
+
+-- every leaf that is reached can be undone, and no NISS group is reached
+abbrev pub clean : Tree → Bool
+clean t = cleanNodes negatable t
 
 -- Small facts of options.
 pub first-left : (r q : Option ℕ) → first r q ≡ none → r ≡ none
@@ -85,14 +90,14 @@ overflow-or false t e = refl
 
 -- A clean tree meets no refusal, in either direction.
 mutual
-  unfolding cleanNode cleanBody clean refusalNode refusalBody firstRefusal
-  pub clean-node : (n : Node Leaf) (d : Bool) → cleanNode n ≡ true → refusalNode d n ≡ none
+  unfolding cleanNode cleanBody cleanNodes refusalNode refusalBody firstRefusal
+  pub clean-node : (n : Node Leaf) (d : Bool) → cleanNode negatable n ≡ true → refusalNode d n ≡ none
   clean-node (leaf x) d e = overflow-or d (overflows x) (not-true (overflows x) e)
   clean-node (block b m) d e =
       niss-or (isNiss b) _ (not-true (isNiss b) (and-left _ _ e))
-      (if-reached (natAbs m) (cleanBody b) _ (and-right (not (isNiss b)) _ e) (λ h. clean-body b (turned m d) h))
+      (if-reached (natAbs m) (cleanBody negatable b) _ (and-right (not (isNiss b)) _ e) (λ h. clean-body b (turned m d) h))
 
-  pub clean-body : (b : Body Leaf) (d : Bool) → cleanBody b ≡ true → refusalBody d b ≡ none
+  pub clean-body : (b : Body Leaf) (d : Bool) → cleanBody negatable b ≡ true → refusalBody d b ≡ none
   clean-body (group k a) d e = clean-walks a d e
   clean-body (binaryGroup k a b) d e =
       binary-both k d (λ c. firstRefusal c a) (λ c. firstRefusal c b)
@@ -101,7 +106,7 @@ mutual
   pub clean-walks : (t : Tree) (d : Bool) → clean t ≡ true → firstRefusal d t ≡ none
   clean-walks nil d e = refl
   clean-walks (cons n l) d e =
-      order-both d (refusalNode d n) (firstRefusal d l) (clean-node n d (and-left _ _ e)) (clean-walks l d (and-right (cleanNode n) _ e))
+      order-both d (refusalNode d n) (firstRefusal d l) (clean-node n d (and-left _ _ e)) (clean-walks l d (and-right (cleanNode negatable n) _ e))
 
 -- A tree that unrolls in one direction, to steps that can all be undone, is clean.
 every-left : {A : Type 0} (p : A → Bool) (a b : List A) → every p (a ++ b) ≡ true → every p a ≡ true
@@ -156,15 +161,15 @@ binary-clean Conjugate d a b la lb x y r e p q =
     (q d (first-left _ _ (first-right (a false) _ r)) (every-left negatable (lb d) _ (every-right negatable (la false) _ e)))
 
 mutual
-  unfolding cleanNode cleanBody clean refusalNode refusalBody firstRefusal flatNode flatBody flat
-  node-clean : (n : Node Leaf) (d : Bool) → refusalNode d n ≡ none → every negatable (flatNode undo d n) ≡ true → cleanNode n ≡ true
+  unfolding cleanNode cleanBody cleanNodes refusalNode refusalBody firstRefusal flatNode flatBody flat
+  node-clean : (n : Node Leaf) (d : Bool) → refusalNode d n ≡ none → every negatable (flatNode undo d n) ≡ true → cleanNode negatable n ≡ true
   node-clean (leaf x) d r e = leaf-clean x d r e
   node-clean (block b m) d r e =
       and-both (not (isNiss b)) _ (niss-clean (isNiss b) _ r .0)
-      (reached-clean (natAbs m) (refusalBody (turned m d) b) (flatBody undo (turned m d) b) (cleanBody b) (niss-clean (isNiss b) _ r .1) e
+      (reached-clean (natAbs m) (refusalBody (turned m d) b) (flatBody undo (turned m d) b) (cleanBody negatable b) (niss-clean (isNiss b) _ r .1) e
       (λ q h. body-clean b (turned m d) q h))
 
-  body-clean : (b : Body Leaf) (d : Bool) → refusalBody d b ≡ none → every negatable (flatBody undo d b) ≡ true → cleanBody b ≡ true
+  body-clean : (b : Body Leaf) (d : Bool) → refusalBody d b ≡ none → every negatable (flatBody undo d b) ≡ true → cleanBody negatable b ≡ true
   body-clean (group k a) d r e = walks-clean a d r e
   body-clean (binaryGroup k a b) d r e =
       binary-clean k d (λ c. firstRefusal c a) (λ c. firstRefusal c b) (λ c. flat undo c a) (λ c. flat undo c b) (clean a) (clean b) r e
@@ -173,18 +178,18 @@ mutual
   pub walks-clean : (t : Tree) (d : Bool) → firstRefusal d t ≡ none → every negatable (flat undo d t) ≡ true → clean t ≡ true
   walks-clean nil d r e = refl
   walks-clean (cons n l) d r e =
-      and-both (cleanNode n) _ (node-clean n d (order-left d _ _ r) (order-every-left d (flatNode undo d n) (flat undo d l) e))
+      and-both (cleanNode negatable n) _ (node-clean n d (order-left d _ _ r) (order-every-left d (flatNode undo d n) (flat undo d l) e))
       (walks-clean l d (order-right d (refusalNode d n) _ r) (order-every-right d (flatNode undo d n) (flat undo d l) e))
 
 -- The shallow inverse of a clean tree is accepted and unrolls.
 pub clean-inverts : (t : Tree) → clean t ≡ true → invRefusal t ≡ none
-unfolding clean cleanNode invRefusal
+unfolding cleanNodes cleanNode invRefusal
 clean-inverts nil e = refl
 clean-inverts (cons (leaf x) l) e =
     first-both (invRefusal l) _ (clean-inverts l (and-right (negatable x) _ e))
     (overflow-or true (overflows x) (not-true (overflows x) (and-left _ _ e)))
 clean-inverts (cons (block b m) l) e =
-    first-both (invRefusal l) _ (clean-inverts l (and-right (cleanNode (block b m)) _ e)) refl
+    first-both (invRefusal l) _ (clean-inverts l (and-right (cleanNode negatable (block b m)) _ e)) refl
 
 refusal-append : (a b : Tree) → firstRefusal false a ≡ none → firstRefusal false b ≡ none → firstRefusal false (append a b) ≡ none
 unfolding firstRefusal append
@@ -196,18 +201,18 @@ natAbs-neg (ℤ.pos zero) = refl
 natAbs-neg (ℤ.pos (suc n)) = refl
 natAbs-neg (ℤ.negsuc n) = refl
 
-node-inverted-walks : (n : Node Leaf) → cleanNode n ≡ true → refusalNode false (invertedNode n) ≡ none
+node-inverted-walks : (n : Node Leaf) → cleanNode negatable n ≡ true → refusalNode false (invertedNode n) ≡ none
 unfolding refusalNode cleanNode
 node-inverted-walks (leaf x) e = refl
 node-inverted-walks (block b m) e =
     niss-or (isNiss b) _ (not-true (isNiss b) (and-left _ _ e))
-    (if-reached (natAbs (negℤ m)) (cleanBody b) _ (rw (natAbs-neg m) (and-right (not (isNiss b)) _ e)) (λ h. clean-body b (turned (negℤ m) false) h))
+    (if-reached (natAbs (negℤ m)) (cleanBody negatable b) _ (rw (natAbs-neg m) (and-right (not (isNiss b)) _ e)) (λ h. clean-body b (turned (negℤ m) false) h))
 
 pub inverted-walks : (t : Tree) → clean t ≡ true → firstRefusal false (inverted t) ≡ none
-unfolding clean inverted firstRefusal
+unfolding cleanNodes inverted firstRefusal
 inverted-walks nil e = refl
 inverted-walks (cons n l) e =
-    refusal-append (inverted l) (cons (invertedNode n) nil) (inverted-walks l (and-right (cleanNode n) _ e))
+    refusal-append (inverted l) (cons (invertedNode n) nil) (inverted-walks l (and-right (cleanNode negatable n) _ e))
     (first-both (refusalNode false (invertedNode n)) none (node-inverted-walks n (and-left _ _ e)) refl)
 
 -- From an unrolled list, all of whose steps can be undone, to the inverse's unrolled list.
@@ -231,3 +236,28 @@ inverse-flattens t list e h =
     flatten-is (inverted t) false
     ∙ ap (λ (r : Option ℕ). verdict r (flat undo false (inverted t))) (inverted-walks t (unrollable-clean t list e h))
     ∙ ap result (inverse-unrolls t ∙ ap backwards (unrolled-list t list e .1))
+
+-- Being clean does not depend on the text.
+isNiss-map : {L M : Type 0} (g : L → M) (b : Body L) → isNiss (mapBody g b) ≡ isNiss b
+unfolding mapBody
+isNiss-map g (group Simple a) = refl
+isNiss-map g (group Macro a) = refl
+isNiss-map g (group Simultaneous a) = refl
+isNiss-map g (group Niss a) = refl
+isNiss-map g (binaryGroup k a b) = refl
+
+module _ {L M : Type 0} (g : L → M) (p : L → Bool) (q : M → Bool) (keeps : (x : L) → q (g x) ≡ p x) where
+  mutual
+    unfolding cleanNode cleanBody cleanNodes mapNode mapBody mapNodes
+    cleanNode-map : (n : Node L) → cleanNode q (mapNode g n) ≡ cleanNode p n
+    cleanNode-map (leaf x) = keeps x
+    cleanNode-map (block b m) =
+        ap₂ (λ (x y : Bool). not x && allIfReached (natAbs m) y) (isNiss-map g b) (cleanBody-map b)
+
+    cleanBody-map : (b : Body L) → cleanBody q (mapBody g b) ≡ cleanBody p b
+    cleanBody-map (group k a) = clean-map a
+    cleanBody-map (binaryGroup k a b) = ap₂ (λ (x y : Bool). x && y) (clean-map a) (clean-map b)
+
+    pub clean-map : (t : NodeList L) → cleanNodes q (mapNodes g t) ≡ cleanNodes p t
+    clean-map nil = refl
+    clean-map (cons n l) = ap₂ (λ (x y : Bool). x && y) (cleanNode-map n) (clean-map l)

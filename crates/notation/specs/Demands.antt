@@ -16,7 +16,7 @@ use Rattle.notation.specs.Entries.{Lent, reading, parseNotation, invEntr
 use Rattle.notation.specs.declared.features.Features.{Features}
 
 -- an entry does not refuse, and writes these bytes, in every buffer that has room for them
-pub Gives : (List ℕ → Lent ℕ) → List ℕ → Type 0
+abbrev pub Gives : (List ℕ → Lent ℕ) → List ℕ → Type 0
 Gives entry bytes =
     (buffer : List ℕ) → length bytes ≤ length buffer →
     entry buffer ≡ record { answer = result (length bytes); buffer = bytes ++ drop (length bytes) buffer }
@@ -51,5 +51,5 @@ pub record Demand3 (f : Features) (text tree : List ℕ) (list : List Leaf) : Ty
   pub prints : Gives (displayEntry text inverted) text′
   pub agrees : length text′ ≤ MAX-TEXT → Agrees f text tree list text′
 
-pub demand3 : Type 0
+abbrev pub demand3 : Type 0
 demand3 = (f : Features) (text tree : List ℕ) (list : List Leaf) → Unrollable f text tree list → Demand3 f text tree list

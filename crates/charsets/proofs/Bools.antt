@@ -1,0 +1,42 @@
+-- Tests on numbers and their joins.
+use mathlib.Core.Path.{_≡_, refl, sym, subst}
+use mathlib.Core.Bool.{Bool, true, false, not, _&&_, _||_}
+use Prim.Native.Nat.{ℕ, _≤_, _<_}
+use borrow.Author.Tests.{leb-true, lt-leb}
+use lib.Dec.{T, leb}
+use Rattle.notation.specs.Basics.{between}
+
+pub contra : {X : Type 0} → false ≡ true → X
+contra e = absurd (subst T (sym e) tt)
+
+pub and-left : (a b : Bool) → (a && b) ≡ true → a ≡ true
+and-left true b e = refl
+and-left false b e = e
+
+pub and-right : (a b : Bool) → (a && b) ≡ true → b ≡ true
+and-right true b e = e
+and-right false b e = contra e
+
+pub and-false : (a : Bool) → (a && false) ≡ false
+and-false true = refl
+and-false false = refl
+
+pub or-true : (a : Bool) → (a || true) ≡ true
+or-true true = refl
+or-true false = refl
+
+pub or-false : (a : Bool) → (a || false) ≡ a
+or-false true = refl
+or-false false = refl
+
+pub between-low : (l h x : ℕ) → between l h x ≡ true → l ≤ x
+between-low l h x e = leb-true l x (and-left (leb l x) (leb x h) e)
+
+pub between-high : (l h x : ℕ) → between l h x ≡ true → x ≤ h
+between-high l h x e = leb-true x h (and-right (leb l x) (leb x h) e)
+
+pub below : (l h x : ℕ) → x < l → between l h x ≡ false
+below l h x p = rw (lt-leb l x p)
+
+pub above : (l h x : ℕ) → h < x → between l h x ≡ false
+above l h x p = rw (lt-leb x h p) (and-false (leb l x))

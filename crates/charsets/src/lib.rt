@@ -1,0 +1,17 @@
+// Characters and texts: which characters a family name may hold, what is white space, and UTF-8.
+
+pub mod charsets;
+pub mod utf8;
+
+pub use charsets::classify;
+pub use charsets::is_family_char;
+pub use charsets::is_greek_letter;
+pub use charsets::is_latin_letter;
+pub use charsets::is_whitespace;
+pub use utf8::char_width;
+pub use utf8::code_point;
+pub use utf8::family_end;
+pub use utf8::family_width;
+pub use utf8::is_utf8;
+pub use utf8::whitespace_end;
+pub use utf8::whitespace_width;

@@ -1,0 +1,75 @@
+-- When a text is read and a tree is checked, and what a lent buffer then gets. Assumes nothing.
+use Prim.Native.Nat.{ℕ, _≤_, _<_}
+use mathlib.Core.Path.{_≡_, refl, sym, ap, _∙_}
+use mathlib.Core.Bool.{Bool, true, false}
+use mathlib.Core.List.{List, [], _∷_, _++_}
+use mathlib.Core.Option.{Option, none, some}
+use native.Mathlib.Omega.{arith}
+use borrow.Author.Tests.{leb-true, le-leb}
+use lib.Dec.{leb}
+use lib.ListN.{length, drop, getElem?}
+use Rattle.notation.specs.Utf8.{utf8}
+use Rattle.notation.specs.Refusals.{Outcome, refusal, result, _>>=_, _>>_, unless, orRefuse, TOO-LONG, NOT-UTF8, TOO-NESTED, NOT-NOTATION, TOO-MANY-STEPS}
+use Rattle.notation.specs.Tree.{Leaf, Tree}
+use Rattle.notation.specs.Packed.{pack, unpack, leafRecord}
+use Rattle.notation.specs.Grammar.{notation}
+use Rattle.notation.specs.WellFormed.{wellFormed}
+use Rattle.notation.specs.Unroll.{flatten}
+use Rattle.notation.specs.Entries.{Lent, lend, textOk, nestingOk, treeIn, reading, checked, steps, countSteps, stepAt, MAX-TEXT, MAX-STEPS}
+use Rattle.notation.specs.Demands.{Gives}
+use Rattle.notation.specs.declared.features.Features.{Features}
+
+no-refusal : {A B : Type 0} {r : ℕ} {a : A} → _≡_ {A = Outcome A} (refusal r) (result a) → B
+no-refusal e = absurd (let n : _≡_ {A = ℕ} 0 1 = cc in omega arith)
+
+-- what an accepted text is, and that such a text is accepted
+pub record Accepted (f : Features) (text : List ℕ) (t : Tree) : Type 0 where
+  pub short : length text ≤ MAX-TEXT
+  pub isUtf8 : utf8 text ≡ true
+  pub nests : nestingOk 0 0 text ≡ true
+  pub reads : notation f text ≡ some t
+
+pub accepts : (f : Features) (text : List ℕ) (t : Tree) → Accepted f text t → reading f text ≡ result (pack t)
+unfolding treeIn
+accepts f text t a = rw (le-leb (length text) MAX-TEXT (a .short), a .isUtf8, a .nests, a .reads)
+
+pub accepted-tree : (f : Features) (text tree : List ℕ) → reading f text ≡ result tree → (t : Tree) × Accepted f text t × (pack t ≡ tree)
+unfolding treeIn
+accepted-tree f text tree e = by-length (leb (length text) MAX-TEXT) refl e
+  where
+    after : Bool → Bool → Bool → Option Tree → Outcome (List ℕ)
+    after l u n t = do
+      t ← (do (do unless TOO-LONG l; unless NOT-UTF8 u); unless TOO-NESTED n; orRefuse NOT-NOTATION t)
+      result (pack t)
+    by-tree : leb (length text) MAX-TEXT ≡ true → utf8 text ≡ true → nestingOk 0 0 text ≡ true → (t : Option Tree) → notation f text ≡ t →
+        after true true true t ≡ result tree → (t : Tree) × Accepted f text t × (pack t ≡ tree)
+    by-tree l u n none h e = no-refusal e
+    by-tree l u n (some t) h e =
+        (t, record { short = leb-true (length text) MAX-TEXT l; isUtf8 = u; nests = n; reads = h }, cc)
+    by-nesting : leb (length text) MAX-TEXT ≡ true → utf8 text ≡ true → (b : Bool) → nestingOk 0 0 text ≡ b →
+        after true true b (notation f text) ≡ result tree → (t : Tree) × Accepted f text t × (pack t ≡ tree)
+    by-nesting l u true h e = by-tree l u h (notation f text) refl e
+    by-nesting l u false h e = no-refusal e
+    by-utf8 : leb (length text) MAX-TEXT ≡ true → (b : Bool) → utf8 text ≡ b →
+        after true b (nestingOk 0 0 text) (notation f text) ≡ result tree → (t : Tree) × Accepted f text t × (pack t ≡ tree)
+    by-utf8 l true h e = by-nesting l h (nestingOk 0 0 text) refl e
+    by-utf8 l false h e = no-refusal e
+    by-length : (b : Bool) → leb (length text) MAX-TEXT ≡ b →
+        after b (utf8 text) (nestingOk 0 0 text) (notation f text) ≡ result tree → (t : Tree) × Accepted f text t × (pack t ≡ tree)
+    by-length true h e = by-utf8 h (utf8 text) refl e
+    by-length false h e = no-refusal e
+
+pub checks : (text : List ℕ) (tree : List ℕ) (t : Tree) → length text ≤ MAX-TEXT → utf8 text ≡ true → wellFormed text tree ≡ true → unpack tree ≡ t →
+    checked text tree ≡ result t
+unfolding checked
+checks text tree t l u w e = rw (le-leb (length text) MAX-TEXT l, u, w, e)
+
+-- unrolled steps that can be counted
+pub counts-as : (text tree : List ℕ) (t : Tree) (list : List Leaf) → checked text tree ≡ result t → flatten t ≡ result list → length list ≤ MAX-STEPS →
+    steps text tree ≡ result list
+unfolding steps
+counts-as text tree t list c e h = rw (c, e, le-leb (length list) MAX-STEPS h)
+
+-- a result that fits is written
+pub gives : (o : Outcome (List ℕ)) (bytes : List ℕ) → o ≡ result bytes → Gives (lend o) bytes
+gives o bytes e buffer h = rw (e, le-leb (length bytes) (length buffer) h)

@@ -1,0 +1,95 @@
+-- The packed record: where its fields stand, and that reading undoes writing.
+use Prim.Native.Nat.{ℕ, zero, suc, _+_, _/_, _<_, _≤_, zero-le}
+use mathlib.Core.Path.{_≡_, refl, sym, _∙_, ap}
+use mathlib.Core.Bool.{Bool, true, false}
+use mathlib.Core.Option.{Option, none, some}
+use mathlib.Core.List.{List, [], _∷_, _++_}
+use native.Mathlib.Omega.{arith}
+use lib.Arith.{lt-of-le-ne}
+use lib.Dec.{lit<}
+use lib.ListN.{length, getD, take, drop}
+use lib.Seq.{sets-eq}
+use mir.Val.{boolByte}
+use Rattle.notation.specs.Numbers.{fromBits, fromBigEndian}
+use Rattle.notation.specs.Tree.{Span, Layers, noLayers, singleLayer, layerRange, layerSet, pause, pair, slash, megaminx}
+use Rattle.notation.specs.Packed.{widths, RECORD, layOut, Head, leafHead, headOf, headAt, bit, present, layerForm, groupNumber, binaryNumber, megaminxNumber}
+use Rattle.notation.specs.declared.common.GroupKind.{GroupKind}
+use Rattle.notation.specs.declared.common.BinaryGroupKind.{BinaryGroupKind}
+use Rattle.notation.specs.declared.common.MegaminxScrambleMove.{MegaminxScrambleMove}
+use Rattle.notation.specs.declared.common.GroupKind.the-variants.{Simple, Macro, Simultaneous, Niss}
+use Rattle.notation.specs.declared.common.BinaryGroupKind.the-variants.{Commutator, Conjugate}
+use Rattle.notation.specs.declared.common.MegaminxScrambleMove.the-variants.{Rpp, Rmm, Dpp, Dmm}
+use Rattle.record.specs.Meaning.{field, groupAt, binaryAt, rotationAt, moveAt}
+use Rattle.record.proofs.Cut.{start, cut-front, length-layOut, stores, stores-layOut}
+
+-- field i stands at its place in the bytes
+pub field-at : (bs : List ℕ) (i : ℕ) → i < 11 → start widths i + getD widths i 0 ≤ RECORD
+    → field i bs ≡ fromBigEndian (take (getD widths i 0) (drop (start widths i) bs))
+field-at bs i h k = cut-front widths bs RECORD i h k
+
+-- what a record says, by its kind
+abbrev pub byKind : List ℕ → List Head
+byKind bs =
+    groupAt Simple bs ∷ groupAt Macro bs ∷ groupAt Simultaneous bs ∷ groupAt Niss bs
+    ∷ binaryAt Commutator bs ∷ binaryAt Conjugate bs
+    ∷ rotationAt bs ∷ moveAt bs ∷ leafHead pause
+    ∷ leafHead (pair (fromBits 32 (field 3 bs)) (fromBits 32 (field 4 bs))) ∷ leafHead slash
+    ∷ leafHead (megaminx Rpp) ∷ leafHead (megaminx Rmm) ∷ leafHead (megaminx Dpp) ∷ leafHead (megaminx Dmm) ∷ []
+
+pub headAt-kind : (bs : List ℕ) (k : ℕ) → k ≡ field 0 bs / 16 → headAt bs ≡ getD (byKind bs) k (leafHead pause)
+unfolding headOf
+headAt-kind bs k e = rw e
+
+-- a number that is none of those below n, as a `match` with an arm for each leaves it
+abbrev pub NoneBelow : ℕ → ℕ → Type 0
+NoneBelow k zero = Unit {0}
+NoneBelow k (suc n) = NoneBelow k n × (k ≡ n → ⊥)
+
+pub none-below : (k n : ℕ) → NoneBelow k n → n ≤ k
+none-below k zero h = zero-le
+none-below k (suc n) h = lt-of-le-ne (none-below k n (h .0)) (λ e. h .1 (sym e))
+
+-- the bounds of what the first byte holds
+pub bit-lt : (t : Bool) → bit t < 2
+bit-lt true = lit< tt
+bit-lt false = lit< tt
+
+pub present-lt : (c : Option Span) → present c < 2
+present-lt none = lit< tt
+present-lt (some p) = lit< tt
+
+pub layerForm-lt : (l : Layers Span) → layerForm l < 4
+layerForm-lt noLayers = lit< tt
+layerForm-lt (singleLayer i) = lit< tt
+layerForm-lt (layerRange i j) = lit< tt
+layerForm-lt (layerSet p) = lit< tt
+
+pub groupNumber-lt : (k : GroupKind) → groupNumber k < 16
+groupNumber-lt Simple = lit< tt
+groupNumber-lt Macro = lit< tt
+groupNumber-lt Simultaneous = lit< tt
+groupNumber-lt Niss = lit< tt
+
+pub binaryNumber-lt : (k : BinaryGroupKind) → binaryNumber k < 16
+binaryNumber-lt Commutator = lit< tt
+binaryNumber-lt Conjugate = lit< tt
+
+pub megaminxNumber-lt : (k : MegaminxScrambleMove) → megaminxNumber k < 16
+megaminxNumber-lt Rpp = lit< tt
+megaminxNumber-lt Rmm = lit< tt
+megaminxNumber-lt Dpp = lit< tt
+megaminxNumber-lt Dmm = lit< tt
+
+-- a bool's byte is its bit
+pub byte-bit : (t : Bool) → boolByte t ≡ bit t
+byte-bit true = refl
+byte-bit false = refl
+
+-- the fields stored one by one are the record in front of what stood after it
+pub stored : (old fs : List ℕ) → length fs ≡ 11 → RECORD ≤ length old → stores old 0 widths fs ≡ layOut widths fs ++ drop RECORD old
+stored old fs e h =
+    let size : length (layOut widths fs) ≡ RECORD = length-layOut widths fs e in
+    let end : 0 + length (layOut widths fs) ≡ RECORD = omega arith in
+    stores-layOut old 0 widths fs
+    ∙ sets-eq (layOut widths fs) old 0 (omega arith)
+    ∙ ap (λ (n : ℕ). layOut widths fs ++ drop n old) end

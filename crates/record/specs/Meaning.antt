@@ -1,0 +1,96 @@
+-- What the crate's types mean in the rules: a `Record` is a `Head`, and a field of a record is one of `cut widths`.
+use Prim.Native.Nat.{ℕ, _+_, _/_, _%_}
+use mathlib.Core.List.{List, [], _∷_}
+use mathlib.Core.Option.{Option, none, some}
+use lib.Dec.{eqb}
+use lib.ListN.{getD, take}
+use Rattle.notation.specs.Basics.{pick}
+use Rattle.notation.specs.Numbers.{fromBits}
+use Rattle.notation.specs.Tree as tree
+use Rattle.notation.specs.Tree.{
+  Layers,
+  noLayers,
+  singleLayer,
+  layerRange,
+  layerSet,
+  rotation,
+  move,
+  pause,
+  pair,
+  slash,
+  megaminx,
+}
+use Rattle.notation.specs.Packed.{widths, cut, RECORD, familyAt, Head, leafHead, groupHead, binaryHead}
+use Rattle.record.specs.declared.spanned.Span.{Span}
+use Rattle.record.specs.declared.spanned.SpanOption.{SpanOption}
+use Rattle.record.specs.declared.spanned.SpanOption.the-variants as part
+use Rattle.record.specs.declared.spanned.LayerPrefixContents.{LayerPrefixContents}
+use Rattle.record.specs.declared.spanned.LayerPrefixContents.the-variants as prefix
+use Rattle.record.specs.declared.spanned.Record.{Record}
+use Rattle.record.specs.declared.spanned.Record.the-variants as node
+use Rattle.notation.specs.declared.common.GroupKind.{GroupKind}
+use Rattle.notation.specs.declared.common.BinaryGroupKind.{BinaryGroupKind}
+use Rattle.record.specs.declared.encode.Fields.{Fields}
+
+abbrev pub span : Span → tree.Span
+span p = tree.span (p .offset) (p .size)
+
+abbrev pub spanOption : SpanOption → Option tree.Span
+spanOption (part.Some p) = some (span p)
+spanOption part.None = none
+
+abbrev pub layers : LayerPrefixContents → Layers tree.Span
+layers prefix.None = noLayers
+layers (prefix.Single i) = singleLayer i
+layers (prefix.Range i j) = layerRange i j
+layers (prefix.Set p) = layerSet (span p)
+
+abbrev pub head : Record → Head
+head (node.Group k n m) = groupHead k n (fromBits 32 m)
+head (node.BinaryGroup k n n′ m) = binaryHead k n n′ (fromBits 32 m)
+head (node.Rotation x) = leafHead (rotation (span (x .family)) (spanOption (x .constraints)) (fromBits 32 (x .multiplier)))
+head (node.Move x) =
+    leafHead
+    (move (x .inverted) (layers (x .layers)) (span (x .family)) (spanOption (x .constraints)) (fromBits 32 (x .multiplier)))
+head node.Pause = leafHead pause
+head (node.UD u d) = leafHead (pair (fromBits 32 u) (fromBits 32 d))
+head node.Slash = leafHead slash
+head (node.Megaminx k) = leafHead (megaminx k)
+
+-- field i of the first record, and the part of the text that fields i and i + 1 name
+abbrev pub field : ℕ → List ℕ → ℕ
+field i bs = getD (cut widths (take RECORD bs)) i 0
+
+abbrev pub spanAt : ℕ → List ℕ → tree.Span
+spanAt i bs = tree.span (field i bs) (field (i + 1) bs)
+
+-- what the record says if it is of this kind, in the words of `headOf`
+abbrev pub groupAt : GroupKind → List ℕ → Head
+groupAt k bs = groupHead k (field 1 bs) (fromBits 32 (field 3 bs))
+
+abbrev pub binaryAt : BinaryGroupKind → List ℕ → Head
+binaryAt k bs = binaryHead k (field 1 bs) (field 2 bs) (fromBits 32 (field 3 bs))
+
+abbrev pub constraintsAt : List ℕ → Option tree.Span
+constraintsAt bs = pick (eqb (field 0 bs % 2) 1) (some (spanAt 7 bs)) none
+
+abbrev pub layersAt : List ℕ → Layers tree.Span
+layersAt bs =
+    let low = field 4 bs / 65536 in
+    let high = field 4 bs % 65536 in
+    getD (noLayers ∷ singleLayer low ∷ layerRange low high ∷ layerSet (spanAt 9 bs) ∷ []) (field 0 bs / 2 % 4) noLayers
+
+abbrev pub rotationAt : List ℕ → Head
+rotationAt bs = leafHead (rotation (familyAt (field 5 bs) (field 6 bs)) (constraintsAt bs) (fromBits 32 (field 3 bs)))
+
+abbrev pub moveAt : List ℕ → Head
+moveAt bs =
+    leafHead
+    (move (eqb (field 0 bs / 8 % 2) 1) (layersAt bs) (familyAt (field 5 bs) (field 6 bs)) (constraintsAt bs) (fromBits 32 (field 3 bs)))
+
+-- the fields of a record in order
+abbrev pub listed : Fields → List ℕ
+listed f =
+    f .small ∷ f .first ∷ f .second ∷ f .number ∷ f .other
+    ∷ f .family .offset ∷ f .family .size ∷ f .constraints .offset ∷ f .constraints .size
+    ∷ f .«layer_set» .offset ∷ f .«layer_set» .size ∷ []

@@ -1,0 +1,228 @@
+// A value written as a record.
+ghost use mathlib.Core.Path.{_≡_};
+ghost use mathlib.Core.List.{_++_};
+ghost use Prim.Native.Nat.{_+_, _<_, _≤_};
+ghost use lib.ListN.{length, drop};
+ghost use lib.Seq.{sets};
+ghost use Rattle.notation.specs.Numbers.{bigEndian};
+ghost use Rattle.notation.specs.Packed as packed;
+ghost use Rattle.record.specs.Meaning as meaning;
+use crate::spanned::LayerPrefixContents;
+use crate::spanned::Move;
+use crate::spanned::Record;
+use crate::spanned::Rotation;
+use crate::spanned::Span;
+use crate::spanned::SpanOption;
+use notation::common::BinaryGroupKind;
+use notation::common::GroupKind;
+use notation::common::MegaminxScrambleMove;
+use numbers::big_endian::write_u8;
+use numbers::big_endian::write_u16;
+use numbers::big_endian::write_u32;
+
+const NOWHERE: Span = Span { offset: 0, size: 0 };
+
+// The fields of a record in order.
+struct Fields {
+    small: u8,
+    first: u16,
+    second: u16,
+    number: u32,
+    other: u32,
+    family: Span,
+    constraints: Span,
+    layer_set: Span,
+}
+
+// Writes r over the first record of out.
+pub fn encode(r: Record, out: &mut [u8])
+    requires { ⌜ packed.RECORD ≤ length (now out) ⌝ }
+    ensures { λ _. ⌜ now (out .exit) ≡ packed.record25 (meaning.head r) ++ drop packed.RECORD (now (out .entry)) ⌝ }
+{
+    put(out, fields_of(r));
+}
+
+fn fields_of(r: Record) -> Fields
+    ensures { λ f. ⌜ meaning.listed f ≡ packed.headFields (meaning.head r) ⌝ }
+{
+    match r {
+        Record::Group {
+            kind,
+            first,
+            multiplier,
+        } => without_parts(group_number(kind), first, 0, multiplier, 0),
+        Record::BinaryGroup {
+            kind,
+            first,
+            second,
+            multiplier,
+        } => without_parts(binary_number(kind), first, second, multiplier, 0),
+        Record::Rotation(x) => rotation_fields(x),
+        Record::Move(x) => move_fields(x),
+        Record::Pause => without_parts(8, 0, 0, 0, 0),
+        Record::UD { u, d } => without_parts(9, 0, 0, u, d),
+        Record::Slash => without_parts(10, 0, 0, 0, 0),
+        Record::Megaminx(k) => without_parts(megaminx_number(k), 0, 0, 0, 0),
+    }
+}
+
+// The fields of a node that names no part of the text.
+fn without_parts(kind: u8, first: u16, second: u16, number: u32, other: u32) -> Fields
+    requires { ⌜ kind < 16 ⌝ }
+    ensures { λ f. ⌜ meaning.listed f ≡ packed.inOrder kind 0 0 0 first second number other packed.nowhere packed.nowhere packed.nowhere ⌝ }
+{
+    Fields {
+        small: kind * 16,
+        first,
+        second,
+        number,
+        other,
+        family: NOWHERE,
+        constraints: NOWHERE,
+        layer_set: NOWHERE,
+    }
+}
+
+fn rotation_fields(x: Rotation) -> Fields
+    ensures { λ f. ⌜ meaning.listed f ≡ packed.headFields (meaning.head (Record.Rotation x)) ⌝ }
+{
+    let c = x.constraints;
+    let family = x.family;
+    Fields {
+        small: 6 * 16 + present(c),
+        first: 0,
+        second: 0,
+        number: x.multiplier,
+        other: 0,
+        family,
+        constraints: or_nowhere(c),
+        layer_set: NOWHERE,
+    }
+}
+
+fn move_fields(x: Move) -> Fields
+    ensures { λ f. ⌜ meaning.listed f ≡ packed.headFields (meaning.head (Record.Move x)) ⌝ }
+{
+    let l = x.layers;
+    let c = x.constraints;
+    let family = x.family;
+    Fields {
+        small: 7 * 16 + x.inverted as u8 * 8 + layer_form(l) * 2 + present(c),
+        first: 0,
+        second: 0,
+        number: x.multiplier,
+        other: low_and_high(l),
+        family,
+        constraints: or_nowhere(c),
+        layer_set: set_part(l),
+    }
+}
+
+fn group_number(k: GroupKind) -> u8
+    ensures { λ r. ⌜ r ≡ packed.groupNumber k ⌝ }
+{
+    match k {
+        GroupKind::Simple => 0,
+        GroupKind::Macro => 1,
+        GroupKind::Simultaneous => 2,
+        GroupKind::Niss => 3,
+    }
+}
+
+fn binary_number(k: BinaryGroupKind) -> u8
+    ensures { λ r. ⌜ r ≡ packed.binaryNumber k ⌝ }
+{
+    match k {
+        BinaryGroupKind::Commutator => 4,
+        BinaryGroupKind::Conjugate => 5,
+    }
+}
+
+fn megaminx_number(k: MegaminxScrambleMove) -> u8
+    ensures { λ r. ⌜ r ≡ packed.megaminxNumber k ⌝ }
+{
+    match k {
+        MegaminxScrambleMove::Rpp => 11,
+        MegaminxScrambleMove::Rmm => 12,
+        MegaminxScrambleMove::Dpp => 13,
+        MegaminxScrambleMove::Dmm => 14,
+    }
+}
+
+fn present(c: SpanOption) -> u8
+    ensures { λ r. ⌜ r ≡ packed.present (meaning.spanOption c) ⌝ }
+{
+    match c {
+        SpanOption::None => 0,
+        SpanOption::Some(_) => 1,
+    }
+}
+
+fn or_nowhere(c: SpanOption) -> Span
+    ensures { λ r. ⌜ meaning.span r ≡ packed.orNowhere (meaning.spanOption c) ⌝ }
+{
+    match c {
+        SpanOption::None => NOWHERE,
+        SpanOption::Some(p) => p,
+    }
+}
+
+fn layer_form(l: LayerPrefixContents) -> u8
+    ensures { λ r. ⌜ r ≡ packed.layerForm (meaning.layers l) ⌝ }
+{
+    match l {
+        LayerPrefixContents::None => 0,
+        LayerPrefixContents::Single(_) => 1,
+        LayerPrefixContents::Range(_, _) => 2,
+        LayerPrefixContents::Set(_) => 3,
+    }
+}
+
+// A single layer is its own low and high.
+fn low_and_high(l: LayerPrefixContents) -> u32
+    ensures { λ r. ⌜ r ≡ packed.lowAndHigh (meaning.layers l) ⌝ }
+{
+    match l {
+        LayerPrefixContents::None => 0,
+        LayerPrefixContents::Single(i) => (i as u32) * 65536 + (i as u32),
+        LayerPrefixContents::Range(i, j) => (i as u32) * 65536 + (j as u32),
+        LayerPrefixContents::Set(_) => 0,
+    }
+}
+
+fn set_part(l: LayerPrefixContents) -> Span
+    ensures { λ r. ⌜ meaning.span r ≡ packed.setPart (meaning.layers l) ⌝ }
+{
+    match l {
+        LayerPrefixContents::None => NOWHERE,
+        LayerPrefixContents::Single(_) => NOWHERE,
+        LayerPrefixContents::Range(_, _) => NOWHERE,
+        LayerPrefixContents::Set(p) => p,
+    }
+}
+
+// Writes the fields over the first record of out.
+fn put(out: &mut [u8], f: Fields)
+    requires { ⌜ packed.RECORD ≤ length (now out) ⌝ }
+    ensures { λ _. ⌜ now (out .exit) ≡ packed.layOut packed.widths (meaning.listed f) ++ drop packed.RECORD (now (out .entry)) ⌝ }
+{
+    let family = f.family;
+    let constraints = f.constraints;
+    let layer_set = f.layer_set;
+    write_u8(out, 0, f.small);
+    write_u16(out, 1, f.first);
+    write_u16(out, 3, f.second);
+    write_u32(out, 5, f.number);
+    write_u32(out, 9, f.other);
+    put_span(out, 13, family);
+    put_span(out, 17, constraints);
+    put_span(out, 21, layer_set);
+}
+
+fn put_span(out: &mut [u8], at: usize, p: Span)
+    requires { ⌜ at + 4 ≤ length (now out) ⌝ }
+    ensures { λ _. ⌜ now (out .exit) ≡ sets (sets (now (out .entry)) at (bigEndian 2 (p .offset))) (at + 2) (bigEndian 2 (p .size)) ⌝ }
+{
+    write_u16(out, at, p.offset);
+    write_u16(out, at + 2, p.size);
+}

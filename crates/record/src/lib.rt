@@ -1,0 +1,9 @@
+// The packed record: one node of a tree in 25 bytes. Its fields are read one by one, or all at once as a `Record`.
+
+pub mod decode;
+pub mod encode;
+pub mod fields;
+pub mod spanned;
+
+// The size of a record in bytes.
+pub const RECORD: usize = 25;
