@@ -32,7 +32,8 @@ use Rattle.laws.proofs.Reached.{
 }
 use Rattle.laws.proofs.InRange.{stepInRange, nodeInRange, bodyInRange, inRange, i32InRange}
 use Rattle.laws.proofs.WellFormedInverses.{inverted-ok, inverted-size, inverted-depth}
-use Rattle.laws.proofs.Packing.{leafFits, nodeFits, bodyFits, treeFits, FitsTree, tree-fits, unpack-pack, packed-well-formed}
+use Rattle.laws.proofs.Fits.{leafFits, nodeFits, bodyFits, treeFits}
+use Rattle.laws.proofs.Packing.{FitsTree, tree-fits, unpack-pack, packed-well-formed}
 use Rattle.laws.proofs.Accepting.{Accepted, accepts, accepted-tree, checks, counts-as, gives}
 use Rattle.laws.proofs.Parens.{parens, parens-depth, parens-unspanned, inverted-parens}
 use Rattle.laws.proofs.Nesting.{reading-parens}
@@ -83,6 +84,7 @@ or-false true b h = absurd (false-true (sym h))
 or-false false b h = (refl, h)
 
 undo-fits : (x : Leaf) → negatable x ≡ true → leafFits x ≡ true → leafFits (undo x) ≡ true
+unfolding leafFits
 undo-fits (rotation f c m) n h = h
 undo-fits (move t l f c m) n h = refl
 undo-fits pause n h = refl
@@ -93,6 +95,7 @@ undo-fits slash n h = refl
 undo-fits (megaminx k) n h = refl
 
 undo-negatable : (x : Leaf) → leafFits x ≡ true → negatable (undo x) ≡ true
+unfolding leafFits
 undo-negatable (rotation f c m) h = refl
 undo-negatable (move t l f c m) h = refl
 undo-negatable pause h = refl

@@ -1,15 +1,27 @@
+-- Small facts.
 pub mod Bools
+-- Unrolling, inverses, counting, seeking.
 pub mod Unrolling
 pub mod Inverses
 pub mod Reached
 pub mod Counting
 pub mod Seeking
-pub mod WellFormedInverses
-pub mod InRange
+-- Packed trees and their inverses.
+pub mod Fits
 pub mod Packing
-pub mod Accepting
+pub mod WellFormedInverses
+-- What reading yields.
+pub mod InRange
+pub mod Readers
+pub mod Runs
+pub mod Braces
+pub mod LayerSets
+pub mod ReadingYields
+-- Nesting of texts and trees.
 pub mod Parens
 pub mod PlainBytes
 pub mod Nesting
 pub mod PrintedNesting
+-- Demand 3.
+pub mod Accepting
 pub mod DemandThree

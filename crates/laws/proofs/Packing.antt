@@ -25,6 +25,7 @@ use Rattle.notation.specs.Packed.{
 use Rattle.record.specs.Range.{FitsSpan, FitsFamily, FitsConstraints, FitsLayers, FitsNumber, FitsLeaf, FitsHead}
 use Rattle.record.proofs.RoundTrip.{length-record25, headAt-record25}
 use Rattle.laws.proofs.Bools.{and-left, and-right, and-both, false-true}
+use Rattle.laws.proofs.Fits.{familyFits, leafFits, nodeFits, bodyFits, treeFits}
 
 -- Trees whose numbers fit their fields.
 unfoldable mutual
@@ -152,41 +153,16 @@ pub unpack-pack : (t : Tree) → FitsTree t → unpack (pack t) ≡ t
 unpack-pack t f = unpackFrom-pack (length (pack t)) t f (omega (arith, length-pack t))
 
 -- A tree in bounds over a text of at most 65,535 bytes fits its records.
-abbrev pub emptyAtStart : Span → Bool
-emptyAtStart p = not (eqb (p .size) 0) || eqb (p .offset) 0
-
--- what is read or unpacked: pair numbers of 32 bits, empty families at offset 0
-abbrev pub leafFits : Leaf → Bool
-leafFits (rotation f c m) = emptyAtStart f
-leafFits (move t l f c m) = true
-leafFits pause = true
-leafFits (pair u d) = fitsBits 32 u && fitsBits 32 d
-leafFits slash = true
-leafFits (megaminx k) = true
-
-unfoldable mutual
-  pub nodeFits : Node Leaf → Bool
-  nodeFits (leaf x) = leafFits x
-  nodeFits (block b m) = bodyFits b
-
-  pub bodyFits : Body Leaf → Bool
-  bodyFits (group k a) = treeFits a
-  bodyFits (binaryGroup k a b) = treeFits a && treeFits b
-
-  pub treeFits : Tree → Bool
-  treeFits nil = true
-  treeFits (cons n l) = nodeFits n && treeFits l
-
 module _ (text : List ℕ) (short : length text ≤ 65535) where
   span-fits : (p : Span) → inside text p ≡ true → FitsSpan p
   span-fits p h =
       let e : p .offset + p .size ≤ length text = leb-true (p .offset + p .size) (length text) h in
       record { offset = omega arith; size = omega arith }
 
-  empty-family : (p : Span) → emptyAtStart p ≡ true → p .size ≡ 0 → p .offset ≡ 0
+  empty-family : (p : Span) → familyFits p ≡ true → p .size ≡ 0 → p .offset ≡ 0
   empty-family p h e = eqb-true (p .offset) 0 (rw e at h)
 
-  family-fits : (p : Span) (n : ℕ) → familyOk text n p ≡ true → emptyAtStart p ≡ true → FitsFamily p
+  family-fits : (p : Span) (n : ℕ) → familyOk text n p ≡ true → familyFits p ≡ true → FitsFamily p
   family-fits p n h e = record { span = span-fits p (and-left _ _ (and-left _ _ h)); empty = empty-family p e }
 
   named-fits : (p : Span) → familyOk text 1 p ≡ true → FitsFamily p
@@ -214,7 +190,7 @@ module _ (text : List ℕ) (short : length text ≤ 65535) where
       lt-ltb n 2147483648 (omega arith)
 
   leaf-fits : (x : Leaf) → leafOk text x ≡ true → leafFits x ≡ true → FitsLeaf x
-  unfolding leafOk
+  unfolding leafOk leafFits
   leaf-fits (rotation f c m) h e =
       (family-fits f 0 (and-left _ _ (and-left _ _ h)) e, constraints-fit c (and-right (familyOk text 0 f) _ (and-left _ _ h)),
         number-fits m (and-right (familyOk text 0 f && constraintsOk text c) _ h))
