@@ -10,6 +10,7 @@ pub mod Seeking
 pub mod Fits
 pub mod Packing
 pub mod WellFormedInverses
+pub mod Walking
 -- What reading yields.
 pub mod InRange
 pub mod Readers
