@@ -35,6 +35,8 @@ use Rattle.laws.proofs.WellFormedInverses.{inverted-ok, inverted-size, 
 use Rattle.laws.proofs.Fits.{leafFits, nodeFits, bodyFits, treeFits}
 use Rattle.laws.proofs.Packing.{FitsTree, tree-fits, unpack-pack, packed-well-formed}
 use Rattle.laws.proofs.Accepting.{Accepted, accepts, accepted-tree, checks, counts-as, gives}
+use Rattle.laws.proofs.ReadingYields.{reading-in-range, reading-ok, reading-size, reading-fits}
+use Rattle.laws.proofs.ReadBack.{reads-back, printed-utf8}
 use Rattle.laws.proofs.Parens.{parens, parens-depth, parens-unspanned, inverted-parens}
 use Rattle.laws.proofs.Nesting.{reading-parens}
 use Rattle.laws.proofs.PrintedNesting.{printed-nesting}
@@ -241,155 +243,147 @@ tidy-checks : {f : Features} {text : List ℕ} {t : Tree} → Tidy f text t → 
 tidy-checks {text = text} {t = t} p =
     checks text (pack t) t (p .accepted .short) (p .accepted .isUtf8) (tidy-well-formed p) (unpack-pack t (tidy-fits p))
 
-module _
-  (reads-back : (f : Features) (u : NodeList Step) → inRange f u ≡ true → (t : Tree) × (notation f (putNodes u []) ≡ some t) × (unspanned (putNodes u []) t ≡ u))
-  (printed-utf8 : (f : Features) (u : NodeList Step) → inRange f u ≡ true → utf8 (putNodes u []) ≡ true)
-  (reading-in-range : (f : Features) (text : List ℕ) (t : Tree) → notation f text ≡ some t → inRange f (unspanned text t) ≡ true)
-  (reading-ok : (f : Features) (text : List ℕ) (t : Tree) → notation f text ≡ some t → treeOk text t ≡ true)
-  (reading-size : (f : Features) (text : List ℕ) (t : Tree) → notation f text ≡ some t → size t ≤ length text)
-  (reading-fits : (f : Features) (text : List ℕ) (t : Tree) → notation f text ≡ some t → treeFits t ≡ true)
-  where
+pub tidy : (f : Features) (text : List ℕ) (t : Tree) → Accepted f text t → Tidy f text t
+tidy f text t a =
+    let z = reading-size f text t (a .reads) in
+    let s = a .short in
+    record {
+      accepted = a;
+      inBounds = reading-ok f text t (a .reads);
+      fits = reading-fits f text t (a .reads);
+      small = omega arith;
+      ranged = reading-in-range f text t (a .reads);
+      nested = reading-parens f text t (a .reads) (a .nests)
+    }
 
-  pub tidy : (f : Features) (text : List ℕ) (t : Tree) → Accepted f text t → Tidy f text t
-  tidy f text t a =
-      let z = reading-size f text t (a .reads) in
-      let s = a .short in
+module _ (f : Features) (text : List ℕ) (t : Tree) (list : List Leaf) (p : Tidy f text t)
+  (unrolls : flatten t ≡ result list) (few : length list ≤ MAX-STEPS) (can-undo : every negatable list ≡ true) where
+
+  is-clean : clean t ≡ true
+  is-clean = unrollable-clean t list unrolls can-undo
+
+  -- the inverse and its printed text
+  text′ : List ℕ
+  text′ = printed text (inverted t)
+
+  inverse-is : inverse text (pack t) ≡ result (pack (inverted t))
+  inverse-is = rw (tidy-checks p, inverse-accepted t is-clean)
+
+  inverted-checks : checked text (pack (inverted t)) ≡ result (inverted t)
+  inverted-checks =
+      let z : size (inverted t) < 65536 = (let e = inverted-size t in let s = p .small in omega arith) in
+      let fit = tree-fits text (p .accepted .short) (inverted t) (inverted-ok text t (p .inBounds)) (inverted-fits t is-clean (p .fits)) z in
+      let d = inverted-depth t in let q = parens-depth t in let n = p .nested in
+      checks text (pack (inverted t)) (inverted t) (p .accepted .short) (p .accepted .isUtf8)
+      (packed-well-formed text (inverted t) fit (inverted-ok text t (p .inBounds)) (omega arith)) (unpack-pack (inverted t) fit)
+
+  display-is : display text (pack (inverted t)) ≡ result text′
+  unfolding text′
+  display-is = rw inverted-checks
+
+  u′ : NodeList Step
+  u′ = unspanned text (inverted t)
+
+  in-range′ : inRange f u′ ≡ true
+  unfolding u′
+  in-range′ = inverted-in-range f text t is-clean (p .ranged)
+
+  back : (t″ : Tree) × (notation f text′ ≡ some t″) × (unspanned text′ t″ ≡ u′)
+  unfolding text′ u′
+  back = reads-back f u′ in-range′
+
+  back-tidy : length text′ ≤ MAX-TEXT → Tidy f text′ (back .0)
+  unfolding text′ u′
+  back-tidy l =
+      tidy f text′ (back .0)
+      (record {
+        short = l;
+        isUtf8 = printed-utf8 f u′ in-range′;
+        nests = printed-nesting f u′ in-range′ (let e = parens-unspanned (inverted t) text in let i = inverted-parens t in let n = p .nested in omega arith);
+        reads = back .1
+      })
+
+  list′ : List Leaf
+  list′ = flat undo false (back .0)
+
+  back-clean : clean (back .0) ≡ true
+  unfolding u′
+  back-clean =
+      sym (clean-map (stepOf text′) negatable negatable (step-negatable text′) (back .0))
+      ∙ ap (cleanNodes negatable) (back .2)
+      ∙ clean-map (stepOf text) negatable negatable (step-negatable text) (inverted t)
+      ∙ inverted-clean t is-clean (p .fits)
+
+  back-unrolls : flatten (back .0) ≡ result list′
+  unfolding list′
+  back-unrolls = flatten-is (back .0) false ∙ ap (λ (r : Option ℕ). verdict r (flat undo false (back .0))) (clean-walks (back .0) false back-clean)
+
+  -- the two unrolled lists, step for step
+  same-steps : map (stepOf text′) list′ ≡ map (stepOf text) (backwards list)
+  unfolding list′ u′
+  same-steps =
+      sym (flat-map (back .0) (stepOf text′) undo undo (step-undo text′) false)
+      ∙ ap (flat undo false) (back .2)
+      ∙ flat-map (inverted t) (stepOf text) undo undo (step-undo text) false
+      ∙ ap (map (stepOf text)) (inverse-unrolls t ∙ ap backwards (unrolled-list t list unrolls .1))
+
+  same-length : length list′ ≡ length list
+  same-length =
+      sym (length-map list′ (stepOf text′)) ∙ ap length same-steps ∙ length-map (backwards list) (stepOf text)
+      ∙ length-reverse (map undo list) ∙ length-map list undo
+
+  found : (k : ℕ) (x : Leaf) → getElem? list k ≡ some x → getElem? (map (stepOf text′) list′) (length list - suc k) ≡ some (stepOf text (undo x))
+  found k x h =
+      ap (λ l. getElem? l (length list - suc k)) same-steps
+      ∙ get-map (stepOf text) (backwards list) (length list - suc k) (undo x)
+        (ap (λ (n : ℕ). getElem? (backwards list) (n - suc k)) (sym (length-map list undo))
+        ∙ get-reverse (map undo list) k (undo x) (get-map undo list k x h))
+
+  steps-here : steps text (pack t) ≡ result list
+  steps-here = counts-as text (pack t) t list (tidy-checks p) unrolls few
+
+  steps-back : length text′ ≤ MAX-TEXT → steps text′ (pack (back .0)) ≡ result list′
+  steps-back l =
+      counts-as text′ (pack (back .0)) (back .0) list′ (tidy-checks (back-tidy l)) back-unrolls (let e = same-length in omega arith)
+
+  step-at : (text tree : List ℕ) (list : List Leaf) (k : ℕ) (x : Leaf) → steps text tree ≡ result list → getElem? list k ≡ some x → stepAt text tree k ≡ result (leafRecord x)
+  step-at text tree list k x s h = rw (s, h)
+
+  agrees : length text′ ≤ MAX-TEXT → Agrees f text (pack t) list text′
+  agrees l =
       record {
-        accepted = a;
-        inBounds = reading-ok f text t (a .reads);
-        fits = reading-fits f text t (a .reads);
-        small = omega arith;
-        ranged = reading-in-range f text t (a .reads);
-        nested = reading-parens f text t (a .reads) (a .nests)
+        tree′ = pack (back .0);
+        list′ = list′;
+        readBack = gives (reading f text′) (pack (back .0)) (accepts f text′ (back .0) (back-tidy l .accepted));
+        unrollsBack = ap flatten (unpack-pack (back .0) (tidy-fits (back-tidy l))) ∙ back-unrolls;
+        count = ap (λ s. _>>=_ s (λ l. result (length l))) steps-here;
+        countBack = ap (λ s. _>>=_ s (λ l. result (length l))) (steps-back l) ∙ ap result same-length;
+        seek = λ k x h. gives (stepAt text (pack t) k) (leafRecord x) (step-at text (pack t) list k x steps-here h);
+        seekBack = λ k x h.
+          let y = get-of-map (stepOf text′) list′ (length list - suc k) (stepOf text (undo x)) (found k x h) in
+          (y .0, y .1, gives (stepAt text′ (pack (back .0)) (length list - suc k)) (leafRecord (y .0)) (step-at text′ (pack (back .0)) list′ (length list - suc k) (y .0) (steps-back l) (y .1)), y .2)
       }
 
-  module _ (f : Features) (text : List ℕ) (t : Tree) (list : List Leaf) (p : Tidy f text t)
-    (unrolls : flatten t ≡ result list) (few : length list ≤ MAX-STEPS) (can-undo : every negatable list ≡ true) where
+from-accepted : (f : Features) (text tree : List ℕ) (list : List Leaf) → Unrollable f text tree list →
+    (a : (t : Tree) × Accepted f text t × (pack t ≡ tree)) → Demand3 f text tree list
+from-accepted f text tree list u a =
+    subst (λ (b : List ℕ). Demand3 f text b list) (a .2)
+    (record {
+      reads = gives (reading f text) (pack t) (accepts f text t (a .1));
+      inverted = pack (inverted t);
+      inverts = gives (inverse text (pack t)) (pack (inverted t)) (inverse-is f text t list p unrolls (u .countable) (u .negatable));
+      text′ = text′ f text t list p unrolls (u .countable) (u .negatable);
+      prints = gives (display text (pack (inverted t))) _ (display-is f text t list p unrolls (u .countable) (u .negatable));
+      agrees = agrees f text t list p unrolls (u .countable) (u .negatable)
+    })
+  where
+    t : Tree
+    t = a .0
+    p : Tidy f text t
+    p = tidy f text t (a .1)
+    unrolls : flatten t ≡ result list
+    unrolls = ap flatten (sym (ap unpack (sym (a .2)) ∙ unpack-pack t (tidy-fits p))) ∙ u .unrolls
 
-    is-clean : clean t ≡ true
-    is-clean = unrollable-clean t list unrolls can-undo
-
-    -- the inverse and its printed text
-    text′ : List ℕ
-    text′ = printed text (inverted t)
-
-    inverse-is : inverse text (pack t) ≡ result (pack (inverted t))
-    inverse-is = rw (tidy-checks p, inverse-accepted t is-clean)
-
-    inverted-checks : checked text (pack (inverted t)) ≡ result (inverted t)
-    inverted-checks =
-        let z : size (inverted t) < 65536 = (let e = inverted-size t in let s = p .small in omega arith) in
-        let fit = tree-fits text (p .accepted .short) (inverted t) (inverted-ok text t (p .inBounds)) (inverted-fits t is-clean (p .fits)) z in
-        let d = inverted-depth t in let q = parens-depth t in let n = p .nested in
-        checks text (pack (inverted t)) (inverted t) (p .accepted .short) (p .accepted .isUtf8)
-        (packed-well-formed text (inverted t) fit (inverted-ok text t (p .inBounds)) (omega arith)) (unpack-pack (inverted t) fit)
-
-    display-is : display text (pack (inverted t)) ≡ result text′
-    unfolding text′
-    display-is = rw inverted-checks
-
-    u′ : NodeList Step
-    u′ = unspanned text (inverted t)
-
-    in-range′ : inRange f u′ ≡ true
-    unfolding u′
-    in-range′ = inverted-in-range f text t is-clean (p .ranged)
-
-    back : (t″ : Tree) × (notation f text′ ≡ some t″) × (unspanned text′ t″ ≡ u′)
-    unfolding text′ u′
-    back = reads-back f u′ in-range′
-
-    back-tidy : length text′ ≤ MAX-TEXT → Tidy f text′ (back .0)
-    unfolding text′ u′
-    back-tidy l =
-        tidy f text′ (back .0)
-        (record {
-          short = l;
-          isUtf8 = printed-utf8 f u′ in-range′;
-          nests = printed-nesting f u′ in-range′ (let e = parens-unspanned (inverted t) text in let i = inverted-parens t in let n = p .nested in omega arith);
-          reads = back .1
-        })
-
-    list′ : List Leaf
-    list′ = flat undo false (back .0)
-
-    back-clean : clean (back .0) ≡ true
-    unfolding u′
-    back-clean =
-        sym (clean-map (stepOf text′) negatable negatable (step-negatable text′) (back .0))
-        ∙ ap (cleanNodes negatable) (back .2)
-        ∙ clean-map (stepOf text) negatable negatable (step-negatable text) (inverted t)
-        ∙ inverted-clean t is-clean (p .fits)
-
-    back-unrolls : flatten (back .0) ≡ result list′
-    unfolding list′
-    back-unrolls = flatten-is (back .0) false ∙ ap (λ (r : Option ℕ). verdict r (flat undo false (back .0))) (clean-walks (back .0) false back-clean)
-
-    -- the two unrolled lists, step for step
-    same-steps : map (stepOf text′) list′ ≡ map (stepOf text) (backwards list)
-    unfolding list′ u′
-    same-steps =
-        sym (flat-map (back .0) (stepOf text′) undo undo (step-undo text′) false)
-        ∙ ap (flat undo false) (back .2)
-        ∙ flat-map (inverted t) (stepOf text) undo undo (step-undo text) false
-        ∙ ap (map (stepOf text)) (inverse-unrolls t ∙ ap backwards (unrolled-list t list unrolls .1))
-
-    same-length : length list′ ≡ length list
-    same-length =
-        sym (length-map list′ (stepOf text′)) ∙ ap length same-steps ∙ length-map (backwards list) (stepOf text)
-        ∙ length-reverse (map undo list) ∙ length-map list undo
-
-    found : (k : ℕ) (x : Leaf) → getElem? list k ≡ some x → getElem? (map (stepOf text′) list′) (length list - suc k) ≡ some (stepOf text (undo x))
-    found k x h =
-        ap (λ l. getElem? l (length list - suc k)) same-steps
-        ∙ get-map (stepOf text) (backwards list) (length list - suc k) (undo x)
-          (ap (λ (n : ℕ). getElem? (backwards list) (n - suc k)) (sym (length-map list undo))
-          ∙ get-reverse (map undo list) k (undo x) (get-map undo list k x h))
-
-    steps-here : steps text (pack t) ≡ result list
-    steps-here = counts-as text (pack t) t list (tidy-checks p) unrolls few
-
-    steps-back : length text′ ≤ MAX-TEXT → steps text′ (pack (back .0)) ≡ result list′
-    steps-back l =
-        counts-as text′ (pack (back .0)) (back .0) list′ (tidy-checks (back-tidy l)) back-unrolls (let e = same-length in omega arith)
-
-    step-at : (text tree : List ℕ) (list : List Leaf) (k : ℕ) (x : Leaf) → steps text tree ≡ result list → getElem? list k ≡ some x → stepAt text tree k ≡ result (leafRecord x)
-    step-at text tree list k x s h = rw (s, h)
-
-    agrees : length text′ ≤ MAX-TEXT → Agrees f text (pack t) list text′
-    agrees l =
-        record {
-          tree′ = pack (back .0);
-          list′ = list′;
-          readBack = gives (reading f text′) (pack (back .0)) (accepts f text′ (back .0) (back-tidy l .accepted));
-          unrollsBack = ap flatten (unpack-pack (back .0) (tidy-fits (back-tidy l))) ∙ back-unrolls;
-          count = ap (λ s. _>>=_ s (λ l. result (length l))) steps-here;
-          countBack = ap (λ s. _>>=_ s (λ l. result (length l))) (steps-back l) ∙ ap result same-length;
-          seek = λ k x h. gives (stepAt text (pack t) k) (leafRecord x) (step-at text (pack t) list k x steps-here h);
-          seekBack = λ k x h.
-            let y = get-of-map (stepOf text′) list′ (length list - suc k) (stepOf text (undo x)) (found k x h) in
-            (y .0, y .1, gives (stepAt text′ (pack (back .0)) (length list - suc k)) (leafRecord (y .0)) (step-at text′ (pack (back .0)) list′ (length list - suc k) (y .0) (steps-back l) (y .1)), y .2)
-        }
-
-  from-accepted : (f : Features) (text tree : List ℕ) (list : List Leaf) → Unrollable f text tree list →
-      (a : (t : Tree) × Accepted f text t × (pack t ≡ tree)) → Demand3 f text tree list
-  from-accepted f text tree list u a =
-      subst (λ (b : List ℕ). Demand3 f text b list) (a .2)
-      (record {
-        reads = gives (reading f text) (pack t) (accepts f text t (a .1));
-        inverted = pack (inverted t);
-        inverts = gives (inverse text (pack t)) (pack (inverted t)) (inverse-is f text t list p unrolls (u .countable) (u .negatable));
-        text′ = text′ f text t list p unrolls (u .countable) (u .negatable);
-        prints = gives (display text (pack (inverted t))) _ (display-is f text t list p unrolls (u .countable) (u .negatable));
-        agrees = agrees f text t list p unrolls (u .countable) (u .negatable)
-      })
-    where
-      t : Tree
-      t = a .0
-      p : Tidy f text t
-      p = tidy f text t (a .1)
-      unrolls : flatten t ≡ result list
-      unrolls = ap flatten (sym (ap unpack (sym (a .2)) ∙ unpack-pack t (tidy-fits p))) ∙ u .unrolls
-
-  pub theorem : demand3
-  theorem f text tree list u = from-accepted f text tree list u (accepted-tree f text tree (u .accepted))
+-- demand 3
+pub theorem : demand3
+theorem f text tree list u = from-accepted f text tree list u (accepted-tree f text tree (u .accepted))

@@ -23,6 +23,8 @@ pub mod Parens
 pub mod PlainBytes
 pub mod Nesting
 pub mod PrintedNesting
+-- Printing and reading back.
+pub mod ReadBack
 -- Demand 3.
 pub mod Accepting
 pub mod DemandThree
