@@ -1,5 +1,7 @@
 -- The seven features and the named settings (lib.rs).
-use mathlib.Core.Bool.{true, false}
+use Prim.Native.Nat.{ℕ, _/_, _%_}
+use mathlib.Core.Bool.{Bool, true, false}
+use lib.Dec.{eqb}
 use Rattle.notation.specs.declared.features.LayerFeatures.{LayerFeatures}
 use Rattle.notation.specs.declared.features.Features.{Features}
 
@@ -17,3 +19,18 @@ WCA = record { layers = SIMPLE; «generalized_rotations» = false; «transform_c
 
 abbrev pub MAXIMAL : Features
 MAXIMAL = record { layers = HYPERCUBING; «generalized_rotations» = true; «transform_constraints» = true; megaminx = true; sq1 = true }
+
+-- the features as bits of a number, for callers in other languages: bit 0 is `inverted_layers`, and so on in the order of the fields;
+-- higher bits are ignored
+abbrev pub isSet : ℕ → Bool
+isSet n = eqb (n % 2) 1
+
+abbrev pub ofBits : ℕ → Features
+ofBits n =
+    record {
+      layers = record { «inverted_layers» = isSet n; «layer_sets» = isSet (n / 2); «hsc1_layer_ranges» = isSet (n / 4) };
+      «generalized_rotations» = isSet (n / 8);
+      «transform_constraints» = isSet (n / 16);
+      megaminx = isSet (n / 32);
+      sq1 = isSet (n / 64)
+    }

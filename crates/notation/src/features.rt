@@ -79,3 +79,21 @@ pub fn maximal() -> Features
 {
     Features::MAXIMAL
 }
+
+// The features that the low seven bits name; higher bits are ignored.
+pub fn from_bits(bits: u32) -> Features
+    ensures { λ r. ⌜ r ≡ rule.ofBits bits ⌝ }
+{
+    let layers = LayerFeatures {
+        inverted_layers: bits % 2 == 1,
+        layer_sets: bits / 2 % 2 == 1,
+        hsc1_layer_ranges: bits / 4 % 2 == 1,
+    };
+    Features {
+        layers,
+        generalized_rotations: bits / 8 % 2 == 1,
+        transform_constraints: bits / 16 % 2 == 1,
+        megaminx: bits / 32 % 2 == 1,
+        sq1: bits / 64 % 2 == 1,
+    }
+}
