@@ -1,0 +1,17 @@
+#!/usr/bin/env bash
+# Builds the Rust oracle out of the published files of hypuz_notation and the stubs beside this script, below target/oracle.
+# Usage: build.sh SRC, the folder that holds crates/hypuz_notation/src
+set -euo pipefail
+here=$(cd "$(dirname "$0")" && pwd)
+src=${1:?the folder of the published Rust}/crates/hypuz_notation/src
+out=$here/../../target/oracle
+rm -rf "$out/src" && mkdir -p "$out/src/layer"
+cp "$src"/{common,expand,invert,unspanned}.rs "$out/src/"
+# `bool::toggle` is newer than this Rust; the only line changed in a carried file (`!prefix`, which nothing here calls).
+sed -i 's/self\.invert\.toggle();/self.invert = !self.invert;/' "$out/src/unspanned.rs"
+cp "$src"/layer/{count,range,signed,unsigned}.rs "$out/src/layer/"
+cp "$here"/stubs/{lib,spanned,layer}.rs "$out/src/"
+cp "$here/main.rs" "$out/src/"
+cp -r "$here/stubs/thiserror" "$here/Cargo.toml" "$out/"
+cargo build --offline --release --quiet --manifest-path "$out/Cargo.toml"
+echo "$out/target/release/oracle"
