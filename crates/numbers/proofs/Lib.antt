@@ -3,3 +3,4 @@ pub mod Positional
 pub mod BigEndian
 pub mod TwosComplement
 pub mod DigitRuns
+pub mod Bounds

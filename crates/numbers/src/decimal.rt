@@ -4,7 +4,9 @@ ghost use Prim.Native.Nat.{ℕ, _+_, _*_, _≤_, _<_, min};
 ghost use lib.ListN.{length, take, drop};
 ghost use Rattle.notation.specs.Numbers.{digitRun, decimal};
 ghost use Rattle.notation.specs.Grammar as rule;
-ghost use Rattle.numbers.specs.Decimal.{uintReading};
+ghost use lib.IntN.{pos, negℤ};
+ghost use Rattle.numbers.specs.Decimal.{uintReading, sintReading};
+use crate::signed::negate;
 
 // A number and the offset after it.
 pub enum Unsigned {
@@ -74,4 +76,31 @@ pub fn uint(s: &[u8], at: usize, low: u32, high: u32) -> Unsigned
         return Unsigned::Nothing;
     }
     Unsigned::Took(found.value as u32, end)
+}
+
+// The number after the `-` at `at`.
+fn negative(s: &[u8], at: usize, low: u32, high: u32) -> Signed
+    requires { ⌜ (at < length (now s)) × (high ≤ 2147483648) ⌝ }
+    ensures { λ r. ⌜ sintReading (now (s .entry)) r ≡ rule.andThen (rule.uint low high (at + 1) (drop (at + 1) (now (s .entry)))) (λ n. rule.done (negℤ (pos n))) ⌝ }
+{
+    let Unsigned::Took(value, end) = uint(s, at + 1, low, high) else {
+        return Signed::Nothing;
+    };
+    Signed::Took(negate(value), end)
+}
+
+// With `-` or without, and a bound for each.
+pub fn sint(s: &[u8], at: usize, low: u32, high: u32, high_negative: u32) -> Signed
+    requires { ⌜ (at ≤ length (now s)) × (high < 2147483648) × («high_negative» ≤ 2147483648) ⌝ }
+    ensures { λ r. ⌜ sintReading (now (s .entry)) r ≡ rule.sint low high «high_negative» at (drop at (now (s .entry))) ⌝ }
+{
+    if at < s.len() {
+        if s[at] == b'-' {
+            return negative(s, at, low, high_negative);
+        }
+    }
+    let Unsigned::Took(value, end) = uint(s, at, low, high) else {
+        return Signed::Nothing;
+    };
+    Signed::Took(value, end)
 }

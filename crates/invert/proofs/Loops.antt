@@ -1,0 +1,189 @@
+-- The two loops over a packed list: one writes what each node gives from the end, one keeps the last refusal. Each invariant is kept
+-- by a turn, whatever the nodes are inverted to or refused for. Assumes nothing.
+use Prim.Native.Nat.{ℕ, _+_, _-_, _≤_}
+use mathlib.Core.Path.{_≡_, refl, sym, ap, ap₂, _∙_}
+use mathlib.Core.List.{List, [], _++_, append-nil, append-assoc}
+use mathlib.Core.Option.{Option, none, some}
+use native.Mathlib.Omega.{arith}
+use lib.ListN.{length, take, drop, length-append, length-drop}
+use lib.Seq.{take-all, take-at, drop-length, drop-at, drop-drop, length-take-le}
+use Rattle.notation.specs.Tree.{Leaf, Node, leaf, block, group, binaryGroup, nil, cons, append, Tree}
+use Rattle.notation.specs.Packed.{packNode, pack, unpack, headAt}
+use Rattle.laws.proofs.Unrolling.{first}
+use Rattle.laws.proofs.Inverses.{inverted, invRefusal, deeply, deepRefusal}
+use Rattle.laws.proofs.Walking.{Packed, Step, no-node, nodeHead}
+use Rattle.invert.specs.Nodes.{over, headRefusal}
+
+pub pack-append : (a b : Tree) → pack (append a b) ≡ pack a ++ pack b
+unfolding pack append
+pack-append nil b = refl
+pack-append (cons n a) b = ap (λ (s : List ℕ). packNode n ++ s) (pack-append a b) ∙ sym (append-assoc (packNode n) (pack a) (pack b))
+
+-- An inverse: the last node's comes first.
+pub record Reverses (f : Tree → Tree) : Type 0 where
+  pub empty : f nil ≡ nil
+  pub more : (n : Node Leaf) (l : Tree) → f (cons n l) ≡ append (f l) (f (cons n nil))
+
+pub inverted-reverses : Reverses inverted
+unfolding inverted append
+inverted-reverses = record { empty = refl; more = λ n l. refl }
+
+pub deeply-reverses : Reverses deeply
+unfolding deeply append
+deeply-reverses = record { empty = refl; more = λ n l. refl }
+
+-- A list with its elements from a to e written anew, as a part that was lent gives it back.
+abbrev pub putPart : ℕ → ℕ → List ℕ → List ℕ → List ℕ
+putPart a e out new = take a out ++ (new ++ drop (e - a) (drop a out))
+
+pub length-putPart : (a e : ℕ) (out new : List ℕ) → a ≤ e → e ≤ length out → length new ≡ e - a → length (putPart a e out new) ≡ length out
+length-putPart a e out new h k n =
+    length-append (take a out) (new ++ drop (e - a) (drop a out))
+    ∙ omega (arith, length-take-le a out (omega arith), length-append new (drop (e - a) (drop a out)), length-drop (e - a) (drop a out), length-drop a out)
+
+pub drop-putPart : (a e : ℕ) (out new : List ℕ) → a ≤ e → e ≤ length out → drop a (putPart a e out new) ≡ new ++ drop e out
+drop-putPart a e out new h k =
+    let z : a + (e - a) ≡ e = omega arith in
+    drop-at (take a out) (new ++ drop (e - a) (drop a out)) a (length-take-le a out (omega arith))
+    ∙ ap (λ (s : List ℕ). new ++ s) (drop-drop (e - a) a out ∙ ap (λ (k : ℕ). drop k out) z)
+
+-- the last part written anew
+pub put-last : (k : ℕ) (out new : List ℕ) → k ≤ length out → putPart k (length out) out new ≡ take k out ++ new
+put-last k out new h =
+    let end : k + (length out - k) ≡ length out = omega arith in
+    ap (λ (s : List ℕ). take k out ++ (new ++ s)) (drop-drop (length out - k) k out ∙ ap (λ (n : ℕ). drop n out) end ∙ drop-length out)
+    ∙ ap (λ (s : List ℕ). take k out ++ s) (append-nil new)
+
+-- a list written in two parts, the first m long
+pub two-parts : (out a b : List ℕ) (m : ℕ) → length a ≡ m → putPart m (length (a ++ drop m out)) (a ++ drop m out) b ≡ a ++ b
+two-parts out a b m e =
+    put-last m (a ++ drop m out) b (omega (arith, length-append a (drop m out)))
+    ∙ ap (λ (s : List ℕ). s ++ b) (take-at a (drop m out) m e)
+
+-- two parts of the same length
+pub same-length-parts : (l l′ : List ℕ) (a e a′ e′ : ℕ) → e ≤ length l → e′ ≤ length l′ → e - a ≡ e′ - a′
+    → length (take (e - a) (drop a l)) ≡ length (take (e′ - a′) (drop a′ l′))
+same-length-parts l l′ a e a′ e′ h h′ k =
+    length-take-le (e - a) (drop a l) (omega (arith, length-drop a l))
+    ∙ k
+    ∙ sym (length-take-le (e′ - a′) (drop a′ l′) (omega (arith, length-drop a′ l′)))
+
+-- the part that is left is taken to the list's end
+pub rest-is : (e : ℕ) (t : List ℕ) → take (length t - e) (drop e t) ≡ drop e t
+rest-is e t = take-all (length t - e) (drop e t) (omega (arith, length-drop e t))
+
+-- t is what is left of tree, and out holds what is done from `at` on.
+pub record Wrote (f : Tree → Tree) (tree t : List ℕ) (at : ℕ) (out : List ℕ) : Type 0 where
+  pub packed : Packed t
+  pub short : length t ≤ length tree
+  pub place : at ≡ length t
+  pub long : length out ≡ length tree
+  pub done : pack (f (unpack t)) ++ drop at out ≡ pack (f (unpack tree))
+
+pub wrote-none : (f : Tree → Tree) (tree out : List ℕ) → Packed tree → length out ≡ length tree → Wrote f tree tree (length out) out
+wrote-none f tree out p e =
+    record {
+      packed = p;
+      short = omega arith;
+      place = e;
+      long = e;
+      done = ap (λ (s : List ℕ). pack (f (unpack tree)) ++ s) (drop-length out) ∙ append-nil (pack (f (unpack tree)));
+    }
+
+-- a node's place in out is as long as the node
+pub node-room : {f : Tree → Tree} {tree t : List ℕ} {at : ℕ} {out : List ℕ} {n : Node Leaf} {l : Tree} {e : ℕ} → Wrote f tree t at out → Step t n l e
+    → length (take (at - (at - e)) (drop (at - e) out)) ≡ length (take e t)
+node-room {f} {tree} {t} {at} {out} {n} {l} {e} w s =
+    let z : length (drop (at - e) out) ≡ length out - (at - e) = length-drop (at - e) out in
+    length-take-le (at - (at - e)) (drop (at - e) out) (omega (arith, w .place, w .short, w .long, s .most))
+    ∙ omega (arith, w .place, s .most)
+    ∙ sym (length-take-le e t (s .most))
+
+pub step-count : {t : List ℕ} {n : Node Leaf} {l : Tree} {e : ℕ} → Step t n l e → e ≡ length (take e t)
+step-count {t} {n} {l} {e} s = sym (length-take-le e t (s .most))
+
+pub wrote-more : {f : Tree → Tree} {tree t : List ℕ} {at : ℕ} {out : List ℕ} {n : Node Leaf} {l : Tree} {e : ℕ} → Reverses f → Wrote f tree t at out → Step t n l e
+    → (new : List ℕ) → length new ≡ length (take (at - (at - e)) (drop (at - e) out)) → new ≡ pack (f (unpack (take e t)))
+    → Wrote f tree (take (length t - e) (drop e t)) (at - e) (putPart (at - e) at out new)
+wrote-more {f} {tree} {t} {at} {out} {n} {l} {e} r w s new h q =
+    let z : length (drop e t) ≡ length t - e = length-drop e t in
+    let rest : take (length t - e) (drop e t) ≡ drop e t = rest-is e t in
+    record {
+      packed = rw rest (s .packedBack);
+      short = rw rest (omega (arith, w .short));
+      place = rw rest (omega (arith, w .place));
+      long = length-putPart (at - e) at out new (omega arith) (omega (arith, w .place, w .short, w .long)) (h ∙ node-room w s ∙ length-take-le e t (s .most) ∙ omega (arith, w .place, s .most)) ∙ w .long;
+      done =
+          ap₂ (λ (x : Tree) (y : List ℕ). pack (f x) ++ y) (ap unpack rest ∙ s .unpacksBack) (drop-putPart (at - e) at out new (omega arith) (omega (arith, w .place, w .short, w .long)))
+          ∙ sym (append-assoc (pack (f l)) new (drop at out))
+          ∙ ap (λ (y : List ℕ). y ++ drop at out)
+          (ap (λ (y : List ℕ). pack (f l) ++ y) (q ∙ ap (λ (x : Tree). pack (f x)) (s .unpacksFront))
+          ∙ sym (pack-append (f l) (f (cons n nil)))
+          ∙ sym (ap pack (r .more n l))
+          ∙ sym (ap (λ (x : Tree). pack (f x)) (s .unpacks)))
+          ∙ w .done;
+    }
+
+pub wrote-all : (f : Tree → Tree) (tree t : List ℕ) (at : ℕ) (out : List ℕ) → Reverses f → Wrote f tree t at out → length t ≤ 0 → out ≡ pack (f (unpack tree))
+unfolding pack
+wrote-all f tree t at out r w h =
+    let none : length t ≡ 0 = omega arith in
+    let z : at ≡ 0 = w .place ∙ none in
+    let front : pack (f (unpack t)) ≡ [] = ap (λ (x : Tree). pack (f x)) (no-node t (w .packed) none) ∙ ap pack (r .empty) in
+    sym (ap (λ (k : ℕ). drop k out) z) ∙ sym (ap (λ (s : List ℕ). s ++ drop at out) front) ∙ w .done
+
+-- What a list is refused for: a later node's refusal before an earlier one's.
+pub record Latest (g : Tree → Option ℕ) : Type 0 where
+  pub empty : g nil ≡ none
+  pub more : (n : Node Leaf) (l : Tree) → g (cons n l) ≡ first (g l) (g (cons n nil))
+
+pub inv-latest : Latest invRefusal
+unfolding invRefusal
+inv-latest = record { empty = refl; more = λ n l. refl }
+
+pub deep-latest : Latest deepRefusal
+unfolding deepRefusal
+deep-latest = record { empty = refl; more = λ n l. refl }
+
+over-first : (r q : Option ℕ) (k : ℕ) → over (first r q) k ≡ over r (over q k)
+over-first none q k = refl
+over-first (some r) q k = refl
+
+-- t is what is left of tree, and found what its nodes so far are refused for, or what was found before
+pub record Looked (g : Tree → Option ℕ) (tree t : List ℕ) (before found : ℕ) : Type 0 where
+  pub packed : Packed t
+  pub short : length t ≤ length tree
+  pub done : over (g (unpack t)) found ≡ over (g (unpack tree)) before
+
+pub looked-none : (g : Tree → Option ℕ) (tree : List ℕ) (before : ℕ) → Packed tree → Looked g tree tree before before
+looked-none g tree before p = record { packed = p; short = omega arith; done = refl }
+
+pub looked-more : {g : Tree → Option ℕ} {tree t : List ℕ} {before found : ℕ} {n : Node Leaf} {l : Tree} {e : ℕ} → Latest g → Looked g tree t before found → Step t n l e
+    → (found′ : ℕ) → found′ ≡ over (g (cons n nil)) found → Looked g tree (take (length t - e) (drop e t)) before found′
+looked-more {g} {tree} {t} {before} {found} {n} {l} {e} r w s found′ q =
+    let rest : take (length t - e) (drop e t) ≡ drop e t = rest-is e t in
+    record {
+      packed = rw rest (s .packedBack);
+      short = rw rest (omega (arith, w .short, length-drop e t));
+      done =
+          ap₂ (λ (x : Tree) (k : ℕ). over (g x) k) (ap unpack rest ∙ s .unpacksBack) q
+          ∙ sym (over-first (g l) (g (cons n nil)) found)
+          ∙ sym (ap (λ (o : Option ℕ). over o found) (r .more n l))
+          ∙ sym (ap (λ (x : Tree). over (g x) found) (s .unpacks))
+          ∙ w .done;
+    }
+
+pub looked-all : (g : Tree → Option ℕ) (tree t : List ℕ) (before found : ℕ) → Latest g → Looked g tree t before found → length t ≤ 0 → found ≡ over (g (unpack tree)) before
+looked-all g tree t before found r w h =
+    let none : length t ≡ 0 = omega arith in
+    sym (ap (λ (x : Tree). over (g x) found) (no-node t (w .packed) none) ∙ ap (λ (o : Option ℕ). over o found) (r .empty)) ∙ w .done
+
+-- the shallow walk looks only at the first record
+pub inv-one : (t : List ℕ) {n : Node Leaf} {l : Tree} {e : ℕ} → Step t n l e → headRefusal (headAt t) ≡ invRefusal (cons n nil)
+unfolding invRefusal
+inv-one t {n} s = ap headRefusal (s .head) ∙ go n
+  where
+    go : (n : Node Leaf) → headRefusal (nodeHead n) ≡ invRefusal (cons n nil)
+    go (leaf x) = refl
+    go (block (group k a) m) = refl
+    go (block (binaryGroup k a b) m) = refl

@@ -1,0 +1,90 @@
+-- `invert::inv` meets its contract. The loop's invariant: what is done stands in `out` from `at` on, in the order of the inverse.
+-- Assumes nothing.
+use borrow.Author.Needs.{needs}
+use lib.ListN.{length}
+use Rattle.laws.proofs.Inverses.{inverted}
+use Rattle.invert.proofs.Nodes.{step-one}
+use Rattle.invert.proofs.Loops.{Wrote, wrote-none, wrote-more, wrote-all, node-room, step-count, inverted-reverses}
+use Rattle.invert.proofs.inv.Statement.{statement}
+use Rattle.invert.proofs.inv.Tie as tie
+
+abbrev Inv-loop : tie.InvT-loop
+Inv-loop tree out₀ t₀ at₀ out t at = Wrote inverted tree t at out
+
+abbrev μ-loop : tie.MeasureT-loop
+μ-loop tree out₀ t₀ at₀ out t at = length t
+
+loop-holds : tie.Need-loop-holds Inv-loop μ-loop
+loop-holds c = wrote-none inverted (c .before .before .args .tree .now) (c .before .before .args .out .now) (c .before .before .pre .0) (c .before .before .pre .1)
+
+node-end-requires : tie.Need-node-end-requires Inv-loop μ-loop
+node-end-requires c κs = (c .before .loop .inv .packed, c .loop-test .taken)
+
+sub-to : tie.Need-sub-to Inv-loop μ-loop
+sub-to c = search needs
+
+slice-aggregate-inv-node : tie.Need-slice-aggregate-inv-node Inv-loop μ-loop
+slice-aggregate-inv-node c = step-count (c .before .node-end .ensures .2)
+
+sub-inv-node : tie.Need-sub-inv-node Inv-loop μ-loop
+sub-inv-node c = search needs
+
+part-inv-node-start : tie.Need-part-inv-node-start Inv-loop μ-loop
+part-inv-node-start c = search needs
+
+part-inv-node-end : tie.Need-part-inv-node-end Inv-loop μ-loop
+part-inv-node-end c = search needs
+
+inv-node-requires : tie.Need-inv-node-requires Inv-loop μ-loop
+inv-node-requires c κs =
+    let ended = c .before .before in
+    let at-loop = ended .before .before in
+    let step = ended .node-end .ensures .2 in
+    (step-one step, node-room (at-loop .loop .inv) step)
+
+sub-t : tie.Need-sub-t Inv-loop μ-loop
+sub-t c = search needs
+
+part-t-start : tie.Need-part-t-start Inv-loop μ-loop
+part-t-start c = search needs
+
+part-t-end : tie.Need-part-t-end Inv-loop μ-loop
+part-t-end c = search needs
+
+loop-less : tie.Need-loop-less Inv-loop μ-loop
+loop-less c = search needs
+
+loop-again : tie.Need-loop-again Inv-loop μ-loop
+loop-again c =
+    let called = c .before .before .before in
+    let ended = called .before .before .before in
+    let at-loop = ended .before .before in
+    wrote-more inverted-reverses (at-loop .loop .inv) (ended .node-end .ensures .2) _ (called .inv-node .kept .1 .0) (called .inv-node .ensures)
+
+same-length : tie.Need-same-length Inv-loop μ-loop
+same-length c = search needs
+
+returns : tie.Need-returns Inv-loop μ-loop
+returns c = wrote-all inverted _ _ _ _ inverted-reverses (c .before .loop .inv) (c .loop-test .left)
+
+pub inv-spec : {M : Type 1} → statement M
+inv-spec =
+    tie.close
+    (tie.spec
+    Inv-loop
+    μ-loop
+    loop-holds
+    node-end-requires
+    sub-to
+    slice-aggregate-inv-node
+    sub-inv-node
+    part-inv-node-start
+    part-inv-node-end
+    inv-node-requires
+    sub-t
+    part-t-start
+    part-t-end
+    loop-less
+    loop-again
+    same-length
+    returns)

@@ -1,0 +1,165 @@
+// Both inverses of a packed tree (invert.rs and the `Invert` impls). A packed list can only be walked forwards, so each node is
+// written at its place counted from the end.
+
+pub mod parts;
+pub mod undo;
+
+ghost use mathlib.Core.Path.{_≡_};
+ghost use Prim.Native.Nat.{_/_};
+ghost use lib.ListN.{length};
+ghost use Rattle.notation.specs.Packed.{pack, unpack};
+ghost use Rattle.record.specs.Meaning.{field};
+ghost use Rattle.laws.proofs.Walking.{Packed};
+ghost use Rattle.laws.proofs.Inverses.{inverted, invRefusal, deeply, deepRefusal};
+ghost use Rattle.invert.specs.Nodes.{OneNode, over};
+use numbers::big_endian::write_u16;
+use parts::COMMUTATOR;
+use parts::CONJUGATE;
+use parts::NISS;
+use parts::copy;
+use parts::inner_start;
+use parts::node_end;
+use record::RECORD;
+use record::fields;
+use undo::pair_refusal;
+use undo::undo_record;
+
+// The refusal of a NISS group, which has no deep inverse.
+const HAS_NISS: u8 = 7;
+
+// 0, or 8 where a node of the outer list is a pair that has no inverse.
+pub fn inv_refusal(tree: &[u8]) -> u8
+    requires { ⌜ Packed (now tree) ⌝ }
+    ensures { λ r. ⌜ r ≡ over (invRefusal (unpack (now (tree .entry)))) 0 ⌝ }
+{
+    let mut t = tree;
+    let mut found: u8 = 0;
+    while 0 < t.len() {
+        found = pair_refusal(t, found);
+        let e = node_end(t);
+        t = &t[e..];
+    }
+    found
+}
+
+// Writes the shallow inverse: what stands inside a group is kept as it is.
+pub fn inv(tree: &[u8], out: &mut [u8])
+    requires { ⌜ Packed (now tree) ⌝ }
+    requires { ⌜ length (now out) ≡ length (now tree) ⌝ }
+    ensures { λ _. ⌜ now (out .exit) ≡ pack (inverted (unpack (now (tree .entry)))) ⌝ }
+{
+    let mut t = tree;
+    let mut at = out.len();
+    while 0 < t.len() {
+        let e = node_end(t);
+        let to = at - e;
+        inv_node(&t[..e], &mut out[to..at]);
+        at = to;
+        t = &t[e..];
+    }
+}
+
+fn inv_node(node: &[u8], out: &mut [u8])
+    requires { ⌜ OneNode (now node) ⌝ }
+    requires { ⌜ length (now out) ≡ length (now node) ⌝ }
+    ensures { λ _. ⌜ now (out .exit) ≡ pack (inverted (unpack (now (node .entry)))) ⌝ }
+{
+    copy(node, out);
+    undo_record(out);
+}
+
+// 0, or the first refusal that the deep inverse meets from the last node to the first.
+pub fn inv_deep_refusal(tree: &[u8]) -> u8
+    requires { ⌜ Packed (now tree) ⌝ }
+    ensures { λ r. ⌜ r ≡ over (deepRefusal (unpack (now (tree .entry)))) 0 ⌝ }
+{
+    list_refusal(tree, 0)
+}
+
+// A later node's refusal replaces an earlier one, and any of them what was found before the list.
+fn list_refusal(tree: &[u8], before: u8) -> u8
+    requires { ⌜ Packed (now tree) ⌝ }
+    ensures { λ r. ⌜ r ≡ over (deepRefusal (unpack (now (tree .entry)))) before ⌝ }
+{
+    let mut t = tree;
+    let mut found = before;
+    while 0 < t.len() {
+        let e = node_end(t);
+        found = node_refusal(&t[..e], found);
+        t = &t[e..];
+    }
+    found
+}
+
+// Of a commutator no list is entered, of a conjugate the second.
+fn node_refusal(node: &[u8], before: u8) -> u8
+    requires { ⌜ OneNode (now node) ⌝ }
+    ensures { λ r. ⌜ r ≡ over (deepRefusal (unpack (now (node .entry)))) before ⌝ }
+{
+    let kind = fields::kind(node);
+    if kind == NISS {
+        return HAS_NISS;
+    }
+    if kind == COMMUTATOR {
+        return before;
+    }
+    if CONJUGATE < kind {
+        return pair_refusal(node, before);
+    }
+    let m = inner_start(node);
+    list_refusal(&node[m..], before)
+}
+
+// Writes the deep inverse: multipliers of groups are kept, their contents inverted.
+pub fn inv_deep(tree: &[u8], out: &mut [u8])
+    requires { ⌜ Packed (now tree) ⌝ }
+    requires { ⌜ length (now out) ≡ length (now tree) ⌝ }
+    ensures { λ _. ⌜ now (out .exit) ≡ pack (deeply (unpack (now (tree .entry)))) ⌝ }
+{
+    let mut t = tree;
+    let mut at = out.len();
+    while 0 < t.len() {
+        let e = node_end(t);
+        let to = at - e;
+        inv_deep_node(&t[..e], &mut out[to..at]);
+        at = to;
+        t = &t[e..];
+    }
+}
+
+fn inv_deep_node(node: &[u8], out: &mut [u8])
+    requires { ⌜ OneNode (now node) ⌝ }
+    requires { ⌜ length (now out) ≡ length (now node) ⌝ }
+    ensures { λ _. ⌜ now (out .exit) ≡ pack (deeply (unpack (now (node .entry)))) ⌝ }
+{
+    let kind = fields::kind(node);
+    if CONJUGATE < kind {
+        inv_node(node, out);
+        return;
+    }
+    if kind == COMMUTATOR {
+        exchange_lists(node, out);
+        return;
+    }
+    let m = inner_start(node);
+    copy(&node[..m], &mut out[..m]);
+    inv_deep(&node[m..], &mut out[m..]);
+}
+
+// A commutator's inverse: its lists exchanged.
+fn exchange_lists(node: &[u8], out: &mut [u8])
+    requires { ⌜ OneNode (now node) ⌝ }
+    requires { ⌜ field 0 (now node) / 16 ≡ 4 ⌝ }
+    requires { ⌜ length (now out) ≡ length (now node) ⌝ }
+    ensures { λ _. ⌜ now (out .exit) ≡ pack (deeply (unpack (now (node .entry)))) ⌝ }
+{
+    let first = fields::first(node);
+    let second = fields::second(node);
+    let m = RECORD + RECORD * (first as usize);
+    let n = RECORD + RECORD * (second as usize);
+    copy(&node[..RECORD], &mut out[..RECORD]);
+    copy(&node[m..], &mut out[RECORD..n]);
+    copy(&node[RECORD..m], &mut out[n..]);
+    write_u16(out, 1, second);
+    write_u16(out, 3, first);
+}

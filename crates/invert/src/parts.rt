@@ -1,0 +1,54 @@
+// The parts of a packed list, and a part copied.
+ghost use mathlib.Core.Path.{_≡_};
+ghost use Prim.Native.Nat.{_/_, _≤_, _<_};
+ghost use lib.ListN.{length};
+ghost use Rattle.notation.specs.Tree.{Leaf, Node, Tree};
+ghost use Rattle.record.specs.Meaning.{field};
+ghost use Rattle.laws.proofs.Walking.{Packed, Step};
+ghost use Rattle.invert.specs.Nodes.{OneNode, Inner};
+use record::RECORD;
+use record::fields;
+
+// Kinds of records: groups up to NISS, then the binary groups, then leaves.
+pub const NISS: u8 = 3;
+
+pub const COMMUTATOR: u8 = 4;
+
+pub const CONJUGATE: u8 = 5;
+
+// Where the first node ends.
+pub fn node_end(t: &[u8]) -> usize
+    requires { ⌜ Packed (now t) ⌝ }
+    requires { ⌜ 0 < length (now t) ⌝ }
+    ensures { λ r. ⌜ ((n : Node Leaf) × (l : Tree) × Step (now (t .entry)) n l r) ⌝ }
+{
+    let first = fields::first(t);
+    let second = fields::second(t);
+    RECORD * (1 + ((first as usize) + (second as usize)))
+}
+
+// Where the list begins that the deep inverse enters: the only one of a group, the second of a conjugate.
+pub fn inner_start(node: &[u8]) -> usize
+    requires { ⌜ OneNode (now node) ⌝ }
+    requires { ⌜ field 0 (now node) / 16 ≤ 5 ⌝ }
+    requires { ⌜ (field 0 (now node) / 16 ≡ 4 → ⊥) ⌝ }
+    ensures { λ r. ⌜ Inner (now (node .entry)) r ⌝ }
+{
+    if fields::kind(node) == CONJUGATE {
+        let first = fields::first(node);
+        RECORD + RECORD * (first as usize)
+    } else {
+        RECORD
+    }
+}
+
+pub fn copy(from: &[u8], to: &mut [u8])
+    requires { ⌜ length (now to) ≡ length (now from) ⌝ }
+    ensures { λ _. ⌜ now (to .exit) ≡ now (from .entry) ⌝ }
+{
+    let mut i = 0;
+    while i < from.len() {
+        to[i] = from[i];
+        i += 1;
+    }
+}

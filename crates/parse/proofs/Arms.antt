@@ -1,0 +1,137 @@
+-- What each arm of `node` returns, from the first byte. Assumes nothing.
+use Prim.Native.Nat.{ℕ, suc, _+_, _*_, _-_, _<_, _≤_}
+use mathlib.Core.Path.{_≡_, refl, sym, ap, _∙_}
+use mathlib.Core.Bool.{false}
+use mathlib.Core.List.{List, [], _∷_, _++_}
+use mathlib.Core.Logic.{⊎-elim, inl, inr}
+use types.Run.{OneOf}
+use native.Mathlib.Omega.{arith}
+use borrow.Author.Tests.{ne-eqb}
+use lib.Dec.{eqb}
+use lib.IntN.{ℤ}
+use lib.ListN.{length, getD, drop, drop-of-length-le}
+use lib.Seq.{drop-cons}
+use Rattle.charsets.proofs.Texts.{in-text, first-byte}
+use Rattle.notation.specs.Utf8.{byteAt}
+use Rattle.notation.specs.Tree.{Leaf, Node, Tree}
+use Rattle.notation.specs.Packed.{RECORD, packNode}
+use Rattle.notation.specs.Grammar.{Reading, rejected, read, Reader, fail, andThen, orElse, just, groupNode, binaryGroupNode, node, nodeList}
+use Rattle.notation.specs.declared.features.Features.{Features}
+use Rattle.parse.specs.declared.nodes.NodeAnswer.{NodeAnswer}
+use Rattle.parse.specs.declared.nodes.NodeAnswer.the-variants.{Took, Nothing}
+use Rattle.parse.specs.Nodes.{Kept, NodeRead, NoNode, Told, repeated}
+use Rattle.parse.proofs.Buffers.{kept-all, kept-then}
+use Rattle.parse.proofs.Readings.{or-none}
+use Rattle.parse.proofs.Choices.{times, just-no, opens-none, node-choice}
+use Rattle.parse.proofs.FirstBytes.{is-end}
+use Rattle.parse.proofs.LeafNodes.{no-leaf-of}
+
+-- the bytes that a group starts with
+abbrev pub openers : List ℕ
+openers = 33 ∷ 38 ∷ 40 ∷ 94 ∷ []
+
+or-last : {A : Type 0} (r : Reading A) (q : Reader A) (at : ℕ) (s : List ℕ) → q at s ≡ rejected → orElse r q at s ≡ r
+or-last rejected q at s e = e
+or-last (read a i t) q at s e = refl
+
+no-binary : (list : Reader Tree) (at : ℕ) (s : List ℕ) → eqb (byteAt s 0) 91 ≡ false → binaryGroupNode list at s ≡ rejected
+unfolding binaryGroupNode
+no-binary list at s e = rw (just-no "[" at s e)
+
+no-group : (list : Reader Tree) (at : ℕ) (s : List ℕ) → groupNode list at (91 ∷ s) ≡ rejected
+unfolding groupNode just
+no-group list at s = refl
+
+module _ (text : List ℕ) (at slot : ℕ) where
+  -- a rule that says the same here
+  pub told-as : (p q : ℕ → Reader (Node Leaf)) (old new : List ℕ) (r : NodeAnswer) →
+      ((k : ℕ) → length text - at ≤ k → q k at (drop at text) ≡ p k at (drop at text)) → Told p text at slot old new r → Told q text at slot old new r
+  told-as p q old new (Took next end) e t =
+      record { node = t .node; reads = λ k h. e k h ∙ t .reads k h; slots = t .slots; advances = t .advances; inside = t .inside; wrote = t .wrote }
+  told-as p q old new Nothing e t = record { rejects = λ k h. e k h ∙ t .rejects k h; kept = t .kept }
+
+  -- and a buffer of which nothing before the slot has changed
+  pub told-after : (p : ℕ → Reader (Node Leaf)) (old mid new : List ℕ) (r : NodeAnswer) → Kept (RECORD * slot) old mid → Told p text at slot mid new r → Told p text at slot old new r
+  told-after p old mid new (Took next end) k t =
+      record {
+        node = t .node;
+        reads = t .reads;
+        slots = t .slots;
+        advances = t .advances;
+        inside = t .inside;
+        wrote = record {
+          kept = kept-then (RECORD * slot) old mid new k (t .wrote .kept);
+          holds = λ h. t .wrote .holds (omega (arith, k .long)) ∙ ap (λ (l : List ℕ). l ++ packNode (t .node)) (k .before);
+        };
+      }
+  told-after p old mid new Nothing k t = record { rejects = t .rejects; kept = kept-then (RECORD * slot) old mid new k (t .kept) }
+
+  module _ (f : Features) where
+    abbrev pub nodes : ℕ → Reader (Node Leaf)
+    nodes k = node f (nodeList f k)
+
+    abbrev pub groups : ℕ → Reader (Node Leaf)
+    groups k = repeated (groupNode (nodeList f k))
+
+    abbrev pub binaries : ℕ → Reader (Node Leaf)
+    binaries k = repeated (binaryGroupNode (nodeList f k))
+
+    abbrev pub leaves : ℕ → Reader (Node Leaf)
+    leaves _ = node f fail
+
+    pub none-at-end : (old : List ℕ) → length text ≤ at → NoNode nodes text at slot old old
+    none-at-end old h =
+        record {
+          rejects = λ k _.
+              opens-none (nodeList f k) at (drop at text) (past 40 refl) (past 33 refl) (past 38 refl) (past 94 refl) (past 91 refl) f
+              ∙ no-leaf-of (node f fail at (drop at text)) (is-end f text at h);
+          kept = kept-all (RECORD * slot) old;
+        }
+      where
+        past : (b : ℕ) → eqb 256 b ≡ false → eqb (byteAt (drop at text) 0) b ≡ false
+        past b e = rw (drop-of-length-le text h) e
+
+    -- a rule that is tried before a leaf
+    module _ (p : ℕ → Reader (Node Leaf)) (choice : (k : ℕ) → nodes k at (drop at text) ≡ orElse (p k at (drop at text)) (node f fail) at (drop at text)) where
+      pub first-took : (old new : List ℕ) (next end : ℕ) → NodeRead p text at slot old new next end → NodeRead nodes text at slot old new next end
+      first-took old new next end t =
+          record {
+            node = t .node;
+            reads = λ k l. choice k ∙ ap (λ (r : Reading (Node Leaf)). orElse r (node f fail) at (drop at text)) (t .reads k l);
+            slots = t .slots;
+            advances = t .advances;
+            inside = t .inside;
+            wrote = t .wrote;
+          }
+
+      pub leaf-instead : (old mid new : List ℕ) (r : NodeAnswer) → NoNode p text at slot old mid → Told leaves text at slot mid new r → Told nodes text at slot old new r
+      leaf-instead old mid new r g t =
+          told-after nodes old mid new r (g .kept)
+          (told-as leaves nodes mid new r (λ k l. choice k ∙ ap (λ (r : Reading (Node Leaf)). orElse r (node f fail) at (drop at text)) (g .rejects k l)) t)
+
+    module _ (h : at < length text) where
+      here : (b : ℕ) → (getD text at 0 ≡ b → ⊥) → eqb (byteAt (drop at text) 0) b ≡ false
+      here b e = ne-eqb (byteAt (drop at text) 0) b (λ q. e (in-text text at h ∙ sym (first-byte text at) ∙ q))
+
+      pub group-first : (getD text at 0 ≡ 91 → ⊥) → (k : ℕ) → nodes k at (drop at text) ≡ orElse (groups k at (drop at text)) (node f fail) at (drop at text)
+      group-first e k =
+          node-choice f (nodeList f k) at (drop at text)
+          ∙ ap (λ (r : Reading (ℤ → Node Leaf)). orElse (andThen r times) (node f fail) at (drop at text))
+          (or-last (groupNode (nodeList f k) at (drop at text)) (binaryGroupNode (nodeList f k)) at (drop at text) (no-binary (nodeList f k) at (drop at text) (here 91 e)))
+
+      pub bracket-first : getD text at 0 ≡ 91 → (k : ℕ) → nodes k at (drop at text) ≡ orElse (binaries k at (drop at text)) (node f fail) at (drop at text)
+      bracket-first e k =
+          node-choice f (nodeList f k) at (drop at text)
+          ∙ ap (λ (r : Reading (ℤ → Node Leaf)). orElse (andThen r times) (node f fail) at (drop at text))
+          (or-none (groupNode (nodeList f k) at (drop at text)) (binaryGroupNode (nodeList f k)) at (drop at text)
+          (rw (drop-cons text at 0 h, e) (no-group (nodeList f k) at (drop (suc at) text))))
+
+      pub a-leaf : (OneOf openers (getD text at 0) → ⊥) → (getD text at 0 ≡ 91 → ⊥) →
+          (old new : List ℕ) (r : NodeAnswer) → Told leaves text at slot old new r → Told nodes text at slot old new r
+      a-leaf e b old new r =
+          told-as leaves nodes old new r
+          (λ k _. opens-none (nodeList f k) at (drop at text) (here 40 (λ q. e (inr (inr (inl q))))) (here 33 (λ q. e (inl q))) (here 38 (λ q. e (inr (inl q))))
+          (here 94 (λ q. e (inr (inr (inr q))))) (here 91 b) f)
+
+pub no-bracket-byte : (b : ℕ) → OneOf openers b → b ≡ 91 → ⊥
+no-bracket-byte b = ⊎-elim (λ e q. omega arith) (⊎-elim (λ e q. omega arith) (⊎-elim (λ e q. omega arith) (λ e q. omega arith)))

@@ -1,0 +1,20 @@
+-- The laws of reading that the proofs of the functions cite: of the parts that hold no list, then of lists, nodes and the entry.
+pub mod Readings
+pub mod Bytes
+pub mod Past
+pub mod Families
+pub mod Rules
+pub mod Sets
+pub mod LayerSets
+pub mod Choices
+pub mod Leaves
+pub mod FirstBytes
+pub mod Buffers
+pub mod Lists
+pub mod Groups
+pub mod LeafNodes
+pub mod Turns
+pub mod Blocks
+pub mod Arms
+pub mod NestingScan
+pub mod Entry

@@ -1,0 +1,179 @@
+-- What the answers of parse.rt say: a reading of the text, or a rejection; and names for the parts of rules that a function of
+-- its own reads.
+use Prim.Native.Nat.{ℕ, _+_, _-_, _≤_, _<_, min, max}
+use mathlib.Core.Path.{_≡_}
+use mathlib.Core.Bool.{Bool, _&&_}
+use mathlib.Core.List.{List, [], _∷_}
+use mathlib.Core.Option.{Option}
+use lib.Dec.{eqb}
+use lib.IntN.{ℤ, pos, negℤ}
+use lib.ListN.{length, take, drop}
+use Rattle.notation.specs.Numbers.{fromBits}
+use Rattle.notation.specs.Utf8.{byteAt}
+use Rattle.notation.specs.Layers.{single, range}
+use Rattle.notation.specs.Layers as rules
+use Rattle.notation.specs.Tree as tree
+use Rattle.notation.specs.Tree.{fromTo, swap, fix, layerRange, singleLayer, noLayers, Node, leaf, block, Leaf}
+use Rattle.notation.specs.Packed.{Head, leafHead, bodyHead}
+use Rattle.notation.specs.Grammar.{Reading, rejected, read, Reader, done, andThen, _or_, when, just, word, whitespace, padded, layer, signedLayer, i32, multiplier, moreOf, constraint, layerSetElement, moveNode, megaminxScrambleMove, _>>=_, _>>_}
+use Rattle.notation.specs.declared.features.Features.{Features}
+use Rattle.notation.specs.declared.common.GroupKind.{GroupKind}
+use Rattle.notation.specs.declared.common.MegaminxScrambleMove.{MegaminxScrambleMove}
+use Rattle.record.specs.Meaning.{head, layers, spanOption}
+use Rattle.record.specs.Range.{FitsHead, FitsLayers, FitsConstraints}
+use Rattle.parse.specs.declared.parts.Taken.{Taken}
+use Rattle.parse.specs.declared.parts.Taken.the-variants as taken
+use Rattle.parse.specs.declared.parts.Part.{Part}
+use Rattle.parse.specs.declared.parts.Constraint.{Constraint}
+use Rattle.parse.specs.declared.parts.Constraint.the-variants as constraint′
+use Rattle.parse.specs.declared.parts.ConstraintAnswer.{ConstraintAnswer}
+use Rattle.parse.specs.declared.parts.ConstraintAnswer.the-variants as constraintAnswer
+use Rattle.parse.specs.declared.parts.LayerSetElement.{LayerSetElement}
+use Rattle.parse.specs.declared.parts.LayerSetElement.the-variants as layerElement
+use Rattle.parse.specs.declared.parts.LayerSetElementAnswer.{LayerSetElementAnswer}
+use Rattle.parse.specs.declared.parts.LayerSetElementAnswer.the-variants as layerAnswer
+use Rattle.parse.specs.declared.parts.Element.{Element}
+use Rattle.parse.specs.declared.parts.Element.the-variants as element
+use Rattle.parse.specs.declared.parts.Tilde.{Tilde}
+use Rattle.parse.specs.declared.parts.Layers.{Layers}
+use Rattle.parse.specs.declared.parts.Constraints.{Constraints}
+use Rattle.parse.specs.declared.parts.Multiplied.{Multiplied}
+use Rattle.parse.specs.declared.parts.Group.{Group}
+use Rattle.parse.specs.declared.parts.LeafAnswer.{LeafAnswer}
+use Rattle.parse.specs.declared.parts.LeafAnswer.the-variants as leafAnswer
+
+-- Answers that give only an end.
+abbrev pub forget : {A : Type 0} → Reading A → Reading (Unit {0})
+forget rejected = rejected
+forget (read a next rest) = read tt next rest
+
+abbrev pub told : List ℕ → Taken → Reading (Unit {0})
+told text taken.Nothing = rejected
+told text (taken.To next) = read tt next (drop next text)
+
+-- the bytes of a part
+abbrev pub between : List ℕ → ℕ → ℕ → List ℕ
+between text from to = take (to - from) (drop from text)
+
+abbrev pub bytesTaken : List ℕ → ℕ → Taken → Reading (List ℕ)
+bytesTaken text at taken.Nothing = rejected
+bytesTaken text at (taken.To next) = read (between text at next) next (drop next text)
+
+-- Elements of sets.
+abbrev pub bytes : List ℕ → Part → List ℕ
+bytes text p = between text (p .from) (p .to)
+
+abbrev pub constraintOf : List ℕ → Constraint → tree.Constraint
+constraintOf text (constraint′.FromTo a b) = fromTo (bytes text a) (bytes text b)
+constraintOf text (constraint′.Swap a b) = swap (bytes text a) (bytes text b)
+constraintOf text (constraint′.Fix a) = fix (bytes text a)
+
+abbrev pub constraintReading : List ℕ → ConstraintAnswer → Reading tree.Constraint
+constraintReading text constraintAnswer.Nothing = rejected
+constraintReading text (constraintAnswer.Took k next) = read (constraintOf text k) next (drop next text)
+
+abbrev pub layerSetElementOf : LayerSetElement → rules.LayerSetElement
+layerSetElementOf (layerElement.Single i) = single (fromBits 32 i)
+layerSetElementOf (layerElement.Range i j) = range (fromBits 32 i) (fromBits 32 j)
+
+abbrev pub elementReading : List ℕ → LayerSetElementAnswer → Reading rules.LayerSetElement
+elementReading text layerAnswer.Nothing = rejected
+elementReading text (layerAnswer.Took k next) = read (layerSetElementOf k) next (drop next text)
+
+abbrev pub layerAfterDots : Reader ℤ
+layerAfterDots = do word ".."; signedLayer
+
+abbrev pub layerAfterHyphen : Reader ℕ
+layerAfterHyphen = do just "-"; layer
+
+abbrev pub unsignedOrSingle : Reader rules.LayerSetElement
+unsignedOrSingle =
+    (do i ← layer; just "-"; j ← layer; done (range (pos i) (pos j)))
+    or (do i ← signedLayer; done (single i))
+
+-- Sets in braces: where an element ends, and what follows one; `fuel` is more than enough.
+abbrev pub elementOf : Element → Reader (Unit {0})
+elementOf element.Constraint at s = forget (constraint at s)
+elementOf (element.Layer hsc1) at s = forget (layerSetElement hsc1 at s)
+
+abbrev pub brace : Reader (Unit {0})
+brace = just "}"
+
+abbrev pub more : {A : Type 0} → Reader A → ℕ → Reader (List A)
+more item fuel = moreOf _∷_ [] item (padded (just ",")) fuel
+
+abbrev pub ending : {A : Type 0} → Reader A → ℕ → Reader (Unit {0})
+ending item fuel = do more item fuel; whitespace; brace
+
+abbrev pub MoreElements : List ℕ → ℕ → Element → Taken → Type 0
+MoreElements text at k r = (fuel : ℕ) → length text - at ≤ fuel → told text r ≡ ending (elementOf k) fuel at (drop at text)
+
+-- Parts of a move.
+abbrev pub tildeReading : List ℕ → Tilde → Reading Bool
+tildeReading text r = read (r .inverted) (r .next) (drop (r .next) text)
+
+abbrev pub layersReading : List ℕ → Layers → Reading (tree.Layers tree.Span)
+layersReading text r = read (layers (r .contents)) (r .next) (drop (r .next) text)
+
+abbrev pub numberedLayers : Reader (tree.Layers tree.Span)
+numberedLayers =
+    (do i ← layer; just "-"; j ← layer; done (layerRange (min i j) (max i j)))
+    or (do i ← layer; done (singleLayer i))
+    or done noLayers
+
+abbrev pub constraintsReading : List ℕ → Constraints → Reading (Option tree.Span)
+constraintsReading text r = read (spanOption (r .part)) (r .next) (drop (r .next) text)
+
+abbrev pub multiplierReading : List ℕ → Multiplied → Reading ℤ
+multiplierReading text r = read (fromBits 32 (r .bits)) (r .next) (drop (r .next) text)
+
+abbrev pub withQuote : ℕ → Reader ℤ
+withQuote n = (do just "'"; done (negℤ (pos n))) or done (pos n)
+
+abbrev pub groupReading : List ℕ → Group → Reading GroupKind
+groupReading text r = read (r .kind) (r .next) (drop (r .next) text)
+
+-- Nodes, by what their records say.
+abbrev pub nodeHead : Node Leaf → Head
+nodeHead (leaf x) = leafHead x
+nodeHead (block b m) = bodyHead b m
+
+abbrev pub headReading : List ℕ → LeafAnswer → Reading Head
+headReading text leafAnswer.Nothing = rejected
+headReading text (leafAnswer.Took rec next) = read (head rec) next (drop next text)
+
+-- a node with its multiplier
+abbrev pub repeated : Reading (ℤ → Node Leaf) → Reading Head
+repeated r = andThen r (λ inner. do m ← multiplier; done (nodeHead (inner m)))
+
+abbrev pub leafHeadOf : Reading Leaf → Reading Head
+leafHeadOf r = andThen r (λ x. done (leafHead x))
+
+abbrev pub scrambleHead : Reading MegaminxScrambleMove → Reading Head
+scrambleHead r = andThen r (λ k. done (leafHead (tree.megaminx k)))
+
+abbrev pub pairAfter : Reader Head
+pairAfter = do u ← padded i32; just ","; d ← padded i32; just ")"; done (leafHead (tree.pair u d))
+
+abbrev pub scrambleOrMove : Features → Reader Head
+scrambleOrMove f = (λ at s. scrambleHead (when (f .megaminx) megaminxScrambleMove at s)) or (λ at s. repeated (moveNode f at s))
+
+-- a letter and twice a sign
+abbrev pub threeBytes : List ℕ → ℕ → ℕ → ℕ → Bool
+threeBytes text at letter sign =
+    eqb (byteAt text at) letter && (eqb (byteAt text (at + 1)) sign && eqb (byteAt text (at + 1 + 1)) sign)
+
+-- What else the caller may count on: numbers fit their fields, and an answer lies within the text.
+abbrev pub LayersFit : Layers → Type 0
+LayersFit r = FitsLayers (layers (r .contents))
+
+abbrev pub ConstraintsFit : Constraints → Type 0
+ConstraintsFit r = FitsConstraints (spanOption (r .part))
+
+abbrev pub RecordFits : LeafAnswer → Type 0
+RecordFits leafAnswer.Nothing = Unit {0}
+RecordFits (leafAnswer.Took rec next) = FitsHead (head rec)
+
+abbrev pub Within : ℕ → ℕ → LeafAnswer → Type 0
+Within at end leafAnswer.Nothing = Unit {0}
+Within at end (leafAnswer.Took rec next) = (at < next) × (next ≤ end)

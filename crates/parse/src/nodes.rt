@@ -1,0 +1,201 @@
+// Lists and nodes, which enter each other: `node_list` and `node` of the Rust's parse.rs. A slot is a place for a record, counted
+// from the start of the tree. A record is written only where the buffer has its slot: over an empty buffer a run only measures.
+ghost use mathlib.Core.Path.{_≡_};
+ghost use Prim.Native.Nat.{_+_, _*_, _≤_, _<_};
+ghost use lib.Dec.{eqb};
+ghost use lib.ListN.{length, drop, getD};
+ghost use Rattle.notation.specs.Basics.{pick};
+ghost use Rattle.notation.specs.Utf8.{byteAt};
+ghost use Rattle.notation.specs.Grammar as rule;
+ghost use Rattle.notation.specs.Packed as packed;
+ghost use Rattle.record.specs.Meaning.{head};
+ghost use Rattle.parse.specs.Nodes as nodes;
+use crate::parse::group_kind;
+use crate::parse::has;
+use crate::parse::leaf;
+use crate::parse::multiplier;
+use crate::parts::LeafAnswer;
+use charsets::whitespace_end;
+use notation::common::BinaryGroupKind;
+use notation::features::Features;
+use record::RECORD;
+use record::encode::encode;
+use record::spanned::Record;
+
+// Where a list ends in the text, and the slot after its last record.
+pub struct Listed {
+    pub next: usize,
+    pub slot: usize,
+}
+
+// The same for a node.
+pub enum NodeAnswer {
+    Took(usize, usize),
+    Nothing,
+}
+
+// The 32 bits of a multiplier and the offset after it.
+enum Closing {
+    Took(u32, usize),
+    Nothing,
+}
+
+enum BinaryKind {
+    Is(BinaryGroupKind),
+    Nothing,
+}
+
+// A closing bracket and the multiplier after it.
+fn close(text: &[u8], at: usize, bracket: u8) -> Closing
+    requires { ⌜ at ≤ length (now text) ⌝ }
+    ensures { λ r. ⌜ nodes.Closed (now (text .entry)) at bracket r ⌝ }
+{
+    if has(text, at, bracket) {
+        let m = multiplier(text, at + 1);
+        Closing::Took(m.bits, m.next)
+    } else {
+        Closing::Nothing
+    }
+}
+
+fn binary_group_kind(text: &[u8], at: usize) -> BinaryKind
+    ensures { λ r. ⌜ nodes.binaryKind (now (text .entry)) at r ≡ rule.binaryGroupKind at (drop at (now (text .entry))) ⌝ }
+{
+    if has(text, at, b',') {
+        return BinaryKind::Is(BinaryGroupKind::Commutator);
+    }
+    if has(text, at, b':') {
+        return BinaryKind::Is(BinaryGroupKind::Conjugate);
+    }
+    BinaryKind::Nothing
+}
+
+fn put_record(tree: &mut [u8], slot: usize, r: Record)
+    requires { ⌜ slot ≤ 65535 ⌝ }
+    ensures { λ _. ⌜ now (tree .exit) ≡ nodes.put (packed.RECORD * slot) (packed.record25 (head r)) (now (tree .entry)) ⌝ }
+{
+    let at = RECORD * slot;
+    let end = at + RECORD;
+    if end <= tree.len() {
+        encode(r, &mut tree[at..end]);
+    }
+}
+
+// A node that is no group.
+fn leaf_node(text: &[u8], at: usize, features: Features, tree: &mut [u8], slot: usize) -> NodeAnswer
+    requires { ⌜ nodes.Within (now text) at slot ⌝ }
+    ensures { λ r. ⌜ nodes.Told (λ _. rule.node features rule.fail) (now (text .entry)) at slot (now (tree .entry)) (now (tree .exit)) r ⌝ }
+{
+    let LeafAnswer::Took(r, next) = leaf(text, at, features) else {
+        return NodeAnswer::Nothing;
+    };
+    put_record(tree, slot, r);
+    NodeAnswer::Took(next, slot + 1)
+}
+
+// Nodes with white space between them. A list ends where no node follows, and takes the white space before that.
+pub fn node_list(text: &[u8], at: usize, features: Features, tree: &mut [u8], slot: usize) -> Listed
+    requires { ⌜ nodes.Within (now text) at slot ⌝ }
+    ensures { λ r. ⌜ nodes.ListRead features (now (text .entry)) at slot (now (tree .entry)) (now (tree .exit)) (r .next) (r .slot) ⌝ }
+{
+    let mut next = whitespace_end(text, at);
+    let mut end = slot;
+    loop {
+        let NodeAnswer::Took(after, filled) = node(text, next, features, tree, end) else {
+            return Listed { next, slot: end };
+        };
+        end = filled;
+        next = whitespace_end(text, after);
+        if next == after {
+            return Listed { next, slot: end };
+        }
+    }
+}
+
+// What cannot be read as a group may be a pair; a pair stands only where the group's list was empty, so no list is read twice.
+fn node(text: &[u8], at: usize, features: Features, tree: &mut [u8], slot: usize) -> NodeAnswer
+    requires { ⌜ nodes.Within (now text) at slot ⌝ }
+    ensures { λ r. ⌜ nodes.Told (λ k. rule.node features (rule.nodeList features k)) (now (text .entry)) at slot (now (tree .entry)) (now (tree .exit)) r ⌝ }
+{
+    if text.len() <= at {
+        return NodeAnswer::Nothing;
+    }
+    match text[at] {
+        b'(' | b'!' | b'&' | b'^' => {
+            let NodeAnswer::Took(next, end) = group(text, at, features, tree, slot) else {
+                return leaf_node(text, at, features, tree, slot);
+            };
+            NodeAnswer::Took(next, end)
+        }
+        b'[' => {
+            let NodeAnswer::Took(next, end) = binary_group(text, at, features, tree, slot) else {
+                return leaf_node(text, at, features, tree, slot);
+            };
+            NodeAnswer::Took(next, end)
+        }
+        _ => leaf_node(text, at, features, tree, slot),
+    }
+}
+
+// A group's record is written after its contents, which tell how many records it holds.
+fn group(text: &[u8], at: usize, features: Features, tree: &mut [u8], slot: usize) -> NodeAnswer
+    requires { ⌜ nodes.Within (now text) at slot × (at < length (now text)) ⌝ }
+    ensures { λ r. ⌜ nodes.Told (λ k. nodes.repeated (rule.groupNode (rule.nodeList features k))) (now (text .entry)) at slot (now (tree .entry)) (now (tree .exit)) r ⌝ }
+{
+    let start = group_kind(text, at);
+    let kind = start.kind;
+    let open = start.next;
+    if has(text, open, b'(') {
+        let list = node_list(text, open + 1, features, tree, slot + 1);
+        let Closing::Took(bits, next) = close(text, list.next, b')') else {
+            return NodeAnswer::Nothing;
+        };
+        let first = (list.slot - (slot + 1)) as u16;
+        put_record(
+            tree,
+            slot,
+            Record::Group {
+                kind,
+                first,
+                multiplier: bits,
+            },
+        );
+        NodeAnswer::Took(next, list.slot)
+    } else {
+        NodeAnswer::Nothing
+    }
+}
+
+// A commutator or a conjugate.
+fn binary_group(
+    text: &[u8],
+    at: usize,
+    features: Features,
+    tree: &mut [u8],
+    slot: usize,
+) -> NodeAnswer
+    requires { ⌜ nodes.Within (now text) at slot × (at < length (now text)) × (getD (now text) at 0 ≡ 91) ⌝ }
+    ensures { λ r. ⌜ nodes.Told (λ k. nodes.repeated (rule.binaryGroupNode (rule.nodeList features k))) (now (text .entry)) at slot (now (tree .entry)) (now (tree .exit)) r ⌝ }
+{
+    let a = node_list(text, at + 1, features, tree, slot + 1);
+    let BinaryKind::Is(kind) = binary_group_kind(text, a.next) else {
+        return NodeAnswer::Nothing;
+    };
+    let b = node_list(text, a.next + 1, features, tree, a.slot);
+    let Closing::Took(bits, next) = close(text, b.next, b']') else {
+        return NodeAnswer::Nothing;
+    };
+    let first = (a.slot - (slot + 1)) as u16;
+    let second = (b.slot - a.slot) as u16;
+    put_record(
+        tree,
+        slot,
+        Record::BinaryGroup {
+            kind,
+            first,
+            second,
+            multiplier: bits,
+        },
+    );
+    NodeAnswer::Took(next, b.slot)
+}

@@ -1,0 +1,81 @@
+// What the readers of parse.rt hand back: the parts of the notation with the offset after them.
+use notation::common::GroupKind;
+use record::spanned::LayerPrefixContents;
+use record::spanned::Record;
+use record::spanned::SpanOption;
+
+// Where a part ends whose meaning is not asked for.
+pub enum Taken {
+    To(usize),
+    Nothing,
+}
+
+// A part of the text, by its two ends.
+pub struct Part {
+    pub from: usize,
+    pub to: usize,
+}
+
+// An element of a constraint set, with the families that it names.
+pub enum Constraint {
+    // `a->b`
+    FromTo(Part, Part),
+    // `a<>b`
+    Swap(Part, Part),
+    // `a`
+    Fix(Part),
+}
+
+pub enum ConstraintAnswer {
+    Took(Constraint, usize),
+    Nothing,
+}
+
+// An element of a layer set; each number is its 32 bits.
+pub enum LayerSetElement {
+    Single(u32),
+    Range(u32, u32),
+}
+
+pub enum LayerSetElementAnswer {
+    Took(LayerSetElement, usize),
+    Nothing,
+}
+
+// What a set in braces holds.
+pub enum Element {
+    Constraint,
+    // With `i-j` or without.
+    Layer(bool),
+}
+
+pub struct Tilde {
+    pub inverted: bool,
+    pub next: usize,
+}
+
+pub struct Layers {
+    pub contents: LayerPrefixContents,
+    pub next: usize,
+}
+
+pub struct Constraints {
+    pub part: SpanOption,
+    pub next: usize,
+}
+
+// The 32 bits of a multiplier.
+pub struct Multiplied {
+    pub bits: u32,
+    pub next: usize,
+}
+
+pub struct Group {
+    pub kind: GroupKind,
+    pub next: usize,
+}
+
+pub enum LeafAnswer {
+    Took(Record, usize),
+    Nothing,
+}

@@ -1,0 +1,76 @@
+// Reading a whole text: `parse_notation` of the Rust's spanned.rs.
+ghost use mathlib.Core.Path.{_≡_};
+ghost use mathlib.Core.Bool.{_||_};
+ghost use Prim.Native.Nat.{_≤_};
+ghost use lib.Dec.{eqb};
+ghost use lib.ListN.{length};
+ghost use Rattle.notation.specs.Packed.{bit};
+ghost use Rattle.notation.specs.Entries as rule;
+use crate::nodes::node_list;
+use charsets::is_utf8;
+use notation::answer::Answer;
+use notation::features::Features;
+use record::RECORD;
+
+const MAX_TEXT: usize = 65535;
+
+const MAX_NESTING: usize = 64;
+
+// 1 where b is one of the two.
+fn either(b: u8, round: u8, square: u8) -> usize
+    ensures { λ r. ⌜ (r ≡ bit (eqb b round || eqb b square)) × (r ≤ 1) ⌝ }
+{
+    if b == round {
+        return 1;
+    }
+    if b == square {
+        return 1;
+    }
+    0
+}
+
+// Whether no starting part of the text has over 64 more of `(` `[` than of `)` `]`.
+fn nesting_ok(text: &[u8]) -> bool
+    requires { ⌜ length (now text) ≤ rule.MAX-TEXT ⌝ }
+    ensures { λ r. ⌜ r ≡ rule.nestingOk 0 0 (now (text .entry)) ⌝ }
+{
+    let mut opened: usize = 0;
+    let mut closed: usize = 0;
+    let mut at = 0;
+    while at < text.len() {
+        let b = text[at];
+        opened += either(b, b'(', b'[');
+        closed += either(b, b')', b']');
+        if closed + MAX_NESTING < opened {
+            return false;
+        }
+        at += 1;
+    }
+    true
+}
+
+// The tree of a text, written to the front of `tree`; the answer is its size in bytes. A refusal leaves the buffer as it was, so
+// the text is read twice: first to measure, then to write.
+pub fn parse_notation(text: &[u8], features: Features, tree: &mut [u8]) -> Answer
+    ensures { λ r. ⌜ record { answer = rule.outcome r; buffer = now (tree .exit) } ≡ rule.parseNotation features (now (text .entry)) (now (tree .entry)) ⌝ }
+{
+    if MAX_TEXT < text.len() {
+        return Answer::Refused(1);
+    }
+    if !is_utf8(text) {
+        return Answer::Refused(2);
+    }
+    if !nesting_ok(text) {
+        return Answer::Refused(3);
+    }
+    let measured = node_list(text, 0, features, &mut tree[0..0], 0);
+    if measured.next < text.len() {
+        return Answer::Refused(4);
+    }
+    let size = RECORD * measured.slot;
+    if tree.len() < size {
+        return Answer::Refused(5);
+    }
+    node_list(text, 0, features, &mut tree[0..size], 0);
+    Answer::Value(size as u64)
+}

@@ -1,0 +1,75 @@
+-- `replay::case` is safe: the answer ends within its line. Assumes nothing.
+use native.Mathlib.Omega.{arith}
+use Rattle.replay.proofs.Limits.{value-at-most}
+use borrow.Author.Needs.{needs}
+use Rattle.replay.proofs.case.Statement.{statement}
+use Rattle.replay.proofs.case.Tie as tie
+
+slice-aggregate-case : tie.Need-slice-aggregate-case
+slice-aggregate-case c = search needs
+
+case-requires : tie.Need-case-requires
+case-requires c κs = search needs
+
+enum-known-n : tie.Need-enum-known-n
+enum-known-n c = search needs
+
+sub-write-all : tie.Need-sub-write-all
+sub-write-all c = search needs
+
+part-write-all-start : tie.Need-part-write-all-start
+part-write-all-start c = search needs
+
+part-write-all-end : tie.Need-part-write-all-end
+part-write-all-end c = omega (arith, value-at-most (c .before .before .before .before .before .before .before .before .before .case .ensures) (c .before .before .n .given .1))
+
+write-all-requires : tie.Need-write-all-requires
+write-all-requires c κs = search needs
+
+enum-told : tie.Need-enum-told
+enum-told c = search needs
+
+slice-aggregate-write-all : tie.Need-slice-aggregate-write-all
+slice-aggregate-write-all c = search needs
+
+write-all-requires-2 : tie.Need-write-all-requires-2
+write-all-requires-2 c κs = search needs
+
+same-length : tie.Need-same-length
+same-length c = search needs
+
+same-length-2 : tie.Need-same-length-2
+same-length-2 c = search needs
+
+returns : tie.Need-returns
+returns c = search needs
+
+same-length-3 : tie.Need-same-length-3
+same-length-3 c = search needs
+
+same-length-4 : tie.Need-same-length-4
+same-length-4 c = search needs
+
+returns-2 : tie.Need-returns-2
+returns-2 c = search needs
+
+pub case-spec : {M : Type 1} → statement M
+case-spec =
+    tie.close
+    (tie.spec
+    slice-aggregate-case
+    case-requires
+    enum-known-n
+    sub-write-all
+    part-write-all-start
+    part-write-all-end
+    write-all-requires
+    enum-told
+    slice-aggregate-write-all
+    write-all-requires-2
+    same-length
+    same-length-2
+    returns
+    same-length-3
+    same-length-4
+    returns-2)
