@@ -1,0 +1,206 @@
+-- Whatever bytes are unpacked, the numbers of the tree fit their fields. Assumes nothing.
+use Prim.Native.Nat.{ℕ, zero, suc, _+_, _-_, _*_, _/_, _%_, _^_, _≤_, _<_}
+use mathlib.Core.Path.{_≡_, refl, sym, subst}
+use mathlib.Core.Bool.{Bool, true, false}
+use mathlib.Core.List.{List, [], _∷_}
+use mathlib.Core.Option.{none, some}
+use native.Mathlib.Nat.{pow-le-pow-right, lt-of-lt-of-le}
+use native.Mathlib.Omega.{arith}
+use borrow.Author.Tests.{lt-ltb, ltb-false, eqb-false}
+use lib.Dec.{ltb, eqb, lit<}
+use lib.IntN.{pos, negsuc}
+use lib.ListN.{length, take, drop, getD, length-take, length-drop}
+use mir.Syntax.{w8}
+use mir.Val.{Fits as Fits8}
+use Rattle.notation.specs.Basics.{pick}
+use Rattle.notation.specs.Numbers.{fromBits, fitsBits}
+use Rattle.notation.specs.Tree.{Span, span, Layers, noLayers, singleLayer, layerRange, layerSet, pause}
+use Rattle.notation.specs.Packed.{RECORD, widths, cut, familyAt, nowhere, Head, leafHead, groupHead, binaryHead, nodeSize, bodySize, size, headAt, unpackFrom, unpack}
+use Rattle.notation.specs.WellFormed.{treeOk, depth, MAX-NESTING, wellFormed}
+use Rattle.numbers.proofs.Positional.{Below, below-take, below-drop}
+use Rattle.numbers.proofs.BigEndian.{fromBigEndian-lt}
+use Rattle.record.specs.Meaning.{field, spanAt, constraintsAt, layersAt}
+use Rattle.record.specs.Range.{FitsSpan, FitsFamily, FitsConstraints, FitsLayers, FitsNumber, FitsHead}
+use Rattle.record.proofs.Cut.{Fits, none as no-field, one as and-field}
+use Rattle.record.proofs.Packed.{byKind, headAt-kind}
+use Rattle.laws.proofs.Packing.{FitsNode, FitsBody, FitsTree, opened, well-formed-packed, well-formed-ok, well-formed-depth}
+use Rattle.laws.proofs.Walking.{Packed}
+
+-- fields cut from bytes fit their widths
+cut-fits : (ws bs : List ℕ) → Below 256 bs → Fits ws (cut ws bs)
+unfolding cut
+cut-fits [] bs h = no-field
+cut-fits (w ∷ ws) bs h =
+    let short : length (take w bs) ≤ w = simp length-take (omega arith) in
+    and-field
+    (lt-of-lt-of-le (fromBigEndian-lt (take w bs) (below-take 256 w bs (lit< tt) h)) (pow-le-pow-right (lit< tt) short))
+    (cut-fits ws (drop w bs) (below-drop 256 w bs h))
+
+fits-at : {ws fs : List ℕ} → Fits ws fs → (i : ℕ) → i < length ws → getD fs i 0 < 256 ^ getD ws i 0
+fits-at no-field i h = absurd (omega arith)
+fits-at (and-field f fs) zero h = f
+fits-at (and-field f fs) (suc i) h = fits-at fs i (omega arith)
+
+pub field-lt : (bs : List ℕ) → Below 256 bs → (i : ℕ) → i < 11 → field i bs < 256 ^ getD widths i 0
+field-lt bs h i l = fits-at (cut-fits widths (take RECORD bs) (below-take 256 RECORD bs (lit< tt) h)) i l
+
+pub fromBits-fits : (n : ℕ) → n < 4294967296 → fitsBits 32 (fromBits 32 n) ≡ true
+fromBits-fits n h = go (ltb n 2147483648) refl
+  where
+    go : (t : Bool) → ltb n 2147483648 ≡ t → fitsBits 32 (pick t (pos n) (negsuc (4294967296 - suc n))) ≡ true
+    go true e = e
+    go false e =
+        let l : 2147483648 ≤ n = ltb-false n 2147483648 e in
+        lt-ltb (4294967296 - suc n) 2147483648 (omega arith)
+
+-- what holds of each element and of the default holds of what is chosen
+abbrev Every : {A : Type 0} → (A → Type 0) → List A → Type 0
+Every P [] = Unit {0}
+Every P (a ∷ l) = P a × Every P l
+
+every-at : {A : Type 0} (P : A → Type 0) (l : List A) (d : A) → Every P l → P d → (i : ℕ) → P (getD l i d)
+every-at P [] d all p i = p
+every-at P (a ∷ l) d all p zero = all .0
+every-at P (a ∷ l) d all p (suc i) = every-at P l d (all .1) p i
+
+-- whatever bytes a record has, its head fits
+module _ (bs : List ℕ) (h : Below 256 bs) where
+  span-fits : (i : ℕ) → i < 10 → getD widths i 0 ≡ 2 → getD widths (i + 1) 0 ≡ 2 → FitsSpan (spanAt i bs)
+  span-fits i l e e′ =
+      record {
+        offset = subst (λ (w : ℕ). field i bs < 256 ^ w) e (field-lt bs h i (omega arith));
+        size = subst (λ (w : ℕ). field (i + 1) bs < 256 ^ w) e′ (field-lt bs h (i + 1) (omega arith));
+      }
+
+  number-fits : FitsNumber (fromBits 32 (field 3 bs))
+  number-fits = fromBits-fits (field 3 bs) (field-lt bs h 3 (lit< tt))
+
+  family-fits : FitsFamily (familyAt (field 5 bs) (field 6 bs))
+  family-fits = go (eqb (field 6 bs) 0) refl
+    where
+      go : (t : Bool) → eqb (field 6 bs) 0 ≡ t → FitsFamily (pick t nowhere (span (field 5 bs) (field 6 bs)))
+      go true e = record { span = record { offset = lit< tt; size = lit< tt }; empty = λ z. refl }
+      go false e = record { span = span-fits 5 (lit< tt) refl refl; empty = λ z. absurd (eqb-false (field 6 bs) 0 e z) }
+
+  constraints-fit : FitsConstraints (constraintsAt bs)
+  constraints-fit = go (eqb (field 0 bs % 2) 1)
+    where
+      go : (t : Bool) → FitsConstraints (pick t (some (spanAt 7 bs)) none)
+      go true = span-fits 7 (lit< tt) refl refl
+      go false = tt
+
+  layers-fit : FitsLayers (layersAt bs)
+  layers-fit =
+      let o : field 4 bs < 4294967296 = field-lt bs h 4 (lit< tt) in
+      let low : field 4 bs / 65536 < 65536 = omega arith in
+      let high : field 4 bs % 65536 < 65536 = omega arith in
+      let forms : List (Layers Span) = noLayers ∷ singleLayer (field 4 bs / 65536) ∷ layerRange (field 4 bs / 65536) (field 4 bs % 65536) ∷ layerSet (spanAt 9 bs) ∷ [] in
+      every-at FitsLayers forms noLayers (tt, (low, ((low, high), (span-fits 9 (lit< tt) refl refl, tt)))) tt (field 0 bs / 2 % 4)
+
+  pub head-fits : FitsHead (headAt bs)
+  head-fits =
+      let n = field-lt bs h 1 (lit< tt) in
+      let n′ = field-lt bs h 2 (lit< tt) in
+      let m = number-fits in
+      let o : FitsNumber (fromBits 32 (field 4 bs)) = fromBits-fits (field 4 bs) (field-lt bs h 4 (lit< tt)) in
+      subst FitsHead (sym (headAt-kind bs (field 0 bs / 16) refl))
+      (every-at FitsHead (byKind bs) (leafHead pause) (
+        (n, m),
+        (
+          (n, m),
+          (
+            (n, m),
+            (
+              (n, m),
+              (
+                (n, n′, m),
+                (
+                  (n, n′, m),
+                  ((family-fits, constraints-fit, m), ((layers-fit, family-fits, constraints-fit, m), (tt, ((m, o), (tt, (tt, (tt, (tt, (tt, tt))))))))),
+                ),
+              ),
+            ),
+          ),
+        ),
+      )
+      tt (field 0 bs / 16))
+
+-- a list unpacked from so many bytes has no more records than fit there, the last of them perhaps cut off
+abbrev Few : ℕ → Type 0
+Few k = (bs : List ℕ) → RECORD * size (unpackFrom k bs) ≤ length bs + 24
+
+opened-few : (k : ℕ) → Few k → (bs : List ℕ) → 0 < length bs → (h : Head) → RECORD * size (opened k bs h) ≤ length bs + 24
+unfolding size nodeSize bodySize
+opened-few k ih bs p (leafHead x) =
+    let r = rw (length-drop RECORD bs) at (ih (drop RECORD bs)) in omega arith
+opened-few k ih bs p (groupHead g n m) =
+    let a = simp (length-take, length-drop) at (ih (take (RECORD * n) (drop RECORD bs))) in
+    let r = simp length-drop at (ih (drop (RECORD + RECORD * n) bs)) in
+    omega arith
+opened-few k ih bs p (binaryHead g n n′ m) =
+    let a = simp (length-take, length-drop) at (ih (take (RECORD * n) (drop RECORD bs))) in
+    let b = simp (length-take, length-drop) at (ih (take (RECORD * n′) (drop (RECORD + RECORD * n) bs))) in
+    let r = simp length-drop at (ih (drop (RECORD + RECORD * (n + n′)) bs)) in
+    omega arith
+
+few : (k : ℕ) → Few k
+unfolding unpackFrom size
+few zero bs = omega arith
+few (suc k) [] = omega arith
+few (suc k) (b ∷ bs) = opened-few k (few k) (b ∷ bs) (omega arith) (headAt (b ∷ bs))
+
+pub size-most : (k n : ℕ) (bs : List ℕ) → size (unpackFrom k (take (RECORD * n) bs)) ≤ n
+size-most k n bs =
+    let z = few k (take (RECORD * n) bs) in
+    let l : length (take (RECORD * n) bs) ≤ RECORD * n = simp length-take (omega arith) in
+    omega arith
+
+-- so every tree that bytes unpack to fits
+abbrev AllFit : ℕ → Type 0
+AllFit k = (bs : List ℕ) → Below 256 bs → FitsTree (unpackFrom k bs)
+
+opened-fits : (k : ℕ) → AllFit k → (bs : List ℕ) → Below 256 bs → (h : Head) → FitsHead h → FitsTree (opened k bs h)
+unfolding FitsTree FitsNode FitsBody
+opened-fits k ih bs b (leafHead x) f = (f, ih (drop (RECORD + RECORD * 0) bs) (below-drop 256 (RECORD + RECORD * 0) bs b))
+opened-fits k ih bs b (groupHead g n m) f =
+    let z = size-most k n (drop RECORD bs) in
+    (((omega arith, f .1), ih _ (below-take 256 (RECORD * n) _ (lit< tt) (below-drop 256 RECORD bs b))), ih _ (below-drop 256 (RECORD + RECORD * n) bs b))
+opened-fits k ih bs b (binaryHead g n n′ m) f =
+    let z = size-most k n (drop RECORD bs) in
+    let z′ = size-most k n′ (drop (RECORD + RECORD * n) bs) in (
+      (
+        (omega arith, omega arith, f .2),
+        (
+          ih _ (below-take 256 (RECORD * n) _ (lit< tt) (below-drop 256 RECORD bs b)),
+          ih _ (below-take 256 (RECORD * n′) _ (lit< tt) (below-drop 256 (RECORD + RECORD * n) bs b)),
+        ),
+      ),
+      ih _ (below-drop 256 (RECORD + RECORD * (n + n′)) bs b),
+    )
+
+all-fit : (k : ℕ) → AllFit k
+unfolding unpackFrom FitsTree
+all-fit zero bs b = tt
+all-fit (suc k) [] b = tt
+all-fit (suc k) (x ∷ bs) b = opened-fits k (all-fit k) (x ∷ bs) b (headAt (x ∷ bs)) (head-fits (x ∷ bs) b)
+
+pub unpack-fits : (bs : List ℕ) → Below 256 bs → FitsTree (unpack bs)
+unpack-fits bs b = all-fit (length bs) bs b
+
+-- The bytes of a slice.
+pub slice-below : (bs : List ℕ) → ((i : ℕ) → Fits8 w8 (getD bs i 0)) → Below 256 bs
+slice-below bs f = record { at = λ i. f i .fits }
+
+-- What a caller of `well_formed` knows where it gave true.
+pub record Accepted (text tree : List ℕ) : Type 0 where
+  pub packed : Packed tree
+  pub ok : treeOk text (unpack tree) ≡ true
+  pub low : depth (unpack tree) ≤ MAX-NESTING
+
+pub accepted : (text tree : List ℕ) → Below 256 tree → wellFormed text tree ≡ true → Accepted text tree
+accepted text tree b h =
+    record {
+      packed = record { whole = well-formed-packed text tree h; fits = unpack-fits tree b };
+      ok = well-formed-ok text tree h;
+      low = well-formed-depth text tree h;
+    }

@@ -1,0 +1,46 @@
+-- Well-formed lists inside a tree: as `wellFormed`, with the nesting that is left.
+use Prim.Native.Nat.{ℕ, _+_, _*_}
+use mathlib.Core.Bool.{Bool, _&&_}
+use mathlib.Core.List.{List}
+use lib.Dec.{leb, ltb}
+use lib.ListN.{take, drop}
+use Rattle.notation.specs.Basics.{sameList}
+use Rattle.notation.specs.Packed.{RECORD, pack, unpack, Head, leafHead, groupHead, binaryHead}
+use Rattle.notation.specs.WellFormed.{treeOk, depth, leafOk, multiplierOk}
+
+unfoldable pub formed : List ℕ → ℕ → List ℕ → Bool
+formed text d bs =
+    let t = unpack bs in
+    sameList (pack t) bs && treeOk text t && leb (depth t) d
+
+-- what is asked of a head beside its lists: a group is a level of nesting
+abbrev pub headOk : List ℕ → ℕ → Head → Bool
+headOk text d (leafHead x) = leafOk text x
+headOk text d (groupHead g n m) = ltb 0 d && multiplierOk m
+headOk text d (binaryHead g n n′ m) = ltb 0 d && multiplierOk m
+
+-- The records in a head's two lists, and in both.
+abbrev pub first : Head → ℕ
+first (leafHead x) = 0
+first (groupHead g n m) = n
+first (binaryHead g n n′ m) = n
+
+abbrev pub second : Head → ℕ
+second (leafHead x) = 0
+second (groupHead g n m) = 0
+second (binaryHead g n n′ m) = n′
+
+abbrev pub both : Head → ℕ
+both (leafHead x) = 0
+both (groupHead g n m) = n
+both (binaryHead g n n′ m) = n + n′
+
+-- The bytes of the two lists, and those after the node.
+abbrev pub firstBytes : Head → List ℕ → List ℕ
+firstBytes h bs = take (RECORD * first h) (drop RECORD bs)
+
+abbrev pub secondBytes : Head → List ℕ → List ℕ
+secondBytes h bs = take (RECORD * second h) (drop (RECORD + RECORD * first h) bs)
+
+abbrev pub restBytes : Head → List ℕ → List ℕ
+restBytes h bs = drop (RECORD + RECORD * both h) bs
