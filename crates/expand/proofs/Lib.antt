@@ -1,0 +1,12 @@
+-- What the proofs of several functions use.
+pub mod Nodes
+pub mod Summaries
+pub mod Visiting
+pub mod Steps
+pub mod Undoing
+pub mod Parts
+pub mod Repeating
+pub mod Turning
+pub mod Completing
+pub mod Flattening
+pub mod Seeking

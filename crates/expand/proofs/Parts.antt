@@ -1,0 +1,52 @@
+-- A list in three parts: before a, from a to e, and from e on. Assumes nothing.
+use Prim.Native.Nat.{ℕ, _+_, _-_, _≤_}
+use mathlib.Core.Path.{_≡_, sym, ap, ap₂, _∙_}
+use mathlib.Core.List.{List, _++_, append-assoc}
+use native.Mathlib.Omega.{arith}
+use borrow.Rule.Slice.PartMut.{midOf, putMid, post-is, same-len-mid}
+use lib.ListN.{length, take, drop, length-append, length-drop}
+use lib.Seq.{take-at, drop-at, length-take-le}
+use Rattle.bytes.specs.Bytes.{slice}
+use Rattle.expand.specs.Nodes.{part}
+
+pub record Three (s p x q : List ℕ) (a e : ℕ) : Type 0 where
+  pub bytes : s ≡ p ++ (x ++ q)
+  pub start : length p ≡ a
+  pub end : a + length x ≡ e
+
+module _ {s p x q : List ℕ} {a e : ℕ} (h : Three s p x q a e) where
+  pub before-part : take a s ≡ p
+  before-part = ap (take a) (h .bytes) ∙ take-at p (x ++ q) a (h .start)
+
+  pub from-part : drop a s ≡ x ++ q
+  from-part = ap (drop a) (h .bytes) ∙ drop-at p (x ++ q) a (h .start)
+
+  pub the-part : part a e s ≡ x
+  the-part =
+      let z : length x ≡ e - a = omega (arith, h .end) in
+      ap (take (e - a)) from-part ∙ take-at x q (e - a) z
+
+  both-long : length (p ++ x) ≡ e
+  both-long = length-append p x ∙ omega (arith, h .start, h .end)
+
+  pub after-part : drop e s ≡ q
+  after-part = ap (drop e) (h .bytes ∙ sym (append-assoc p x q)) ∙ drop-at (p ++ x) q e both-long
+
+  pub sliced-part : slice a e s ≡ x
+  unfolding slice
+  sliced-part =
+      ap (λ (t : List ℕ). drop a (take e t)) (h .bytes ∙ sym (append-assoc p x q))
+      ∙ ap (drop a) (take-at (p ++ x) q e both-long)
+      ∙ drop-at p x a (h .start)
+
+  -- the middle put back after it was lent
+  pub put-part : (y : List ℕ) → putMid a (e - a) s y ≡ p ++ (y ++ q)
+  put-part y = ap₂ (λ (f r : List ℕ). f ++ (y ++ r)) before-part (post-is a e s (omega (arith, h .end)) ∙ after-part)
+
+pub part-long : (a : ℕ) (s : List ℕ) → a + 25 ≤ length s → length (part a (a + 25) s) ≡ 25
+part-long a s h =
+    let z : a + 25 - a ≡ 25 = omega arith in
+    ap (λ (n : ℕ). length (take n (drop a s))) z ∙ length-take-le 25 (drop a s) (omega (arith, length-drop a s))
+
+pub put-room : (a k n : ℕ) (xs ys : List ℕ) → length ys ≡ length (midOf a k xs) → n ≤ length xs → n ≤ length (putMid a k xs ys)
+put-room a k n xs ys e h = omega (arith, same-len-mid a k xs ys e)

@@ -1,0 +1,155 @@
+-- `flatten::flatten` and `flatten::flatten_node` meet their contracts. The measures are those of a visit. Assumes nothing.
+use Prim.Native.Nat.{ℕ, _+_, _-_, _*_, _<_}
+use mathlib.Core.Path.{_∙_}
+use borrow.Author.Needs.{needs}
+use native.Mathlib.Omega.{arith}
+use borrow.Rule.Slice.PartMut.{same-len-mid}
+use lib.Dec.{lit≤}
+use lib.ListN.{length}
+use Rattle.expand.proofs.Nodes.{node-room, node-less, list-less, rest-less}
+use Rattle.expand.proofs.Parts.{put-room}
+use Rattle.expand.proofs.Flattening.{
+  Flattening,
+  flattening-starts,
+  flattening-goes-on,
+  flattened,
+  node-fits,
+  next-fits,
+  wrote-fits,
+  room-of,
+  leaf-room,
+  leaf-written,
+  none-written,
+  first-room,
+  second-room,
+  group-room,
+  group-written,
+  binary-pair,
+  binary-room,
+  binary-written,
+}
+use borrow.Fn.Kinds.{In}
+use borrow.Fn.PlainCycle.{Measures, is, falls, and}
+use Rattle.expand.proofs.flatten.flatten.Reads as flatten
+use Rattle.expand.proofs.flatten.flatten.Kinds as flatten-kinds
+use Rattle.expand.proofs.flatten.+flatten+flatten_node.Lts-flatten as flatten-lts
+use Rattle.expand.proofs.flatten.flatten_node.Reads as flatten-node
+use Rattle.expand.proofs.flatten.flatten_node.Kinds as flatten-node-kinds
+use Rattle.expand.proofs.flatten.+flatten+flatten_node.Lts-flatten_node as flatten-node-lts
+use Rattle.bytes.proofs.copy.Reads as copy-reads
+use Rattle.expand.proofs.flatten.complete_binary.Reads as complete-binary-reads
+use Rattle.expand.proofs.flatten.repeat_block.Reads as repeat-block-reads
+use Rattle.expand.proofs.walk.first_end.Reads as first-end-reads
+use Rattle.expand.proofs.walk.node_end.Reads as node-end-reads
+use Rattle.record.proofs.fields.kind.Reads as kind-reads
+use Rattle.record.proofs.fields.number.Reads as number-reads
+use Rattle.expand.proofs.flatten.+flatten+flatten_node.{statement}
+use Rattle.expand.proofs.flatten.+flatten+flatten_node.Tie.{close}
+
+abbrev μ-flatten : Measures 2 flatten-kinds.ps ℕ
+μ-flatten κs a = length (a .0 .now) * 2 + 1
+
+abbrev μ-flatten-node : Measures 2 flatten-node-kinds.ps ℕ
+μ-flatten-node κs a = length (a .0 .now) * 2
+
+abbrev flatten-at : ℕ → In 2 flatten-kinds.ps
+flatten-at t = and 2 flatten-kinds.ps (is 2 flatten-kinds.ps μ-flatten t) flatten.Pre
+
+abbrev flatten-below : ℕ → In 2 flatten-kinds.ps
+flatten-below t = and 2 flatten-kinds.ps (falls 2 flatten-kinds.ps _<_ μ-flatten t) flatten.Pre
+
+abbrev flatten-node-at : ℕ → In 2 flatten-node-kinds.ps
+flatten-node-at t =
+    and 2 flatten-node-kinds.ps (is 2 flatten-node-kinds.ps μ-flatten-node t) flatten-node.Pre
+
+abbrev flatten-node-below : ℕ → In 2 flatten-node-kinds.ps
+flatten-node-below t =
+    and
+    2
+    flatten-node-kinds.ps
+    (falls 2 flatten-node-kinds.ps _<_ μ-flatten-node t)
+    flatten-node.Pre
+
+abbrev flatten-Inv-loop : flatten-lts.InvT-loop
+flatten-Inv-loop tree out₀ t₀ at₀ out t at = Flattening tree out₀ t out at
+
+abbrev flatten-μ-loop : flatten-lts.MeasureT-loop
+flatten-μ-loop tree out₀ t₀ at₀ out t at = length t
+
+pub +flatten+flatten-node-spec : {M : Type 1} → statement M
++flatten+flatten-node-spec = close μ-flatten μ-flatten-node (λ t. flatten-lts.spec (node-end-reads.Asked, node-end-reads.Learnt, flatten-node-below t, flatten-node.Post)
+    (flatten-at t)
+    flatten.Post
+    flatten-Inv-loop
+    flatten-μ-loop
+    (λ c. flattening-starts _ _ (c .before .before .pre .1 .0) (c .before .before .pre .1 .1))  -- flatten-loop-holds
+    (λ c κs. search needs)  -- flatten-node-end-requires
+    (λ c. search needs)  -- flatten-sub-flatten-node
+    (λ c. search needs)  -- flatten-part-flatten-node-start
+    (λ c. search needs)  -- flatten-part-flatten-node-end
+    (λ c. search needs)  -- flatten-sub-flatten-node-2
+    (λ c. search needs)  -- flatten-part-flatten-node-start-2
+    (λ c. search needs)  -- flatten-part-flatten-node-end-2
+    (λ c κs. (
+      node-less (c .before .before .before .before .before .before .before .args .tree .now) (c .before .before .before .before .loop .t .now) (c .before .before .node-end .result) _ (c .before .before .before .before .loop .inv .shorter) (c .before .before .before .before .before .before .before .pre .0),
+      (c .before .before .node-end .ensures .node, (c .before .before .node-end .ensures .isNode, node-fits (c .before .before .before .before .loop .inv) (c .before .before .node-end .ensures))),
+    ))  -- flatten-flatten-node-requires
+    (λ c. omega (arith, next-fits (c .before .before .before .before .before .before .before .loop .inv) (c .before .before .before .before .before .node-end .ensures) (c .before .before .flatten-node .ensures (c .before .before .before .before .before .node-end .ensures .node) (c .before .before .before .before .before .node-end .ensures .isNode)), c .before .before .before .before .before .before .before .loop .inv .long, c .before .before .before .before .before .before .before .before .before .before .good))  -- flatten-add-at
+    (λ c. search needs)  -- flatten-sub-t
+    (λ c. search needs)  -- flatten-part-t-start
+    (λ c. search needs)  -- flatten-part-t-end
+    (λ c. rest-less (c .before .before .before .before .before .before .before .before .loop .t .now) _ (c .before .before .before .before .before .before .node-end .ensures .least) (c .before .before .before .before .before .before .node-end .ensures .most))  -- flatten-loop-less
+    (λ c. flattening-goes-on (c .before .before .before .before .before .before .before .before .loop .inv) (c .before .before .before .before .before .before .node-end .ensures) (c .before .before .before .flatten-node .ensures (c .before .before .before .before .before .before .node-end .ensures .node) (c .before .before .before .before .before .before .node-end .ensures .isNode)) (c .before .before .before .flatten-node .kept .1 .0))  -- flatten-loop-again
+    (λ c. c .before .loop .inv .long)  -- flatten-same-length
+    (λ c. flattened (c .before .loop .inv) (c .loop-test .left)))  -- flatten-returns
+    λ t. flatten-node-lts.spec (kind-reads.Asked, kind-reads.Learnt, copy-reads.Asked, copy-reads.Learnt, number-reads.Asked, number-reads.Learnt, first-end-reads.Asked, first-end-reads.Learnt, flatten-below t, flatten.Post, repeat-block-reads.Asked, repeat-block-reads.Learnt, complete-binary-reads.Asked, complete-binary-reads.Learnt)
+    (flatten-node-at t)
+    flatten-node.Post
+    (λ c κs. node-room (c .before .before .pre .1 .1 .0))  -- flatten-node-kind-requires
+    (λ c κs. leaf-room (c .before .before .before .before .before .pre .1 .0) _ (c .before .before .before .before .before .pre .1 .1 .0) (c .before .before .kind .ensures) (c .before .if1 .taken) (c .before .before .before .before .before .pre .1 .1 .1))  -- flatten-node-copy-requires
+    (λ c. search needs)  -- flatten-node-same-length
+    (λ c. λ n s. leaf-written n _ s (c .before .before .before .before .before .kind .ensures) (c .before .before .before .before .if1 .taken) (c .before .before .copy .ensures .0) (c .before .before .copy .ensures .1))  -- flatten-node-returns
+    (λ c κs. node-room (c .before .before .before .before .pre .1 .1 .0))  -- flatten-node-number-requires
+    (λ c. λ n s. none-written n _ s (c .before .before .before .kind .ensures) (c .before .number .ensures) (c .before .before .if1 .left) (c .if2 .taken))  -- flatten-node-returns-2
+    (λ c κs. (c .before .before .before .before .before .before .pre .1 .0, c .before .before .before .before .before .before .pre .1 .1 .0))  -- flatten-node-first-end-requires
+    (λ c. search needs)  -- flatten-node-sub-flatten
+    (λ c. search needs)  -- flatten-node-part-flatten-start
+    (λ c. search needs)  -- flatten-node-part-flatten-end
+    (λ c κs. (
+      list-less (c .before .before .before .before .before .before .before .before .before .args .node .now) 25 (c .before .before .first-end .result) _ (lit≤ tt) (node-room (c .before .before .before .before .before .before .before .before .before .pre .1 .1 .0)) (c .before .before .before .before .before .before .before .before .before .pre .0),
+      (c .before .before .first-end .ensures .packedFirst, first-room (c .before .before .before .before .before .before .before .before .before .pre .1 .0) _ (c .before .before .before .before .before .before .before .before .before .pre .1 .1 .0) (c .before .before .before .before .before .before .kind .ensures) (c .before .before .before .before .number .ensures) (c .before .before .before .before .before .if1 .left) (c .before .before .before .before .number .ok) (c .before .before .before .if2 .left) (c .before .before .before .before .before .before .before .before .before .pre .1 .1 .1) (c .before .before .first-end .ensures .unpacksFirst (c .before .before .before .before .before .before .before .before .before .pre .1 .0) (c .before .before .before .before .before .before .before .before .before .pre .1 .1 .0))),
+    ))  -- flatten-node-flatten-requires
+    (λ c κs. group-room (c .before .before .before .before .before .before .before .before .before .before .before .before .before .before .pre .1 .0) _ (c .before .before .before .before .before .before .before .before .before .before .before .before .before .before .pre .1 .1 .0) (c .before .before .before .before .before .before .before .before .before .before .before .kind .ensures) (c .before .before .before .before .before .before .before .before .before .number .ensures) (c .before .before .before .before .before .before .before .before .before .before .if1 .left) (c .before .if3 .taken) (c .before .before .before .before .before .before .before .before .before .number .ok) (c .before .before .before .before .before .before .before .before .if2 .left) (room-of (c .before .before .before .before .before .before .before .before .before .before .before .before .before .before .pre .1 .0) (c .before .before .before .before .before .before .before .before .before .before .before .before .before .before .pre .1 .1 .0) (c .before .before .before .before .before .before .before .before .before .before .before .before .before .before .pre .1) (c .before .before .before .before .flatten .kept .1 .0))
+    (c .before .before .before .before .before .before .before .first-end .ensures .unpacksFirst (c .before .before .before .before .before .before .before .before .before .before .before .before .before .before .pre .1 .0) (c .before .before .before .before .before .before .before .before .before .before .before .before .before .before .pre .1 .1 .0)) (c .before .before .before .before .flatten .ensures))  -- flatten-node-repeat-block-requires
+    (λ c. search needs)  -- flatten-node-same-length-2
+    (λ c. λ n s. group-written n _ s (c .before .before .before .before .before .before .before .before .before .before .before .before .before .before .kind .ensures) (c .before .before .before .before .before .before .before .before .before .before .before .before .number .ensures) (c .before .before .before .before .before .before .before .before .before .before .before .before .before .if1 .left) (c .before .before .before .before .if3 .taken) (c .before .before .before .before .before .before .before .before .before .before .before .before .number .ok) (c .before .before .before .before .before .before .before .before .before .before .before .if2 .left) (room-of n s (c .before .before .before .before .before .before .before .before .before .before .before .before .before .before .before .before .before .pre .1) (c .before .before .before .before .before .before .before .flatten .kept .1 .0))
+    (c .before .before .before .before .before .before .before .before .before .before .first-end .ensures .unpacksFirst n s) (c .before .before .before .before .before .before .before .flatten .ensures) (c .before .before .repeat-block .ensures))  -- flatten-node-returns-3
+    (λ c. search needs)  -- flatten-node-sub-flatten-2
+    (λ c. search needs)  -- flatten-node-part-flatten-start-2
+    (λ c. search needs)  -- flatten-node-part-flatten-end-2
+    (λ c. wrote-fits (c .before .before .before .before .flatten .ensures))  -- flatten-node-sub-flatten-3
+    (λ c. wrote-fits (c .before .before .before .before .flatten .ensures))  -- flatten-node-part-flatten-start-3
+    (λ c. search needs)  -- flatten-node-part-flatten-end-3
+    (λ c κs. (
+      list-less (c .before .before .before .before .before .before .before .before .before .before .before .before .before .before .before .args .node .now) (c .before .before .before .before .before .before .before .before .first-end .result) _ _ (c .before .before .before .before .before .before .before .before .first-end .ensures .least) (node-room (c .before .before .before .before .before .before .before .before .before .before .before .before .before .before .before .pre .1 .1 .0)) (c .before .before .before .before .before .before .before .before .before .before .before .before .before .before .before .pre .0),
+      (
+        c .before .before .before .before .before .before .before .before .first-end .ensures .packedSecond,
+        second-room (c .before .before .before .before .before .before .before .before .before .before .before .before .before .before .before .pre .1 .0) _ (c .before .before .before .before .before .before .before .before .before .before .before .before .before .before .before .pre .1 .1 .0) (c .before .before .before .before .before .before .before .before .before .before .before .before .kind .ensures) (c .before .before .before .before .before .before .before .before .before .before .number .ensures) (c .before .before .before .before .before .before .before .before .before .before .before .if1 .left) (c .before .before .before .before .before .flatten .last .1 .0) (c .before .before .before .before .before .before .before .before .before .before .number .ok) (c .before .before .before .before .before .before .before .before .before .if2 .left) (room-of (c .before .before .before .before .before .before .before .before .before .before .before .before .before .before .before .pre .1 .0) (c .before .before .before .before .before .before .before .before .before .before .before .before .before .before .before .pre .1 .1 .0) (c .before .before .before .before .before .before .before .before .before .before .before .before .before .before .before .pre .1) (c .before .before .before .before .before .flatten .kept .1 .0))
+            (c .before .before .before .before .before .before .before .before .first-end .ensures .unpacksFirst (c .before .before .before .before .before .before .before .before .before .before .before .before .before .before .before .pre .1 .0) (c .before .before .before .before .before .before .before .before .before .before .before .before .before .before .before .pre .1 .1 .0)) (c .before .before .before .before .before .flatten .ensures) (c .before .before .before .before .before .before .before .before .first-end .ensures .unpacksSecond (c .before .before .before .before .before .before .before .before .before .before .before .before .before .before .before .pre .1 .0) (c .before .before .before .before .before .before .before .before .before .before .before .before .before .before .before .pre .1 .1 .0)),
+      ),
+    ))  -- flatten-node-flatten-requires-2
+    (λ c κs. binary-pair (c .before .before .before .before .before .before .before .before .before .before .before .before .before .before .before .before .before .before .before .pre .1 .0) _ (c .before .before .before .before .before .before .before .before .before .before .before .before .before .before .before .before .before .before .before .pre .1 .1 .0) (c .before .before .before .before .before .before .before .before .before .before .before .before .before .before .before .before .kind .ensures) (c .before .before .before .before .before .before .before .before .before .before .before .before .before .before .number .ensures) (c .before .before .before .before .before .before .before .before .before .before .before .before .before .before .before .if1 .left) (c .before .before .before .before .before .before .if3 .left) (wrote-fits (c .before .before .before .before .before .before .before .before .before .flatten .ensures)) (c .before .before .before .before .before .before .before .before .before .before .before .before .first-end .ensures .unpacksFirst (c .before .before .before .before .before .before .before .before .before .before .before .before .before .before .before .before .before .before .before .pre .1 .0) (c .before .before .before .before .before .before .before .before .before .before .before .before .before .before .before .before .before .before .before .pre .1 .1 .0)) (c .before .before .before .before .before .before .before .before .before .flatten .ensures)
+    (c .before .before .before .before .before .before .before .before .before .before .before .before .first-end .ensures .unpacksSecond (c .before .before .before .before .before .before .before .before .before .before .before .before .before .before .before .before .before .before .before .pre .1 .0) (c .before .before .before .before .before .before .before .before .before .before .before .before .before .before .before .before .before .before .before .pre .1 .1 .0)) (c .before .before .before .flatten2 .ensures)
+    (put-room (c .before .before .before .before .before .before .before .before .before .flatten .result) (length (c .before .before .before .before .before .before .before .before .before .flatten .last .1 .0) - c .before .before .before .before .before .before .before .before .before .flatten .result) _ (c .before .before .before .before .before .before .before .before .before .flatten .last .1 .0) (c .before .before .before .flatten2 .last .1 .0) (c .before .before .before .flatten2 .kept .1 .0) (room-of (c .before .before .before .before .before .before .before .before .before .before .before .before .before .before .before .before .before .before .before .pre .1 .0) (c .before .before .before .before .before .before .before .before .before .before .before .before .before .before .before .before .before .before .before .pre .1 .1 .0) (c .before .before .before .before .before .before .before .before .before .before .before .before .before .before .before .before .before .before .before .pre .1) (c .before .before .before .before .before .before .before .before .before .flatten .kept .1 .0)))
+    (c .before .before .before .before .before .before .before .before .before .before .before .before .before .before .number .ok) (c .before .before .before .before .before .before .before .before .before .before .before .before .before .if2 .left))  -- flatten-node-complete-binary-requires
+    (λ c κs. binary-room (c .before .before .before .before .before .before .before .before .before .before .before .before .before .before .before .before .before .before .before .before .before .before .before .pre .1 .0) _ (c .before .before .before .before .before .before .before .before .before .before .before .before .before .before .before .before .before .before .before .before .before .before .before .pre .1 .1 .0) (c .before .before .before .before .before .before .before .before .before .before .before .before .before .before .before .before .before .before .before .before .kind .ensures) (c .before .before .before .before .before .before .before .before .before .before .before .before .before .before .before .before .before .before .number .ensures) (c .before .before .before .before .before .before .before .before .before .before .before .before .before .before .before .before .before .before .before .if1 .left) (c .before .before .before .before .before .before .before .before .before .before .if3 .left) (wrote-fits (c .before .before .before .before .before .before .before .before .before .before .before .before .before .flatten .ensures)) (c .before .before .before .before .before .before .before .before .before .before .before .before .before .before .before .before .first-end .ensures .unpacksFirst (c .before .before .before .before .before .before .before .before .before .before .before .before .before .before .before .before .before .before .before .before .before .before .before .pre .1 .0) (c .before .before .before .before .before .before .before .before .before .before .before .before .before .before .before .before .before .before .before .before .before .before .before .pre .1 .1 .0)) (c .before .before .before .before .before .before .before .before .before .before .before .before .before .flatten .ensures)
+    (c .before .before .before .before .before .before .before .before .before .before .before .before .before .before .before .before .first-end .ensures .unpacksSecond (c .before .before .before .before .before .before .before .before .before .before .before .before .before .before .before .before .before .before .before .before .before .before .before .pre .1 .0) (c .before .before .before .before .before .before .before .before .before .before .before .before .before .before .before .before .before .before .before .before .before .before .before .pre .1 .1 .0)) (c .before .before .before .before .before .before .before .flatten2 .ensures)
+    (put-room (c .before .before .before .before .before .before .before .before .before .before .before .before .before .flatten .result) (length (c .before .before .before .before .before .before .before .before .before .before .before .before .before .flatten .last .1 .0) - c .before .before .before .before .before .before .before .before .before .before .before .before .before .flatten .result) _ (c .before .before .before .before .before .before .before .before .before .before .before .before .before .flatten .last .1 .0) (c .before .before .before .before .before .before .before .flatten2 .last .1 .0) (c .before .before .before .before .before .before .before .flatten2 .kept .1 .0) (room-of (c .before .before .before .before .before .before .before .before .before .before .before .before .before .before .before .before .before .before .before .before .before .before .before .pre .1 .0) (c .before .before .before .before .before .before .before .before .before .before .before .before .before .before .before .before .before .before .before .before .before .before .before .pre .1 .1 .0) (c .before .before .before .before .before .before .before .before .before .before .before .before .before .before .before .before .before .before .before .before .before .before .before .pre .1) (c .before .before .before .before .before .before .before .before .before .before .before .before .before .flatten .kept .1 .0)))
+    (c .before .before .before .before .before .before .before .before .before .before .before .before .before .before .before .before .before .before .number .ok) (c .before .before .before .before .before .before .before .before .before .before .before .before .before .before .before .before .before .if2 .left)
+    (room-of (c .before .before .before .before .before .before .before .before .before .before .before .before .before .before .before .before .before .before .before .before .before .before .before .pre .1 .0) (c .before .before .before .before .before .before .before .before .before .before .before .before .before .before .before .before .before .before .before .before .before .before .before .pre .1 .1 .0) (c .before .before .before .before .before .before .before .before .before .before .before .before .before .before .before .before .before .before .before .before .before .before .before .pre .1) (c .before .before .before .complete-binary .kept .0 ∙ same-len-mid (c .before .before .before .before .before .before .before .before .before .before .before .before .before .flatten .result) (length (c .before .before .before .before .before .before .before .before .before .before .before .before .before .flatten .last .1 .0) - c .before .before .before .before .before .before .before .before .before .before .before .before .before .flatten .result) (c .before .before .before .before .before .before .before .before .before .before .before .before .before .flatten .last .1 .0) (c .before .before .before .before .before .before .before .flatten2 .last .1 .0) (c .before .before .before .before .before .before .before .flatten2 .kept .1 .0) ∙ c .before .before .before .before .before .before .before .before .before .before .before .before .before .flatten .kept .1 .0)) (c .before .before .before .complete-binary .ensures))  -- flatten-node-repeat-block-requires-2
+    (λ c. search needs)  -- flatten-node-same-length-3
+    (λ c. λ n s. binary-written n _ s (c .before .before .before .before .before .before .before .before .before .before .before .before .before .before .before .before .before .before .before .before .before .before .before .kind .ensures) (c .before .before .before .before .before .before .before .before .before .before .before .before .before .before .before .before .before .before .before .before .before .number .ensures) (c .before .before .before .before .before .before .before .before .before .before .before .before .before .before .before .before .before .before .before .before .before .before .if1 .left) (c .before .before .before .before .before .before .before .before .before .before .before .before .before .if3 .left) (wrote-fits (c .before .before .before .before .before .before .before .before .before .before .before .before .before .before .before .before .flatten .ensures)) (c .before .before .before .before .before .before .before .before .before .before .before .before .before .before .before .before .before .before .before .first-end .ensures .unpacksFirst n s) (c .before .before .before .before .before .before .before .before .before .before .before .before .before .before .before .before .flatten .ensures)
+    (c .before .before .before .before .before .before .before .before .before .before .before .before .before .before .before .before .before .before .before .first-end .ensures .unpacksSecond n s) (c .before .before .before .before .before .before .before .before .before .before .flatten2 .ensures)
+    (put-room (c .before .before .before .before .before .before .before .before .before .before .before .before .before .before .before .before .flatten .result) (length (c .before .before .before .before .before .before .before .before .before .before .before .before .before .before .before .before .flatten .last .1 .0) - c .before .before .before .before .before .before .before .before .before .before .before .before .before .before .before .before .flatten .result) _ (c .before .before .before .before .before .before .before .before .before .before .before .before .before .before .before .before .flatten .last .1 .0) (c .before .before .before .before .before .before .before .before .before .before .flatten2 .last .1 .0) (c .before .before .before .before .before .before .before .before .before .before .flatten2 .kept .1 .0) (room-of n s (c .before .before .before .before .before .before .before .before .before .before .before .before .before .before .before .before .before .before .before .before .before .before .before .before .before .before .pre .1) (c .before .before .before .before .before .before .before .before .before .before .before .before .before .before .before .before .flatten .kept .1 .0)))
+    (c .before .before .before .before .before .before .before .before .before .before .before .before .before .before .before .before .before .before .before .before .before .number .ok) (c .before .before .before .before .before .before .before .before .before .before .before .before .before .before .before .before .before .before .before .before .if2 .left)
+    (room-of n s (c .before .before .before .before .before .before .before .before .before .before .before .before .before .before .before .before .before .before .before .before .before .before .before .before .before .before .pre .1) (c .before .before .before .before .before .before .complete-binary .kept .0 ∙ same-len-mid (c .before .before .before .before .before .before .before .before .before .before .before .before .before .before .before .before .flatten .result) (length (c .before .before .before .before .before .before .before .before .before .before .before .before .before .before .before .before .flatten .last .1 .0) - c .before .before .before .before .before .before .before .before .before .before .before .before .before .before .before .before .flatten .result) (c .before .before .before .before .before .before .before .before .before .before .before .before .before .before .before .before .flatten .last .1 .0) (c .before .before .before .before .before .before .before .before .before .before .flatten2 .last .1 .0) (c .before .before .before .before .before .before .before .before .before .before .flatten2 .kept .1 .0) ∙ c .before .before .before .before .before .before .before .before .before .before .before .before .before .before .before .before .flatten .kept .1 .0)) (c .before .before .before .before .before .before .complete-binary .ensures) (c .before .before .repeat-block2 .ensures))  -- flatten-node-returns-4

@@ -1,0 +1,5 @@
+-- What the contracts of this crate cite beside the rules of `notation` and the laws.
+pub mod Nodes
+pub mod Meaning
+pub mod Steps
+pub mod Places

@@ -1,0 +1,195 @@
+// The step at a place of the unrolled list, found by passing over whole nodes and whole repeats by their counts: the time
+// does not depend on the number of steps.
+ghost use mathlib.Core.Path.{_≡_};
+ghost use mathlib.Core.Bool.{Bool, false};
+ghost use mathlib.Core.List.{_++_};
+ghost use mathlib.Core.Option.{Option};
+ghost use Prim.Native.Nat.{_+_, _*_, _≤_, _<_};
+ghost use lib.ListN.{length, drop};
+ghost use Rattle.notation.specs.Basics.{pick};
+ghost use Rattle.notation.specs.Tree.{Node, Leaf, Tree};
+ghost use Rattle.notation.specs.Invert.{undo};
+ghost use Rattle.notation.specs.Packed.{RECORD as recordSize, leafRecord, unpack};
+ghost use Rattle.notation.specs.declared.common.BinaryGroupKind.the-variants as kinds;
+ghost use Rattle.laws.proofs.Walking.{Packed};
+ghost use Rattle.laws.proofs.Counting.{count};
+ghost use Rattle.laws.proofs.Seeking as seeking;
+ghost use Rattle.expand.specs.Places.{undoIf, found, Within, Goes, Leads, Onward};
+ghost use Rattle.expand.specs.Steps.{Undoable};
+use crate::flatten::undo_record;
+use crate::visit::visit;
+use crate::visit::visit_node;
+use crate::walk::first_end;
+use crate::walk::node_end;
+use bytes::copy;
+use numbers::signed::is_negative;
+use numbers::signed::magnitude;
+use record::RECORD;
+use record::fields;
+
+// Where to look on: the list from `from` to `to` of a node's bytes, for the step at a place of it, which is to be inverted or not.
+struct Way {
+    from: usize,
+    to: usize,
+    place: u64,
+    inverted: bool,
+}
+
+// A list in a node's bytes and the number of its steps.
+struct List {
+    from: usize,
+    to: usize,
+    count: u64,
+}
+
+// Writes the record of the step at a place to the front of step.
+pub fn seek(tree: &[u8], place: u64, step: &mut [u8])
+    requires { ⌜ Packed (now tree) ⌝ }
+    requires { ⌜ (place < count (unpack (now tree))) × (count (unpack (now tree)) ≤ 4294967295) ⌝ }
+    requires { ⌜ recordSize ≤ length (now step) ⌝ }
+    ensures { λ _. ⌜ now (step .exit) ≡ found (seeking.seek false (unpack (now (tree .entry))) place) ++ drop recordSize (now (step .entry)) ⌝ }
+{
+    let mut t = tree;
+    let mut at = place;
+    let mut inverted = false;
+    loop {
+        let end = node_end(t);
+        let node = &t[0..end];
+        let summary = visit_node(node);
+        let steps = summary.steps;
+        if steps <= at {
+            at -= steps;
+            t = &t[end..];
+        } else {
+            if 5 < fields::kind(node) {
+                write_step(node, inverted, step);
+                return;
+            }
+            let way = in_block(node, steps, at);
+            let from = way.from;
+            let to = way.to;
+            at = way.place;
+            inverted = differ(inverted, way.inverted);
+            t = &node[from..to];
+        }
+    }
+}
+
+// Writes a step's record, undone if it is inverted.
+fn write_step(from: &[u8], inverted: bool, step: &mut [u8])
+    requires { ⌜ (length (now from) ≡ recordSize) × (recordSize ≤ length (now step)) ⌝ }
+    ensures { λ _. ⌜ ((x : Leaf) → Undoable x → now (from .entry) ≡ leafRecord x → now (step .exit) ≡ leafRecord (pick inverted (undo x) x) ++ drop recordSize (now (step .entry))) ⌝ }
+{
+    copy(from, step);
+    if inverted {
+        undo_record(&mut step[0..RECORD]);
+    }
+}
+
+fn differ(a: bool, b: bool) -> bool
+    ensures { λ r. ⌜ ((o : Option Leaf) → undoIf a (undoIf b o) ≡ undoIf r o) ⌝ }
+{
+    if a {
+        return !b;
+    }
+    b
+}
+
+// In a group of so many steps: repeats are passed by the remainder.
+fn in_block(node: &[u8], steps: u64, at: u64) -> Way
+    requires { ⌜ ((n : Node Leaf) × Within (now node) steps at n) ⌝ }
+    ensures { λ r. ⌜ ((n : Node Leaf) → Within (now (node .entry)) steps at n → Onward (now (node .entry)) n at r) ⌝ }
+{
+    let multiplier = fields::number(node);
+    let count = steps / (magnitude(multiplier) as u64);
+    let place = at % count;
+    let inverted = is_negative(multiplier);
+    let middle = first_end(node);
+    let kind = fields::kind(node);
+    if kind < 4 {
+        let whole = List {
+            from: RECORD,
+            to: middle,
+            count,
+        };
+        return in_list(whole, place, inverted);
+    }
+    let inside = visit(&node[RECORD..middle]);
+    let a = inside.steps;
+    let first = List {
+        from: RECORD,
+        to: middle,
+        count: a,
+    };
+    if kind == 5 {
+        let second = List {
+            from: middle,
+            to: node.len(),
+            count: count - 2 * a,
+        };
+        return in_conjugate(first, second, place, inverted);
+    }
+    let second = List {
+        from: middle,
+        to: node.len(),
+        count: count / 2 - a,
+    };
+    if inverted {
+        return in_commutator(second, first, place);
+    }
+    in_commutator(first, second, place)
+}
+
+// In A B A' B'.
+fn in_commutator(a: List, b: List, place: u64) -> Way
+    requires { ⌜ place < 2 * (a .count + b .count) ⌝ }
+    ensures { λ r. ⌜ ((l m : Tree) → count l ≡ a .count → count m ≡ b .count → Leads a b l m (seeking.seekBinary kinds.Commutator false (count l) (count m) (λ e k. seeking.seek e l k) (λ e k. seeking.seek e m k) place) r) ⌝ }
+{
+    if place < a.count {
+        return in_list(a, place, false);
+    }
+    let in_b = place - a.count;
+    if in_b < b.count {
+        return in_list(b, in_b, false);
+    }
+    let back = in_b - b.count;
+    if back < a.count {
+        return in_list(a, back, true);
+    }
+    in_list(b, back - a.count, true)
+}
+
+// In A B A', or A B' A' inverted.
+fn in_conjugate(a: List, b: List, place: u64, inverted: bool) -> Way
+    requires { ⌜ place < 2 * a .count + b .count ⌝ }
+    ensures { λ r. ⌜ ((l m : Tree) → count l ≡ a .count → count m ≡ b .count → Leads a b l m (seeking.seekBinary kinds.Conjugate inverted (count l) (count m) (λ e k. seeking.seek e l k) (λ e k. seeking.seek e m k) place) r) ⌝ }
+{
+    if place < a.count {
+        return in_list(a, place, false);
+    }
+    let in_b = place - a.count;
+    if in_b < b.count {
+        return in_list(b, in_b, inverted);
+    }
+    in_list(a, in_b - b.count, true)
+}
+
+fn in_list(list: List, place: u64, inverted: bool) -> Way
+    requires { ⌜ place < list .count ⌝ }
+    ensures { λ r. ⌜ Goes list place inverted r ⌝ }
+{
+    if inverted {
+        return Way {
+            from: list.from,
+            to: list.to,
+            place: list.count - 1 - place,
+            inverted: true,
+        };
+    }
+    Way {
+        from: list.from,
+        to: list.to,
+        place,
+        inverted: false,
+    }
+}
