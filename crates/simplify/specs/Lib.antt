@@ -1,3 +1,0 @@
--- What the contracts of this crate cite beside the rules of `notation`.
-pub mod Reach
-pub mod Elements
