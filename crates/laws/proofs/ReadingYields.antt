@@ -95,7 +95,7 @@ module _ {c : Place} where
 
 -- Parts in braces.
 module _ {c : Place} where
-  yields-braces : {A : Type 0} {item : Reader A} (t : A → Bool) → Yields c item (λ a n. t a ≡ true) → Yields c (braces item) (λ l n. every t l ≡ true)
+  pub yields-braces : {A : Type 0} {item : Reader A} (t : A → Bool) → Yields c item (λ a n. t a ≡ true) → Yields c (braces item) (λ l n. every t l ≡ true)
   unfolding every
   yields-braces t y =
       yields-bind (yields-just "{") λ _ _ _.
@@ -124,7 +124,7 @@ module _ {c : Place} where
           yields-bind yields-familyText λ b m q. yields-done (and-both (nameInRange a) _ p q))
       (yields-bind yields-familyText λ a n p. yields-done p))
 
-  yields-element : (hsc1 : Bool) → Yields c (layerSetElement hsc1) (λ x n. elementInRange x ≡ true)
+  pub yields-element : (hsc1 : Bool) → Yields c (layerSetElement hsc1) (λ x n. elementInRange x ≡ true)
   yields-element hsc1 =
       yields-or
       (yields-bind yields-signed λ i n p. yields-bind (yields-word "..") λ _ _ _.

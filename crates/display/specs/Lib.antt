@@ -1,0 +1,4 @@
+-- What the contracts of this crate cite beside the rules of `notation`.
+pub mod Written
+pub mod Nodes
+pub mod Sets

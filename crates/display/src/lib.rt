@@ -1,0 +1,8 @@
+// Printing a packed tree: the `Display` of the Rust's unspanned.rs and common.rs.
+
+mod common;
+mod sets;
+mod unspanned;
+mod write;
+
+pub use unspanned::display;

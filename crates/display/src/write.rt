@@ -1,0 +1,80 @@
+// Bytes and numbers, written where they fit. Each function takes the place to write at and hands back the place after, so that a
+// run over a part that is too short still measures the text.
+ghost use mathlib.Core.Path.{_≡_};
+ghost use mathlib.Core.List.{_∷_, _++_};
+ghost use Prim.Native.Nat.{_≤_, _%_, min};
+ghost use Rattle.notation.specs.Numbers.{show, showSigned, fromBits};
+ghost use Rattle.display.specs.Written.{MOST as most, Wrote};
+use numbers::signed::is_negative;
+use numbers::signed::magnitude;
+
+// Places are held here, past the end of every slice, so that no sum wraps.
+const MOST: usize = 0x8000_0000_0000_0000;
+
+fn hold(n: usize) -> usize
+    ensures { λ r. ⌜ r ≡ min n most ⌝ }
+{
+    if n < MOST { n } else { MOST }
+}
+
+pub(crate) fn put_bytes(out: &mut [u8], at: usize, bytes: &[u8]) -> usize
+    requires { ⌜ at ≤ most ⌝ }
+    ensures { λ r. ⌜ Wrote (now (out .entry)) (now (out .exit)) at r (λ rest. now (bytes .entry) ++ rest) ⌝ }
+{
+    let end = hold(at + bytes.len());
+    if out.len() < end {
+        return end;
+    }
+    let mut i = 0;
+    while i < bytes.len() {
+        out[at + i] = bytes[i];
+        i += 1;
+    }
+    end
+}
+
+pub(crate) fn put(out: &mut [u8], at: usize, byte: u8) -> usize
+    requires { ⌜ at ≤ most ⌝ }
+    ensures { λ r. ⌜ Wrote (now (out .entry)) (now (out .exit)) at r (λ rest. byte ∷ rest) ⌝ }
+{
+    if at < out.len() {
+        out[at] = byte;
+        return at + 1;
+    }
+    hold(at + 1)
+}
+
+// A number in decimal. The digits are found from the last one on.
+pub(crate) fn put_number(out: &mut [u8], at: usize, n: u32) -> usize
+    requires { ⌜ at ≤ most ⌝ }
+    ensures { λ r. ⌜ Wrote (now (out .entry)) (now (out .exit)) at r (show n) ⌝ }
+{
+    let mut digits = [0u8; 10];
+    let mut rest = n;
+    let mut i: usize = 9;
+    while 10 <= rest {
+        digits[i] = b'0' + digit(rest);
+        rest = rest / 10;
+        i -= 1;
+    }
+    digits[i] = b'0' + digit(rest);
+    put_bytes(out, at, &digits[i..])
+}
+
+fn digit(n: u32) -> u8
+    ensures { λ r. ⌜ r ≡ n % 10 ⌝ }
+{
+    (n % 10) as u8
+}
+
+// A number given by its 32 bits.
+pub(crate) fn put_signed(out: &mut [u8], at: usize, bits: u32) -> usize
+    requires { ⌜ at ≤ most ⌝ }
+    ensures { λ r. ⌜ Wrote (now (out .entry)) (now (out .exit)) at r (showSigned (fromBits 32 bits)) ⌝ }
+{
+    if is_negative(bits) {
+        let next = put(out, at, b'-');
+        return put_number(out, next, magnitude(bits));
+    }
+    put_number(out, at, magnitude(bits))
+}

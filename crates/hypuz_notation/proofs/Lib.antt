@@ -1,0 +1,4 @@
+pub mod Outcomes
+pub mod Inverting
+pub mod Stepping
+pub mod Displaying

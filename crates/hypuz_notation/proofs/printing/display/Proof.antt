@@ -1,0 +1,75 @@
+-- `printing::display` meets its contract: each way out is one case of the rule. Assumes nothing.
+use native.Mathlib.Omega.{arith}
+use borrow.Author.Needs.{needs}
+use Rattle.hypuz_notation.proofs.Outcomes.{refused}
+use Rattle.hypuz_notation.proofs.Displaying.{display-unsound, display-short, display-written}
+use Rattle.hypuz_notation.proofs.printing.display.Statement.{statement}
+use Rattle.hypuz_notation.proofs.printing.display.Tie as tie
+
+check-requires : tie.Need-check-requires
+check-requires c κs = search needs
+
+returns : tie.Need-returns
+returns c =
+    let check = c .before in
+    let a = check .before .before .before .before .args in
+    display-unsound (a .text .now) (a .tree .now) (a .out .now) (check .check .result) (refused (a .text .now) (a .tree .now) _ (check .check .ensures .0) (c .if1 .taken))
+
+slice-aggregate-display : tie.Need-slice-aggregate-display
+slice-aggregate-display c = search needs
+
+display-requires : tie.Need-display-requires
+display-requires c κs =
+    let sound = c .before .before .check .ensures .1 (c .before .if1 .left) in
+    (sound .packed, sound .ok)
+
+returns-2 : tie.Need-returns-2
+returns-2 c =
+    let measure = c .before .before in
+    let check = measure .before .before .before in
+    let a = check .before .before .before .before .args in
+    display-short (a .text .now) (a .tree .now) (a .out .now) (check .check .ensures .1 (measure .before .before .if1 .left)) _ (measure .display .ensures .0) (c .if2 .taken)
+
+sub-display : tie.Need-sub-display
+sub-display c = search needs
+
+part-display-start : tie.Need-part-display-start
+part-display-start c = search needs
+
+part-display-end : tie.Need-part-display-end
+part-display-end c = search needs
+
+display-requires-2 : tie.Need-display-requires-2
+display-requires-2 c κs =
+    let measure = c .before .before .before in
+    let sound = measure .before .before .before .check .ensures .1 (measure .before .before .if1 .left) in
+    (sound .packed, sound .ok)
+
+same-length : tie.Need-same-length
+same-length c = search needs
+
+returns-3 : tie.Need-returns-3
+returns-3 c =
+    let write = c .before .before in
+    let measure = write .before .before .before .before in
+    let check = measure .before .before .before in
+    let start = check .before .before .before .before in
+    let a = start .args in
+    display-written (a .text .now) (a .tree .now) (a .out .now) (check .check .ensures .1 (measure .before .before .if1 .left)) _ (measure .display .ensures .0) (omega (arith, start .good))
+    (write .before .before .if2 .left) _ (write .display2 .ensures .1)
+
+pub display-spec : {M : Type 1} → statement M
+display-spec =
+    tie.close
+    (tie.spec
+    check-requires
+    returns
+    slice-aggregate-display
+    display-requires
+    returns-2
+    sub-display
+    part-display-start
+    part-display-end
+    display-requires-2
+    same-length
+    returns-3)

@@ -1,0 +1,15 @@
+// The public entries: each checks its own inputs, and its answer and the final bytes of its buffer are those of its rule in
+// notation/specs/Entries.
+
+pub mod check;
+pub mod inverses;
+pub mod printing;
+pub mod steps;
+
+pub use inverses::inv;
+pub use inverses::inv_deep;
+pub use parse::parse_notation;
+pub use printing::display;
+pub use steps::count_steps;
+pub use steps::flatten;
+pub use steps::seek_step;

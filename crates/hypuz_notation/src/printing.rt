@@ -1,0 +1,23 @@
+// A tree as text.
+ghost use mathlib.Core.Path.{_≡_};
+ghost use Rattle.notation.specs.Entries as rule;
+use crate::check::NO_ROOM;
+use crate::check::check;
+use notation::answer::Answer;
+
+// Refusals 1, 2, 6, 5. The first run has no room and only measures.
+pub fn display(text: &[u8], tree: &[u8], out: &mut [u8]) -> Answer
+    ensures { λ r. ⌜ record { answer = rule.outcome r; buffer = now (out .exit) } ≡ rule.displayEntry (now (text .entry)) (now (tree .entry)) (now (out .entry)) ⌝ }
+{
+    let unsound = check(text, tree);
+    if unsound != 0 {
+        return Answer::Refused(unsound);
+    }
+    let mut nothing = [0u8; 0];
+    let size = display::display(text, tree, &mut nothing);
+    if out.len() < size {
+        return Answer::Refused(NO_ROOM);
+    }
+    display::display(text, tree, &mut out[0..size]);
+    Answer::Value(size as u64)
+}

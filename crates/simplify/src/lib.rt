@@ -1,0 +1,6 @@
+// Layer ranges of a move: `LayerPrefixContents::to_ranges` and `simplify` of the Rust's unspanned.rs.
+
+pub mod reach;
+pub mod unspanned;
+
+pub use unspanned::simplify;
