@@ -2,3 +2,5 @@ pub mod Outcomes
 pub mod Inverting
 pub mod Stepping
 pub mod Displaying
+pub mod Records
+pub mod Naming

@@ -3,12 +3,16 @@
 
 pub mod check;
 pub mod inverses;
+pub mod parts;
 pub mod printing;
 pub mod steps;
 
 pub use inverses::inv;
 pub use inverses::inv_deep;
 pub use parse::parse_notation;
+pub use parts::family;
+pub use parts::family_refusal;
+pub use parts::simplify;
 pub use printing::display;
 pub use steps::count_steps;
 pub use steps::flatten;
