@@ -4,3 +4,4 @@ pub mod Stepping
 pub mod Displaying
 pub mod Records
 pub mod Naming
+pub mod Agreeing

@@ -1,3 +1,4 @@
 -- What the contracts of this crate cite beside the rules of `notation` and their laws.
 pub mod Sound
 pub mod Parts
+pub mod Agreement

@@ -1,12 +1,14 @@
 // The public entries: each checks its own inputs, and its answer and the final bytes of its buffer are those of its rule in
 // notation/specs/Entries.
 
+pub mod agreement;
 pub mod check;
 pub mod inverses;
 pub mod parts;
 pub mod printing;
 pub mod steps;
 
+pub use agreement::agree;
 pub use inverses::inv;
 pub use inverses::inv_deep;
 pub use parse::parse_notation;
