@@ -5,3 +5,4 @@ pub mod Displaying
 pub mod Records
 pub mod Naming
 pub mod Agreeing
+pub mod Handing

@@ -2,3 +2,4 @@
 pub mod Sound
 pub mod Parts
 pub mod Agreement
+pub mod Host

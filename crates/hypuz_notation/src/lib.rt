@@ -3,6 +3,7 @@
 
 pub mod agreement;
 pub mod check;
+pub mod host;
 pub mod inverses;
 pub mod parts;
 pub mod printing;
