@@ -107,33 +107,17 @@ fn in_block(node: &[u8], steps: u64, at: u64) -> Way
     let middle = first_end(node);
     let kind = fields::kind(node);
     if kind < 4 {
-        let whole = List {
-            from: RECORD,
-            to: middle,
-            count,
-        };
+        let whole = List { from: RECORD, to: middle, count };
         return in_list(whole, place, inverted);
     }
     let inside = visit(&node[RECORD..middle]);
     let a = inside.steps;
-    let first = List {
-        from: RECORD,
-        to: middle,
-        count: a,
-    };
+    let first = List { from: RECORD, to: middle, count: a };
     if kind == 5 {
-        let second = List {
-            from: middle,
-            to: node.len(),
-            count: count - 2 * a,
-        };
+        let second = List { from: middle, to: node.len(), count: count - 2 * a };
         return in_conjugate(first, second, place, inverted);
     }
-    let second = List {
-        from: middle,
-        to: node.len(),
-        count: count / 2 - a,
-    };
+    let second = List { from: middle, to: node.len(), count: count / 2 - a };
     if inverted {
         return in_commutator(second, first, place);
     }

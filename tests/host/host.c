@@ -1,0 +1,178 @@
+/* Calls every C function from a host and checks answers, written bytes and untouched bytes. Prints 'N checks, 0 failed' at the end. */
+#include "hypuz_notation.h"
+
+#include <stdio.h>
+#include <stdlib.h>
+#include <string.h>
+
+enum { ROOM = 4096, GUARD = 32, FILL = 0xa5 };
+
+static int checks, failures;
+
+static void expect(int holds, const char *what, const char *text) {
+    checks++;
+    if (!holds) {
+        failures++;
+        printf("failed: %s of %s\n", what, text);
+    }
+}
+
+/* A lent buffer with guards on both sides, filled anew before each call. */
+static uint8_t space[GUARD + ROOM + GUARD];
+
+static uint8_t *lend(void) {
+    memset(space, FILL, sizeof space);
+    return space + GUARD;
+}
+
+/* Whether all bytes but the first `used` of the lent buffer are as they were. */
+static int untouched(size_t used) {
+    for (size_t i = 0; i < sizeof space; i++)
+        if ((i < GUARD || i >= GUARD + used) && space[i] != FILL) return 0;
+    return 1;
+}
+
+static uint64_t refused(uint64_t number) { return number << 56; }
+
+static const uint8_t *bytes(const char *s) { return (const uint8_t *)s; }
+
+/* Reads a text, which is to be accepted, into `tree`; answers its size. */
+static size_t read_text(const char *text, uint8_t *tree) {
+    uint64_t a = hypuz_parse_notation(bytes(text), strlen(text), HYPUZ_MAXIMAL, tree, ROOM);
+    expect(hypuz_refusal(a) == 0, "reading", text);
+    return (size_t)hypuz_value(a);
+}
+
+/* The printed form of some records over a text. */
+static void prints(const char *text, const uint8_t *tree, size_t size, const char *shown) {
+    uint8_t *out = lend();
+    size_t n = strlen(shown);
+    uint64_t a = hypuz_display(bytes(text), strlen(text), tree, size, out, ROOM);
+    expect(a == n && memcmp(out, shown, n) == 0 && untouched(n), "printing", text);
+    out = lend();
+    a = hypuz_display(bytes(text), strlen(text), tree, size, out, n);
+    expect(a == n && untouched(n), "printing in an exact fit", text);
+    if (n > 0) {
+        out = lend();
+        a = hypuz_display(bytes(text), strlen(text), tree, size, out, n - 1);
+        expect(a == refused(5) && untouched(0), "printing in a short buffer", text);
+    }
+}
+
+/* Text, printed text, shallow inverse, deep inverse (or the number of its refusal), unrolled list. */
+static void item(const char *text, const char *shown, const char *inverse, const char *deep, unsigned deep_refusal, const char *steps, uint64_t n) {
+    uint8_t tree[ROOM], other[ROOM];
+    size_t size = read_text(text, tree);
+    uint8_t *out = lend();
+    expect(hypuz_parse_notation(bytes(text), strlen(text), HYPUZ_MAXIMAL, out, size) == size && memcmp(out, tree, size) == 0 && untouched(size), "reading in an exact fit", text);
+    if (size > 0) {
+        out = lend();
+        expect(hypuz_parse_notation(bytes(text), strlen(text), HYPUZ_MAXIMAL, out, size - 1) == refused(5) && untouched(0), "reading in a short buffer", text);
+    }
+    prints(text, tree, size, shown);
+    out = lend();
+    expect(hypuz_inv(bytes(text), strlen(text), tree, size, out, ROOM) == size && untouched(size), "inverse", text);
+    memcpy(other, out, size);
+    prints(text, other, size, inverse);
+    out = lend();
+    uint64_t a = hypuz_inv_deep(bytes(text), strlen(text), tree, size, out, ROOM);
+    if (deep) {
+        expect(a == size && untouched(size), "deep inverse", text);
+        memcpy(other, out, size);
+        prints(text, other, size, deep);
+    } else {
+        expect(a == refused(deep_refusal) && untouched(0), "deep inverse", text);
+    }
+    expect(hypuz_count_steps(bytes(text), strlen(text), tree, size) == n, "counting", text);
+    out = lend();
+    expect(hypuz_flatten(bytes(text), strlen(text), tree, size, out, ROOM) == 25 * n && untouched(25 * n), "unrolling", text);
+    uint8_t list[ROOM];
+    memcpy(list, out, 25 * n);
+    prints(text, list, 25 * n, steps);
+    for (uint64_t k = 0; k < n; k++) {
+        out = lend();
+        expect(hypuz_seek_step(bytes(text), strlen(text), tree, size, k, out, 25) == 25 && memcmp(out, list + 25 * k, 25) == 0 && untouched(25), "seeking", text);
+        out = lend();
+        expect(hypuz_seek_step(bytes(text), strlen(text), tree, size, k, out, 24) == refused(5) && untouched(0), "seeking in a short buffer", text);
+    }
+    out = lend();
+    expect(hypuz_seek_step(bytes(text), strlen(text), tree, size, n, out, ROOM) == refused(10) && untouched(0), "seeking past the end", text);
+}
+
+/* The layer ranges of record 0, written as low-high with commas. */
+static void ranges(const char *text, uint32_t layers, uint32_t negatives, const char *shown) {
+    uint8_t tree[ROOM];
+    size_t size = read_text(text, tree);
+    uint8_t *out = lend();
+    uint64_t n = hypuz_simplify(bytes(text), strlen(text), tree, size, 0, layers, negatives, out, ROOM);
+    char list[256] = "";
+    for (uint64_t i = 0; i < n && i < 16; i++)
+        sprintf(list + strlen(list), "%s%d-%d", i ? "," : "", out[4 * i] * 256 + out[4 * i + 1], out[4 * i + 2] * 256 + out[4 * i + 3]);
+    expect(strcmp(list, shown) == 0 && untouched(4 * n), "layer ranges", text);
+    if (n > 0) {
+        out = lend();
+        expect(hypuz_simplify(bytes(text), strlen(text), tree, size, 0, layers, negatives, out, 4 * n - 1) == refused(5) && untouched(0), "layer ranges in a short buffer", text);
+    }
+}
+
+static void refusals(void) {
+    uint8_t tree[ROOM];
+    uint8_t *out = lend();
+    uint8_t *large = malloc(65536);
+    memset(large, ' ', 65536);
+    expect(hypuz_parse_notation(large, 65536, HYPUZ_WCA, out, ROOM) == refused(1) && untouched(0), "refusal 1", "65,536 spaces");
+    expect(hypuz_parse_notation(large, 65535, HYPUZ_WCA, out, ROOM) == 0 && untouched(0), "reading", "65,535 spaces");
+    expect(hypuz_count_steps(large, 65536, tree, 0) == refused(1), "refusal 1", "65,536 spaces");
+    free(large);
+    expect(hypuz_parse_notation(bytes("\xff"), 1, HYPUZ_WCA, out, ROOM) == refused(2) && untouched(0), "refusal 2", "FF");
+    char deep[66] = "";
+    memset(deep, '(', 65);
+    expect(hypuz_parse_notation(bytes(deep), 65, HYPUZ_WCA, out, ROOM) == refused(3) && untouched(0), "refusal 3", "65 parentheses");
+    expect(hypuz_parse_notation(bytes("R)"), 2, HYPUZ_WCA, out, ROOM) == refused(4) && untouched(0), "refusal 4", "R)");
+    expect(hypuz_parse_notation(bytes("@R"), 2, HYPUZ_WCA, out, ROOM) == refused(4) && untouched(0), "a feature that is off", "@R");
+    expect(hypuz_parse_notation(bytes("@R"), 2, HYPUZ_GENERALIZED_ROTATIONS | 0xffffff80u, out, ROOM) == 25, "higher bits of features", "@R");
+    out = lend();
+    memset(tree, 0, sizeof tree);
+    tree[0] = 0xf0;
+    expect(hypuz_display(bytes("R"), 1, tree, 25, out, ROOM) == refused(6) && untouched(0), "refusal 6", "kind 15");
+    expect(hypuz_inv(bytes("R"), 1, tree, 24, out, ROOM) == refused(6) && untouched(0), "refusal 6", "24 bytes");
+    size_t size = read_text("^(R)0", tree);
+    expect(hypuz_count_steps(bytes("^(R)0"), 5, tree, size) == refused(7), "refusal 7", "^(R)0");
+    expect(hypuz_flatten(bytes("^(R)0"), 5, tree, size, out, ROOM) == refused(7) && untouched(0), "refusal 7", "^(R)0");
+    size = read_text("(-2147483648,0)", tree);
+    expect(hypuz_inv(bytes("(-2147483648,0)"), 15, tree, size, out, ROOM) == refused(8) && untouched(0), "refusal 8", "(-2147483648,0)");
+    size = read_text("((R)65536)65536", tree);
+    expect(hypuz_count_steps(bytes("((R)65536)65536"), 15, tree, size) == refused(9), "refusal 9", "((R)65536)65536");
+    size = read_text("((R)65535)65537", tree);
+    expect(hypuz_count_steps(bytes("((R)65535)65537"), 15, tree, size) == 4294967295u, "counting", "((R)65535)65537");
+    expect(hypuz_seek_step(bytes("((R)65535)65537"), 15, tree, size, 4294967294u, out, 25) == 25, "seeking the last step", "((R)65535)65537");
+    out = lend();
+    expect(hypuz_seek_step(bytes("((R)65535)65537"), 15, tree, size, 4294967295u, out, 25) == refused(10) && untouched(0), "refusal 10", "((R)65535)65537");
+    size = read_text(". R", tree);
+    expect(hypuz_simplify(bytes(". R"), 3, tree, size, 1, 0, 1, out, ROOM) == refused(11) && untouched(0), "refusal 11", "0 layers");
+    expect(hypuz_simplify(bytes(". R"), 3, tree, size, 1, 32768, 1, out, ROOM) == refused(11) && untouched(0), "refusal 11", "32,768 layers");
+    expect(hypuz_simplify(bytes(". R"), 3, tree, size, 0, 3, 1, out, ROOM) == refused(12) && untouched(0), "refusal 12", "layers of a pause");
+    expect(hypuz_simplify(bytes(". R"), 3, tree, size, 2, 3, 1, out, ROOM) == refused(12) && untouched(0), "refusal 12", "no such record");
+    expect(hypuz_family(bytes(". R"), 3, tree, size, 0) == refused(12), "refusal 12", "family of a pause");
+    expect(hypuz_family(bytes(". R"), 3, tree, size, UINT64_MAX) == refused(12), "refusal 12", "family of no record");
+    expect(hypuz_family(bytes(". R"), 3, tree, size, 1) == 2 * 65536 + 1, "family", ". R");
+}
+
+int main(void) {
+    item("", "", "", "", 0, "", 0);
+    item("R U'", "R U'", "U R'", "U R'", 0, "R U'", 2);
+    item("[R, U]", "[R, U]", "[R, U]'", "[U, R]", 0, "R U R' U'", 4);
+    item("[R, U]'", "[R, U]'", "[R, U]", "[U, R]'", 0, "U R U' R'", 4);
+    item("[R: U2 F]'", "[R: U2 F]'", "[R: U2 F]", "[R: F' U2']'", 0, "R F' U2' R'", 4);
+    item("(R U')2'", "(R U')2'", "(R U')2", "(U R')2'", 0, "U R' U R'", 4);
+    item("(^(R))0", "(^(R))0", "(^(R))0", NULL, 7, "", 0);
+    item("R++ (1,-2) / .", "R++ (1, -2) / .", ". / (-1, 2) R--", ". / (-1, 2) R--", 0, "R++ (1, -2) / .", 4);
+    item("~{1-3,-2}R{a->b}3' @{}", "~{1..3,-2}R{a->b}3' @{}", "@{}' ~{1..3,-2}R{a->b}3", "@{}' ~{1..3,-2}R{a->b}3", 0, "~{1..3,-2}R{a->b}3' @{}", 2);
+    ranges("{1,3,2,-1}R", 5, 1, "1-3,5-5");
+    ranges("{2..9}R", 3, 0, "2-3");
+    ranges("{5..9}R", 3, 0, "");
+    ranges("R", 3, 0, "1-1");
+    refusals();
+    printf("%d checks, %d failed\n", checks, failures);
+    return failures != 0;
+}
