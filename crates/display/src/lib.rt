@@ -2,7 +2,7 @@
 
 mod common;
 mod sets;
-mod unspanned;
-mod write;
+pub mod unspanned;
+pub mod write;
 
 pub use unspanned::display;

@@ -162,7 +162,7 @@ pub fn display(text: &[u8], tree: &[u8], out: &mut [u8]) -> usize
 }
 
 // The nodes of a list, with one space between them.
-fn node_list(out: &mut [u8], at: usize, text: &[u8], tree: &[u8]) -> usize
+pub fn node_list(out: &mut [u8], at: usize, text: &[u8], tree: &[u8]) -> usize
     requires { ⌜ at ≤ most ⌝ }
     requires { ⌜ Packed (now tree) ⌝ }
     requires { ⌜ wellFormed.treeOk (now text) (unpack (now tree)) ≡ true ⌝ }

@@ -17,7 +17,7 @@ fn hold(n: usize) -> usize
     if n < MOST { n } else { MOST }
 }
 
-pub(crate) fn put_bytes(out: &mut [u8], at: usize, bytes: &[u8]) -> usize
+pub fn put_bytes(out: &mut [u8], at: usize, bytes: &[u8]) -> usize
     requires { ⌜ at ≤ most ⌝ }
     ensures { λ r. ⌜ Wrote (now (out .entry)) (now (out .exit)) at r (λ rest. now (bytes .entry) ++ rest) ⌝ }
 {
@@ -33,7 +33,7 @@ pub(crate) fn put_bytes(out: &mut [u8], at: usize, bytes: &[u8]) -> usize
     end
 }
 
-pub(crate) fn put(out: &mut [u8], at: usize, byte: u8) -> usize
+pub fn put(out: &mut [u8], at: usize, byte: u8) -> usize
     requires { ⌜ at ≤ most ⌝ }
     ensures { λ r. ⌜ Wrote (now (out .entry)) (now (out .exit)) at r (λ rest. byte ∷ rest) ⌝ }
 {
@@ -45,7 +45,7 @@ pub(crate) fn put(out: &mut [u8], at: usize, byte: u8) -> usize
 }
 
 // A number in decimal. The digits are found from the last one on.
-pub(crate) fn put_number(out: &mut [u8], at: usize, n: u32) -> usize
+pub fn put_number(out: &mut [u8], at: usize, n: u32) -> usize
     requires { ⌜ at ≤ most ⌝ }
     ensures { λ r. ⌜ Wrote (now (out .entry)) (now (out .exit)) at r (show n) ⌝ }
 {

@@ -76,7 +76,7 @@ module _ (text tree : List ℕ) (sound : Sound text tree) (s : Summary) (e : sum
 
 -- Where the count is refused, unrolling and seeking are; the answer is handed on as it is.
 module _ (text tree : List ℕ) (o : Outcome ℕ) (e : o ≡ countSteps text tree) (r : ℕ) (q : o ≡ refusal r) (buffer : List ℕ) where
-  refused-steps : steps text tree ≡ refusal r
+  pub refused-steps : steps text tree ≡ refusal r
   refused-steps = go (steps text tree) refl
     where
       go : (l : Outcome (List Leaf)) → steps text tree ≡ l → steps text tree ≡ refusal r
@@ -105,7 +105,7 @@ within (x ∷ l) zero h = (x, refl)
 within (x ∷ l) (suc k) h = within l k (omega arith)
 
 module _ (text tree : List ℕ) (n : ℕ) (c : Counted text tree n) (buffer : List ℕ) where
-  these : steps text tree ≡ result (flat undo false (unpack tree))
+  pub these : steps text tree ≡ result (flat undo false (unpack tree))
   unfolding steps
   these = rw (c .sound .is, flatten-is (unpack tree) false, c .unrefused, count-is (unpack tree) false, sym (c .steps), le-leb n MAX-STEPS (c .most))
 

@@ -1,0 +1,6 @@
+// The listing of a text, as the lister program writes it (document 01).
+
+pub mod lines;
+pub mod listing;
+
+pub use listing::list;
