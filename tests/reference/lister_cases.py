@@ -10,7 +10,7 @@ import reading_vectors as made
 WORD = b"m\n"
 
 
-def inputs():
+def fixed():
     for t in ("", "w", "m", "w\n", "m\n", "x\n", "W\n", "M\nR", "mm\nR", " m\nR", "m R", "m\r\nR", "\nm\nR", "wm\n", "m\n\n", "w\n[R: U2 F]'", "m\n[R: U2 F]'"):
         yield t.encode()
     # the marked items and the refusals
@@ -29,6 +29,10 @@ def inputs():
         yield WORD + t
     yield b"x\n" + b"R" * 4000
     yield b"w\n" + b"R " * 2000
+
+
+def inputs():
+    yield from fixed()
     for t in made.texts():
         yield random.choice((b"m\n", b"m\n", b"w\n")) + t.encode()
     for _ in range(150):

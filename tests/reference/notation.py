@@ -270,14 +270,19 @@ class Reader:
         return nodes
 
 
-def read(text, features):
-    """The nodes of a text; raises Refused 1 to 4."""
+def check_text(text):
+    """Refusals 1 and 2."""
     if len(text) > 65535:
         raise Refused(1)
     try:
         text.decode("utf-8")
     except UnicodeDecodeError:
         raise Refused(2) from None
+
+
+def read(text, features):
+    """The nodes of a text; raises Refused 1 to 4."""
+    check_text(text)
     level = 0
     for b in text:
         level += (b in b"([") - (b in b")]")
@@ -321,6 +326,135 @@ def record(n):
 
 def pack(nodes):
     return b"".join(record(n) + b"".join(pack(l) for l in n.lists) for n in nodes)
+
+
+FIELDS = (("kind", 4), ("tilde", 1), ("form", 2), ("constrained", 1), ("first", 16), ("second", 16), ("number", 32), ("d", 32),
+          ("family", 16), ("family_size", 16), ("constraints", 16), ("constraints_size", 16), ("set", 16), ("set_size", 16))
+RECORD = 25
+DEEPEST = 64
+
+
+def unpack(data):
+    """The fields of one record, as a dictionary; `number` and `d` are signed."""
+    bits = int.from_bytes(data, "big")
+    fields = {}
+    for name, size in reversed(FIELDS):
+        fields[name] = bits & (1 << size) - 1
+        bits >>= size
+    for name in ("number", "d"):
+        fields[name] -= (fields[name] >> 31) << 32
+    return fields
+
+
+def used_fields(f):
+    """The fields that a record of its kind and forms uses; all others are to be 0."""
+    kind = f["kind"]
+    if kind < COMMUTATOR:
+        return {"kind", "first", "number"}
+    if kind < ROTATION:
+        return {"kind", "first", "second", "number"}
+    if kind == PAIR:
+        return {"kind", "number", "d"}
+    if kind not in (ROTATION, MOVE):
+        return {"kind"}
+    used = {"kind", "constrained", "number", "family_size"}
+    if f["family_size"]:
+        used.add("family")
+    if f["constrained"]:
+        used |= {"constraints", "constraints_size"}
+    if kind == MOVE:
+        used |= {"tilde", "form"} | {0: set(), 1: {"d"}, 2: {"d"}, 3: {"set", "set_size"}}[f["form"]]
+    return used
+
+
+class Tree:
+    """The nodes of a packed tree over a text; raises Refused 6 where it is not well formed."""
+
+    def __init__(self, text, tree):
+        self.text = text
+        self.tree = tree
+        self.need(len(tree) % RECORD == 0)
+        self.nodes = self.list(0, len(tree) // RECORD, 0)
+
+    def need(self, fact):
+        if not fact:
+            raise Refused(6)
+
+    def part(self, f, name):
+        a, size = f[name], f[name + "_size"]
+        self.need(a + size <= len(self.text))
+        return (a, size), self.text[a:a + size]
+
+    def read_part(self, part, rule):
+        """A layer set or a constraint set, which takes the whole part under all features."""
+        try:
+            r = Reader(part, MAXIMAL)
+        except UnicodeDecodeError:
+            raise Refused(6) from None
+        found = r.braces(rule(r))
+        self.need(found is not None and r.i == len(r.s))
+        return found
+
+    def list(self, at, end, depth):
+        nodes = []
+        while at < end:
+            f = unpack(self.tree[RECORD * at:RECORD * (at + 1)])
+            self.need(f["kind"] <= DMM)
+            used = used_fields(f)
+            self.need(all(not f[name] for name, _ in FIELDS if name not in used))
+            if f["kind"] >= ROTATION:
+                nodes.append(self.leaf(f))
+                at += 1
+                continue
+            middle = at + 1 + f["first"]
+            last = middle + f["second"]
+            self.need(depth < DEEPEST and last <= end and f["number"] != LEAST)
+            lists = [self.list(at + 1, middle, depth + 1)]
+            if f["kind"] >= COMMUTATOR:
+                lists.append(self.list(middle, last, depth + 1))
+            nodes.append(Node(f["kind"], lists=lists, number=f["number"]))
+            at = last
+        return nodes
+
+    def leaf(self, f):
+        kind = f["kind"]
+        if kind == PAIR:
+            return Node(kind, number=f["number"], d=f["d"])
+        if kind not in (ROTATION, MOVE):
+            return Node(kind)
+        self.need(f["number"] != LEAST)
+        family, name = self.part(f, "family")
+        try:
+            name = name.decode("utf-8")
+        except UnicodeDecodeError:
+            raise Refused(6) from None
+        self.need(all(map(family_char, name)) and (name or kind == ROTATION))
+        constraints = None
+        if f["constrained"]:
+            span, part = self.part(f, "constraints")
+            constraints = (span, self.read_part(part, lambda r: r.constraint))
+        return Node(kind, tilde=bool(f["tilde"]), layers=self.layers(f), family=family, name=name, constraints=constraints, number=f["number"])
+
+    def layers(self, f):
+        low, high = f["d"] >> 16 & 0xFFFF, f["d"] & 0xFFFF
+        if f["form"] == 0:
+            return None
+        if f["form"] == 3:
+            span, part = self.part(f, "set")
+            return ("set", span, self.read_part(part, lambda r: r.element))
+        self.need(1 <= low <= high <= 32767)
+        if f["form"] == 2:
+            return ("range", low, high)
+        self.need(low == high)
+        return ("single", low)
+
+
+def well_formed(text, tree):
+    try:
+        Tree(text, tree)
+    except Refused:
+        return False
+    return True
 
 
 UNDONE = {RPP: RMM, RMM: RPP, DPP: DMM, DMM: DPP}
@@ -389,30 +523,52 @@ def show_list(nodes):
     return " ".join(map(show, nodes))
 
 
-def unroll(nodes, inverted=False, limit=None):
-    """The unrolled list; raises Refused 7 or 8. With a limit only so many steps are made (the rest is neither made nor walked)."""
+def repeated(n, inverted):
+    """What a group repeats: lists with their directions, in order."""
+    d = inverted != (n.number < 0)
+    if n.kind == COMMUTATOR:
+        a, b = n.lists[::-1] if d else n.lists
+        return [(a, False), (b, False), (a, True), (b, True)]
+    if n.kind == CONJUGATE:
+        return [(n.lists[0], False), (n.lists[1], d), (n.lists[0], True)]
+    return [(n.lists[0], d)]
+
+
+def unroll(nodes, inverted=False):
+    """The unrolled list; raises Refused 7 or 8."""
+    unroll_check(nodes, inverted)
+    return steps(nodes, inverted)
+
+
+def steps(nodes, inverted):
+    """The same where nothing is refused. A group that counts 0 is passed over: in 64 conjugates with nothing in them it saves 2^64 visits."""
     out = []
+    for n in reversed(nodes) if inverted else nodes:
+        if not n.lists:
+            out.append(undo(n) if inverted else n)
+        elif count([n]):
+            out += [step for l, d in repeated(n, inverted) for step in steps(l, d)] * abs(n.number)
+    return out
+
+
+def unroll_check(nodes, inverted=False, known=None):
+    """Raises the refusal that unrolling meets first: a list is looked at once in each direction."""
+    known = {} if known is None else known
+    if (id(nodes), inverted) in known:
+        return
     for n in reversed(nodes) if inverted else nodes:
         if n.kind == NISS:
             raise Refused(7)
         if not n.lists:
-            out.append(undo(n) if inverted else n)
-            continue
-        d = inverted != (n.number < 0)
-        if n.number == 0:
-            continue
-        if n.kind == COMMUTATOR:
-            a, b = n.lists[::-1] if d else n.lists
-            part = unroll(a) + unroll(b) + unroll(a, True) + unroll(b, True)
-        elif n.kind == CONJUGATE:
-            part = unroll(n.lists[0]) + unroll(n.lists[1], d) + unroll(n.lists[0], True)
-        else:
-            part = unroll(n.lists[0], d)
-        out += part * abs(n.number)
-    return out
+            undo(n) if inverted else None
+        elif n.number:
+            for l, d in repeated(n, inverted):
+                unroll_check(l, d, known)
+    known[id(nodes), inverted] = True
 
 
 def count(nodes):
+    """The length of the unrolled list."""
     total = 0
     for n in nodes:
         if not n.lists:
@@ -421,6 +577,23 @@ def count(nodes):
             c = [count(l) for l in n.lists]
             total += abs(n.number) * {COMMUTATOR: 2 * sum(c), CONJUGATE: 2 * c[0] + c[-1]}.get(n.kind, c[0])
     return total
+
+
+def step_at(nodes, k, inverted=False):
+    """Entry k of the unrolled list, found by counts; k is below them."""
+    for n in reversed(nodes) if inverted else nodes:
+        c = count([n])
+        if k >= c:
+            k -= c
+            continue
+        if not n.lists:
+            return undo(n) if inverted else n
+        k %= c // abs(n.number)
+        for l, d in repeated(n, inverted):
+            if k < count(l):
+                return step_at(l, k, d)
+            k -= count(l)
+    raise IndexError
 
 
 def resolve(i, layers, negatives):
@@ -456,3 +629,83 @@ def ranges(n, layers, negatives):
         else:
             out.append((low, high))
     return out
+
+
+# The entries that take a text and a tree. Each gives what it writes (bytes), or raises Refused; `lend` is left to the caller.
+
+
+def opened(text, tree):
+    """The nodes of a tree; raises Refused 1, 2 or 6."""
+    check_text(text)
+    return Tree(text, tree).nodes
+
+
+def lend(written, room, size=1):
+    """Refusal 5: `room` bytes hold room // size entries."""
+    if len(written) // size > room // size:
+        raise Refused(5)
+    return written
+
+
+def inv(text, tree):
+    return pack(inverse(opened(text, tree)))
+
+
+def inv_deep(text, tree):
+    return pack(deep_inverse(opened(text, tree)))
+
+
+def display(text, tree):
+    return show_list(opened(text, tree)).encode()
+
+
+def count_steps(text, tree):
+    nodes = opened(text, tree)
+    unroll_check(nodes)
+    n = count(nodes)
+    if n > 4294967295:
+        raise Refused(9)
+    return n
+
+
+def flatten(text, tree, room=None):
+    """With a room, refusal 5 is told by the count, so that a long list need not be made."""
+    n = count_steps(text, tree)
+    if room is not None and RECORD * n > room:
+        raise Refused(5)
+    return pack(unroll(opened(text, tree)))
+
+
+def seek_step(text, tree, place):
+    if place >= count_steps(text, tree):
+        raise Refused(10)
+    return record(step_at(opened(text, tree), place))
+
+
+def in_order(nodes):
+    """Every record, as numbered."""
+    for n in nodes:
+        yield n
+        for l in n.lists:
+            yield from in_order(l)
+
+
+def record_at(nodes, number, kinds):
+    found = list(in_order(nodes))
+    if number >= len(found) or found[number].kind not in kinds:
+        raise Refused(12)
+    return found[number]
+
+
+def simplify(text, tree, number, max_layer, negatives):
+    """Four bytes for each range."""
+    nodes = opened(text, tree)
+    if not 1 <= max_layer <= 32767:
+        raise Refused(11)
+    move = record_at(nodes, number, (MOVE,))
+    return b"".join(i.to_bytes(2, "big") for r in ranges(move, max_layer, negatives) for i in r)
+
+
+def family(text, tree, number):
+    a, size = record_at(opened(text, tree), number, (MOVE, ROTATION)).family
+    return text[a:a + size]

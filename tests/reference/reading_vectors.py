@@ -1,51 +1,26 @@
-#!/usr/bin/env python3
-"""Stored vectors for reading: writes crates/replay/stdin and crates/replay/stdout, from the reference reader beside this file.
+"""Stored vectors for reading.
 
-A case is a line: features (2 hex digits, bit i the i-th flag of notation.FLAGS), length of the lent buffer (6 hex digits), then segments,
-each `count:bytes;` with the count in 5 hex digits and the bytes in hex, repeated so often. The answer is a line: `refused N`, or `read N`
-with the bytes used, then the tree in hex (up to 20 records) or its checksum. The buffer is filled with aa before each call; a byte that is
-touched and must not be ends the line with ` touched`.
+A case is a line: `r`, features (2 hex digits, bit i the i-th flag of notation.FLAGS), length of the lent buffer (6 hex digits), then the
+text's segments. The answer's value is the count of bytes used, and its bytes the tree.
 """
 import itertools
-import os
 import random
 
 import notation as n
+from lines import ROOM, refused, spelled, value
 
 MAX, WCA, MIN = 0x7F, 0x60, 0x00
-ROOM = None  # as much as is needed, and 3 bytes more
-
-
-def segments(text):
-    """Text as (count, bytes) pairs: long runs of one byte or pair of bytes are folded."""
-    if len(text) <= 400:
-        return [(1, text)] if text else []
-    for size in (1, 2, 3, 4, 5, 6, 7, 8, 9, 10, 12, 16):
-        unit = text[:size]
-        k = len(text) // size
-        if unit * k == text[:size * k]:
-            return [(k, unit)] + ([(1, text[size * k:])] if text[size * k:] else [])
-    half = len(text) // 2
-    return segments(text[:half]) + segments(text[half:])
-
-
-def checksum(data):
-    total = 0
-    for b in data:
-        total = (total * 31 + b) % 0x1000000
-    return total
 
 
 def answer(bits, text, room):
     try:
         tree = n.pack(n.read(text, n.features_of(bits)))
     except n.Refused as r:
-        return f"refused {r.number}", 0 if room is None else room
+        return refused(r.number), 0 if room is None else room
     room = len(tree) + 3 if room is None else room
     if len(tree) > room:
-        return "refused 5", room
-    shown = tree.hex() if len(tree) <= 500 else f"sum {checksum(tree):06x}"
-    return f"read {len(tree)} {shown}", room
+        return refused(5), room
+    return value(len(tree), tree), room
 
 
 def texts():
@@ -139,18 +114,8 @@ def well_made(depth):
     return nodes(depth)
 
 
-def main():
-    home = os.path.join(os.path.dirname(os.path.abspath(__file__)), "..", "..", "crates", "replay")
-    os.makedirs(home, exist_ok=True)
-    total = 0
-    with open(os.path.join(home, "stdin"), "w") as given, open(os.path.join(home, "stdout"), "w") as expected:
-        for bits, text, room in cases():
-            line, room = answer(bits, text, room)
-            given.write(f"{bits:02x}{room:06x}" + "".join(f"{k:05x}:{unit.hex()};" for k, unit in segments(text)) + "\n")
-            expected.write(line + "\n")
-            total += 1
-    print(total, "cases")
-
-
-if __name__ == "__main__":
-    main()
+def lines():
+    """Each case with its answer."""
+    for bits, text, room in cases():
+        line, room = answer(bits, text, room)
+        yield f"r{bits:02x}{room:06x}{spelled(text)}", line

@@ -31,10 +31,8 @@ fn glyph(value: u8) -> u8
     }
 }
 
-// The number that all of `digits` spell; no field of a case has more than 24 bits.
-pub fn number(digits: &[u8]) -> Decoded
-    ensures { λ r. ⌜ AtMost 16777215 r ⌝ }
-{
+// The number that all of `digits` spell; no field of a case has more than 64 bits.
+pub fn number(digits: &[u8]) -> Decoded {
     let mut value = 0;
     let mut i = 0;
     while i < digits.len() {
@@ -42,7 +40,7 @@ pub fn number(digits: &[u8]) -> Decoded
         if d > 15 {
             return Decoded::Damaged;
         }
-        if value > 0xfffff {
+        if value > 0xfffffffffffffff {
             return Decoded::Damaged;
         }
         value = value * 16 + d;

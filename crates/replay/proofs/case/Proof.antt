@@ -5,11 +5,11 @@ use borrow.Author.Needs.{needs}
 use Rattle.replay.proofs.case.Statement.{statement}
 use Rattle.replay.proofs.case.Tie as tie
 
-slice-aggregate-case : tie.Need-slice-aggregate-case
-slice-aggregate-case c = search needs
+slice-aggregate-answer : tie.Need-slice-aggregate-answer
+slice-aggregate-answer c = search needs
 
-case-requires : tie.Need-case-requires
-case-requires c κs = search needs
+answer-requires : tie.Need-answer-requires
+answer-requires c κs = search needs
 
 enum-known-n : tie.Need-enum-known-n
 enum-known-n c = search needs
@@ -21,7 +21,7 @@ part-write-all-start : tie.Need-part-write-all-start
 part-write-all-start c = search needs
 
 part-write-all-end : tie.Need-part-write-all-end
-part-write-all-end c = omega (arith, value-at-most (c .before .before .before .before .before .before .before .before .before .case .ensures) (c .before .before .n .given .1))
+part-write-all-end c = omega (arith, value-at-most (c .before .before .before .before .before .before .before .before .before .before .before .answer .ensures) (c .before .before .n .given .1))
 
 write-all-requires : tie.Need-write-all-requires
 write-all-requires c κs = search needs
@@ -41,14 +41,20 @@ same-length c = search needs
 same-length-2 : tie.Need-same-length-2
 same-length-2 c = search needs
 
-returns : tie.Need-returns
-returns c = search needs
-
 same-length-3 : tie.Need-same-length-3
 same-length-3 c = search needs
 
+returns : tie.Need-returns
+returns c = search needs
+
 same-length-4 : tie.Need-same-length-4
 same-length-4 c = search needs
+
+same-length-5 : tie.Need-same-length-5
+same-length-5 c = search needs
+
+same-length-6 : tie.Need-same-length-6
+same-length-6 c = search needs
 
 returns-2 : tie.Need-returns-2
 returns-2 c = search needs
@@ -57,8 +63,8 @@ pub case-spec : {M : Type 1} → statement M
 case-spec =
     tie.close
     (tie.spec
-    slice-aggregate-case
-    case-requires
+    slice-aggregate-answer
+    answer-requires
     enum-known-n
     sub-write-all
     part-write-all-start
@@ -69,7 +75,9 @@ case-spec =
     write-all-requires-2
     same-length
     same-length-2
-    returns
     same-length-3
+    returns
     same-length-4
+    same-length-5
+    same-length-6
     returns-2)

@@ -7,10 +7,10 @@ use Rattle.replay.proofs.replay.Statement.{statement}
 use Rattle.replay.proofs.replay.Tie as tie
 
 abbrev Inv-loop : tie.InvT-loop
-Inv-loop input text₀ tree₀ at₀ text tree at = (at ≤ length input + 1) × (length text ≡ length text₀) × (length tree ≡ length tree₀)
+Inv-loop input text₀ tree₀ out₀ at₀ text tree out at = (at ≤ length input + 1) × (length text ≡ length text₀) × (length tree ≡ length tree₀) × (length out ≡ length out₀)
 
 abbrev μ-loop : tie.MeasureT-loop
-μ-loop input text₀ tree₀ at₀ text tree at = length input + 1 - at
+μ-loop input text₀ tree₀ out₀ at₀ text tree out at = length input + 1 - at
 
 loop-holds : tie.Need-loop-holds Inv-loop μ-loop
 loop-holds c = search needs
@@ -45,6 +45,9 @@ same-length c = search needs
 same-length-2 : tie.Need-same-length-2 Inv-loop μ-loop
 same-length-2 c = search needs
 
+same-length-3 : tie.Need-same-length-3 Inv-loop μ-loop
+same-length-3 c = search needs
+
 returns : tie.Need-returns Inv-loop μ-loop
 returns c = search needs
 
@@ -65,4 +68,5 @@ replay-spec =
     loop-again
     same-length
     same-length-2
+    same-length-3
     returns)

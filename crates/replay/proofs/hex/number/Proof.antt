@@ -1,4 +1,4 @@
--- `replay::hex::number` is safe, ends, and reads no more than 24 bits: the value stays below 2^24. Assumes nothing.
+-- `replay::hex::number` is safe and ends: the value stays below 2^64. Assumes nothing.
 use Prim.Native.Nat.{_≤_, _-_}
 use borrow.Author.Needs.{needs}
 use lib.ListN.{length}
@@ -6,7 +6,7 @@ use Rattle.replay.proofs.hex.number.Statement.{statement}
 use Rattle.replay.proofs.hex.number.Tie as tie
 
 abbrev Inv-loop : tie.InvT-loop
-Inv-loop digits value₀ i₀ value i = (i ≤ length digits) × (value ≤ 16777215)
+Inv-loop digits value₀ i₀ value i = (i ≤ length digits) × (value ≤ 18446744073709551615)
 
 abbrev μ-loop : tie.MeasureT-loop
 μ-loop digits value₀ i₀ value i = length digits - i

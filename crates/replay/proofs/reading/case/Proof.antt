@@ -74,11 +74,17 @@ same-length c = search needs
 returns-4 : tie.Need-returns-4
 returns-4 c = search needs
 
+same-length-2 : tie.Need-same-length-2
+same-length-2 c = search needs
+
+returns-5 : tie.Need-returns-5
+returns-5 c = search needs
+
 least-requires : tie.Need-least-requires
 least-requires c κs = search needs
 
 cast-parsed : tie.Need-cast-parsed
-cast-parsed c = omega (arith, value-at-most (c .before .before .before .before .before .before .before .before .before .before .before .before .before .before .before .before .before .number .ensures) (c .before .before .before .before .before .before .before .before .before .before .before .before .before .before .before .bits .given .1))
+cast-parsed c = search needs
 
 sub-parsed : tie.Need-sub-parsed
 sub-parsed c = search needs
@@ -87,7 +93,7 @@ part-parsed-start : tie.Need-part-parsed-start
 part-parsed-start c = search needs
 
 part-parsed-end : tie.Need-part-parsed-end
-part-parsed-end c = omega (arith, value-at-most (c .before .before .before .before .before .before .before .spell .ensures) (c .before .before .before .size .given .1))
+part-parsed-end c = omega (arith, value-at-most (c .before .before .before .before .before .before .before .before .spell .ensures) (c .before .before .before .before .size .given .1))
 
 sub-parsed-2 : tie.Need-sub-parsed-2
 sub-parsed-2 c = search needs
@@ -101,17 +107,17 @@ part-parsed-end-2 c = search needs
 parsed-requires : tie.Need-parsed-requires
 parsed-requires c κs = search needs
 
-same-length-2 : tie.Need-same-length-2
-same-length-2 c = search needs
-
 same-length-3 : tie.Need-same-length-3
 same-length-3 c = search needs
 
 same-length-4 : tie.Need-same-length-4
 same-length-4 c = search needs
 
-returns-5 : tie.Need-returns-5
-returns-5 c = search needs
+same-length-5 : tie.Need-same-length-5
+same-length-5 c = search needs
+
+returns-6 : tie.Need-returns-6
+returns-6 c = search needs
 
 pub case-spec : {M : Type 1} → statement M
 case-spec =
@@ -140,6 +146,8 @@ case-spec =
     enum-told-3
     same-length
     returns-4
+    same-length-2
+    returns-5
     least-requires
     cast-parsed
     sub-parsed
@@ -149,7 +157,7 @@ case-spec =
     part-parsed-start-2
     part-parsed-end-2
     parsed-requires
-    same-length-2
     same-length-3
     same-length-4
-    returns-5)
+    same-length-5
+    returns-6)

@@ -1,16 +1,16 @@
--- `replay::reading::checksum` is safe and ends: the total stays below 2^24. Assumes nothing.
+-- `replay::report::checksum` is safe and ends: the total stays below 2^24. Assumes nothing.
 use Prim.Native.Nat.{_≤_, _<_, _-_}
 use borrow.Author.Needs.{needs}
 use native.Mathlib.Omega.{arith}
 use lib.ListN.{length}
-use Rattle.replay.proofs.reading.checksum.Statement.{statement}
-use Rattle.replay.proofs.reading.checksum.Tie as tie
+use Rattle.replay.proofs.report.checksum.Statement.{statement}
+use Rattle.replay.proofs.report.checksum.Tie as tie
 
 abbrev Inv-loop : tie.InvT-loop
-Inv-loop tree total₀ i₀ total i = (i ≤ length tree) × (total < 16777216)
+Inv-loop bytes total₀ i₀ total i = (i ≤ length bytes) × (total < 16777216)
 
 abbrev μ-loop : tie.MeasureT-loop
-μ-loop tree total₀ i₀ total i = length tree - i
+μ-loop bytes total₀ i₀ total i = length bytes - i
 
 loop-holds : tie.Need-loop-holds Inv-loop μ-loop
 loop-holds c = search needs

@@ -1,23 +1,23 @@
--- `replay::reading::fill` is safe, ends, and keeps the buffer's length. Assumes nothing.
+-- `replay::report::fill` is safe, ends, and keeps the buffer's length. Assumes nothing.
 use Prim.Native.Nat.{_≤_, _-_}
 use borrow.Author.Needs.{needs}
 use native.Mathlib.Omega.{arith}
 use mathlib.Core.Path.{_≡_}
 use lib.ListN.{length, length-set}
-use Rattle.replay.proofs.reading.fill.Statement.{statement}
-use Rattle.replay.proofs.reading.fill.Tie as tie
+use Rattle.replay.proofs.report.fill.Statement.{statement}
+use Rattle.replay.proofs.report.fill.Tie as tie
 
 abbrev Inv-loop : tie.InvT-loop
-Inv-loop tree₀ i₀ tree i = (i ≤ length tree) × (length tree ≡ length tree₀)
+Inv-loop buffer₀ i₀ buffer i = (i ≤ length buffer) × (length buffer ≡ length buffer₀)
 
 abbrev μ-loop : tie.MeasureT-loop
-μ-loop tree₀ i₀ tree i = length tree - i
+μ-loop buffer₀ i₀ buffer i = length buffer - i
 
 loop-holds : tie.Need-loop-holds Inv-loop μ-loop
 loop-holds c = search needs
 
-slice-write-tree : tie.Need-slice-write-tree Inv-loop μ-loop
-slice-write-tree c = search needs
+slice-write-buffer : tie.Need-slice-write-buffer Inv-loop μ-loop
+slice-write-buffer c = search needs
 
 add-i : tie.Need-add-i Inv-loop μ-loop
 add-i c = search needs
@@ -41,7 +41,7 @@ fill-spec =
     Inv-loop
     μ-loop
     loop-holds
-    slice-write-tree
+    slice-write-buffer
     add-i
     loop-less
     loop-again

@@ -1,15 +1,15 @@
--- `replay::reading::is_untouched` is safe and ends. Assumes nothing.
+-- `replay::report::is_untouched` is safe and ends. Assumes nothing.
 use Prim.Native.Nat.{_≤_, _-_}
 use borrow.Author.Needs.{needs}
 use lib.ListN.{length}
-use Rattle.replay.proofs.reading.is_untouched.Statement.{statement}
-use Rattle.replay.proofs.reading.is_untouched.Tie as tie
+use Rattle.replay.proofs.report.is_untouched.Statement.{statement}
+use Rattle.replay.proofs.report.is_untouched.Tie as tie
 
 abbrev Inv-loop : tie.InvT-loop
-Inv-loop tree i₀ i = i ≤ length tree
+Inv-loop buffer i₀ i = i ≤ length buffer
 
 abbrev μ-loop : tie.MeasureT-loop
-μ-loop tree i₀ i = length tree - i
+μ-loop buffer i₀ i = length buffer - i
 
 loop-holds : tie.Need-loop-holds Inv-loop μ-loop
 loop-holds c = search needs
