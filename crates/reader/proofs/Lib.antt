@@ -1,0 +1,3 @@
+-- The laws that the walks of this crate cite.
+pub mod Below
+pub mod Ends

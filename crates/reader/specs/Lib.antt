@@ -1,0 +1,2 @@
+-- What the contracts of this crate cite beside the rules of `notation` and what `parse` says of its answers.
+pub mod Cursor
