@@ -152,14 +152,14 @@ table-placed n (a ∷ l) (p and h) =
 -- ── sorted lists join as their placed ones do ──
 
 -- low ends are k or deeper
-Deeper : ℕ → Range → Type 0
+unfoldable pub Deeper : ℕ → Range → Type 0
 Deeper k r = (k ≤ r .low) × (r .low ≤ r .high)
 
-data Sorted : List Range → Type 0 where
+pub data Sorted : List Range → Type 0 where
   empty : Sorted []
   first : {a : Range} {l : List Range} → a .low ≤ a .high → All (Deeper (a .low)) l → Sorted l → Sorted (a ∷ l)
 
-all-weaken : {P Q : Range → Type 0} {l : List Range} → ((r : Range) → P r → Q r) → All P l → All Q l
+pub all-weaken : {P Q : Range → Type 0} {l : List Range} → ((r : Range) → P r → Q r) → All P l → All Q l
 all-weaken w nothing = nothing
 all-weaken {l = r ∷ l} w (p and h) = w r p and all-weaken w h
 
@@ -171,7 +171,7 @@ all-insert {P} a (b ∷ l) p (q and h) = go (before a b) (all-insert a l p h) wh
   go true i = p and (q and h)
   go false i = q and i
 
-all-sort : {P : Range → Type 0} (l : List Range) → All P l → All P (sort l)
+pub all-sort : {P : Range → Type 0} (l : List Range) → All P l → All P (sort l)
 unfolding sort
 all-sort [] nothing = nothing
 all-sort (a ∷ l) (p and h) = all-insert a (sort l) p (all-sort l h)
@@ -199,7 +199,7 @@ insert-sorted a (b ∷ l) p (first q d s) = go (before a b) refl (insert-sorted 
       first p ((h, q) and all-weaken (λ r w. (omega arith, w .1)) d) (first q d s)
   go false e i = first q (all-insert a l (after-low a b e, p) d) i
 
-sort-sorted : (n : ℕ) (l : List Range) → All (RangeUpTo n) l → Sorted (sort l)
+pub sort-sorted : (n : ℕ) (l : List Range) → All (RangeUpTo n) l → Sorted (sort l)
 unfolding sort
 sort-sorted n [] nothing = empty
 sort-sorted n (a ∷ l) (p and h) = insert-sorted a (sort l) (p .ordered) (sort-sorted n l h)

@@ -1,0 +1,152 @@
+-- Simplified ranges neither overlap nor touch: an axis of n layers has at most (n + 1) / 2 of them, and their ends fit 16 bits. Assumes nothing.
+use Prim.Native.Nat.{ℕ, _+_, _*_, _≤_, _<_, min, max}
+use native.Mathlib.Omega.{arith}
+use mathlib.Core.Path.{_≡_, refl, sym, ap, subst}
+use mathlib.Core.Bool.{Bool, true, false}
+use mathlib.Core.List.{List, [], _∷_}
+use mathlib.Core.Option.{Option, none, some}
+use lib.Dec.{leb}
+use lib.ListN.{length}
+use borrow.Author.Tests.{leb-true, leb-false}
+use Rattle.notation.specs.Basics.{pick, choose, between, every}
+use Rattle.notation.specs.Refusals.{Outcome, refusal, result, _>>=_, _>>_, unless, NO-SUCH-LAYER-COUNT}
+use Rattle.notation.specs.Layers.{Range, LayerSetElement, MAX-LAYER, insert, sort, touching, joined, joinFrom, join, simplified, clampToLayerCount, setRanges, keep}
+use Rattle.notation.specs.Tree.{Layers, noLayers, singleLayer, layerRange, layerSet, Span, partOf, Tree}
+use Rattle.notation.specs.Packed.{Head}
+use Rattle.notation.specs.Grammar.{layerSetElements}
+use Rattle.notation.specs.Meaning.{layerSetIn, orEmpty}
+use Rattle.notation.specs.WellFormed.{isSome}
+use Rattle.notation.specs.Entries.{checked, recordAt, layersOf, rangesIn, layerRanges}
+use Rattle.layer.specs.Meaning.{RangeUpTo}
+use Rattle.laws.proofs.Bools.{false-true, and-left, and-right}
+use Rattle.laws.proofs.InRange.{elementInRange}
+use Rattle.laws.proofs.Readers.{anywhere}
+use Rattle.laws.proofs.ReadingYields.{yields-element, yields-braces}
+use Rattle.simplify.proofs.Table.{All, nothing, _and_, Deeper, Sorted, empty, first, all-weaken, all-sort, sort-sorted}
+use Rattle.simplify.proofs.SetElements.{whole}
+use Rattle.simplify.proofs.ElementRanges.{set-ranges}
+
+-- both ends fit 16 bits
+pub record Short (r : Range) : Type 0 where
+  pub low : r .low < 65536
+  pub high : r .high < 65536
+
+pub record Few (l : List Range) : Type 0 where
+  pub many : length l ≤ 16384
+  pub short : All Short l
+
+-- ── joined ranges ──
+
+short-from : (a : Range) (l : List Range) → Short a → All Short l → All Short (joinFrom a l)
+unfolding joinFrom
+short-from a [] p nothing = p and nothing
+short-from a (b ∷ l) p (q and h) =
+    go (touching a b) (short-from (joined a b) l (record { low = omega (arith, p .low, q .low); high = omega (arith, p .high, q .high) }) h) (short-from b l q h)
+  where
+    go : (t : Bool) → All Short (joinFrom (joined a b) l) → All Short (joinFrom b l) → All Short (choose t (λ _. joinFrom (joined a b) l) (λ _. a ∷ joinFrom b l))
+    go true i j = i
+    go false i j = p and j
+
+short-join : (l : List Range) → All Short l → All Short (join l)
+unfolding join
+short-join [] nothing = nothing
+short-join (a ∷ l) (p and h) = short-from a l p h
+
+-- each joined range but the last takes up a layer and the one after it
+count-from : (n : ℕ) (c : Range) (l : List Range) → RangeUpTo n c → All (RangeUpTo n) l → Sorted l → All (Deeper (c .low)) l → c .low + 2 * length (joinFrom c l) ≤ n + 2
+unfolding joinFrom Deeper
+count-from n c [] p nothing empty nothing = omega (arith, p .ordered, p .high)
+count-from n c (a ∷ l) p (q and h) (first ordered d s) (deep and ds) = go (touching c a) refl
+    (count-from n (joined c a) l
+      (record { low = omega (arith, p .low, q .low); ordered = omega (arith, p .ordered, q .ordered); high = omega (arith, p .high, q .high) })
+      h s (all-weaken (λ r w. (omega (arith, w .0), w .1)) ds))
+    (count-from n a l q h s d)
+  where
+    go : (t : Bool) → touching c a ≡ t → min (c .low) (a .low) + 2 * length (joinFrom (joined c a) l) ≤ n + 2 → a .low + 2 * length (joinFrom a l) ≤ n + 2 →
+        c .low + 2 * length (choose t (λ _. joinFrom (joined c a) l) (λ _. c ∷ joinFrom a l)) ≤ n + 2
+    go true e i j = omega (arith, i, deep .0)
+    go false e i j =
+        let apart : min (c .high) (a .high) + 1 < max (c .low) (a .low) = leb-false (max (c .low) (a .low)) (min (c .high) (a .high) + 1) e in
+        omega (arith, j, apart, deep .0, p .ordered, q .ordered)
+
+count-join : (n : ℕ) (l : List Range) → All (RangeUpTo n) l → Sorted l → 2 * length (join l) ≤ n + 1
+unfolding join
+count-join n [] nothing empty = omega arith
+count-join n (a ∷ l) (p and h) (first ordered d s) = omega (arith, count-from n a l p h s d, p .low)
+
+few-ranges : (n : ℕ) (l : List Range) → n ≤ MAX-LAYER → All (RangeUpTo n) l → Few (simplified l)
+few-ranges n l most h = record {
+  many = omega (arith, count-join n (sort l) (all-sort l h) (sort-sorted n l h), most);
+  short = short-join (sort l) (all-weaken (λ r p. record { low = omega (arith, p .ordered, p .high, most); high = omega (arith, p .high, most) }) (all-sort l h));
+}
+
+-- ── the ranges of a move ──
+
+at-most-one : (n : ℕ) (r : Range) → n ≤ MAX-LAYER → Few (simplified (keep (clampToLayerCount n r) []))
+unfolding insert sort join joinFrom
+at-most-one n r most = go (leb (r .low) n) refl where
+  go : (t : Bool) → leb (r .low) n ≡ t → Few (simplified (keep (pick t (some (record { low = r .low; high = min (r .high) n })) none) []))
+  go true e =
+      let one : Short (record { low = r .low; high = min (r .high) n }) = record { low = omega (arith, leb-true (r .low) n e, most); high = omega (arith, most) } in
+      record { many = omega arith; short = one and nothing }
+  go false e = record { many = omega arith; short = nothing }
+
+none-read : (o : Option (List LayerSetElement)) → isSome o ≡ false → every elementInRange (orEmpty o) ≡ true
+unfolding every
+none-read none h = refl
+none-read (some l) h = absurd (false-true (sym h))
+
+-- what the grammar reads as a set has layers from 1 to 32,767 only
+set-read : (part : List ℕ) (t : Bool) → isSome (layerSetIn part) ≡ t → every elementInRange (orEmpty (layerSetIn part)) ≡ true
+unfolding layerSetIn layerSetElements
+set-read part true h =
+    let w = whole (layerSetElements true 0 part) h in
+    let y = yields-braces {c = anywhere} elementInRange (yields-element true) .took 0 part tt (w .0) (w .1) [] (w .2) in
+    rw (w .3) (y .holds)
+set-read part false h = none-read (layerSetIn part) h
+
+few-layers : (text : List ℕ) (n : ℕ) (neg : Bool) (l : Layers Span) → 1 ≤ n → n ≤ MAX-LAYER → Few (simplified (rangesIn text n neg l))
+few-layers text n neg noLayers least most = at-most-one n (record { low = 1; high = 1 }) most
+few-layers text n neg (singleLayer i) least most = at-most-one n (record { low = i; high = i }) most
+few-layers text n neg (layerRange i j) least most = at-most-one n (record { low = i; high = j }) most
+few-layers text n neg (layerSet p) least most =
+    few-ranges n (setRanges n neg (orEmpty (layerSetIn (partOf text p)))) most
+    (set-ranges n neg least (orEmpty (layerSetIn (partOf text p))) (set-read (partOf text p) (isSome (layerSetIn (partOf text p))) refl))
+
+-- ── the rule's ranges ──
+
+is-result : {A : Type 0} → Outcome A → ℕ
+is-result (refusal r) = 0
+is-result (result a) = 1
+
+pub refusal-result : {A : Type 0} {r : ℕ} {a : A} → _≡_ {A = Outcome A} (refusal r) (result a) → ⊥
+unfolding is-result
+refusal-result e = let z : _≡_ {A = ℕ} 0 1 = ap is-result e in omega (arith, z)
+
+the-result : {A : Type 0} → A → Outcome A → A
+the-result d (refusal r) = d
+the-result d (result a) = a
+
+pub result-result : {A : Type 0} {a b : A} → _≡_ {A = Outcome A} (result a) (result b) → a ≡ b
+unfolding the-result
+result-result {a = a} e = ap (the-result a) e
+
+module _ (text tree : List ℕ) (k n : ℕ) (neg : Bool) (l : List Range) where
+  abbrev after : Layers Span → Outcome (List Range)
+  after ls = result (simplified (rangesIn text n neg ls))
+
+  of-layers : (o : Outcome (Layers Span)) → 1 ≤ n → n ≤ MAX-LAYER → _>>=_ o after ≡ result l → Few l
+  of-layers (refusal r) least most e = absurd (refusal-result e)
+  of-layers (result ls) least most e = subst Few (result-result e) (few-layers text n neg ls least most)
+
+  of-record : (c : Outcome Tree) (t : Bool) → between 1 MAX-LAYER n ≡ t → (h : Outcome Head) →
+      _>>_ c (_>>_ (unless NO-SUCH-LAYER-COUNT t) (_>>=_ h (λ h. _>>=_ (layersOf h) after))) ≡ result l → Few l
+  of-record (refusal r) t b h e = absurd (refusal-result e)
+  of-record (result x) false b h e = absurd (refusal-result e)
+  of-record (result x) true b (refusal r) e = absurd (refusal-result e)
+  of-record (result x) true b (result h) e =
+      of-layers (layersOf h) (leb-true 1 n (and-left _ (leb n MAX-LAYER) b)) (leb-true n MAX-LAYER (and-right (leb 1 n) _ b)) e
+
+  pub few : layerRanges text tree k n neg ≡ result l → Few l
+  unfolding layerRanges
+  few e = of-record (checked text tree) (between 1 MAX-LAYER n) refl (recordAt tree k) e
