@@ -1,17 +1,19 @@
 #!/usr/bin/env python3
-"""Writes crates/replay/stdin and crates/replay/stdout: the stored vectors, with the answers of the reference beside this file alone."""
+"""Writes crates/replay/stdin and crates/replay/stdout: the stored vectors, with the answers of the reference beside this file, or of the Rust
+(tests/oracle/sample.tsv), alone."""
 import os
 
 import entry_vectors
 import listing_vectors
+import oracle_vectors
 import reading_vectors
 
 HOME = os.path.join(os.path.dirname(os.path.abspath(__file__)), "..", "..", "crates", "replay")
-MOST = 1040000  # the program reads no more than 1048576
+MOST = 2097152  # what the program reads at most
 
 
 def main():
-    both = [*reading_vectors.lines(), *entry_vectors.lines(), *listing_vectors.lines()]
+    both = [*reading_vectors.lines(), *entry_vectors.lines(), *listing_vectors.lines(), *oracle_vectors.lines()]
     for name, column in (("stdin", 0), ("stdout", 1)):
         with open(os.path.join(HOME, name), "w") as f:
             f.write("".join(line[column] + "\n" for line in both))

@@ -103,9 +103,21 @@ fn answer(call: Call, text: &[u8], tree: &[u8], out: &mut [u8]) -> Answer {
         b'f' => steps::flatten(text, tree, out),
         b's' => steps::seek_step(text, tree, call.number, out),
         b'o' => listing::list(text, out),
+        b'x' => deep_shown(text, tree, out),
         b'l' => parts::simplify(text, tree, call.number, call.max_layer, call.negatives, out),
         _ => Answer::Refused(0),
     }
+}
+
+// The deep inverse as text, for the Rust's answers, which are texts.
+fn deep_shown(text: &[u8], tree: &[u8], out: &mut [u8]) -> Answer {
+    let mut inverse = [0u8; 25000];
+    let answer = inverses::inv_deep(text, tree, &mut inverse);
+    let Answer::Value(size) = answer else {
+        return answer;
+    };
+    let n = report::least(size as usize, 25000);
+    printing::display(text, &inverse[0..n], out)
 }
 
 fn unit(entry: u8) -> usize {

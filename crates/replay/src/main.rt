@@ -58,7 +58,7 @@ fn run(input: &mut [u8], text: &mut [u8], tree: &mut [u8], out: &mut [u8]) {
 }
 
 fn main() {
-    let mut input = [0u8; 1048576];
+    let mut input = [0u8; 2097152];
     let mut text = [0u8; 65600];
     let mut tree = [0u8; 1700000];
     let mut out = [0u8; 1700000];

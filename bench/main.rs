@@ -1,0 +1,285 @@
+//! Times the C functions of the archive against the Rust's own on the same texts in one run, and prints tables in Markdown.
+//!
+//! `bench` prints the tables; `bench loop OPERATION KIND SIZE SECONDS` calls one of ours again and again, for a profiler.
+mod ours;
+mod reader;
+
+use hypuz_notation::*;
+use ours::RECORD;
+use std::fmt::Write;
+use std::hint::black_box;
+use std::time::{Duration, Instant};
+
+const KINDS: [&str; 6] = ["moves", "groups", "sets", "constraints", "square-1", "megaminx"];
+const SIZES: [usize; 3] = [100, 3_000, 64_000];
+const OPERATIONS: [&str; 9] = ["read", "display", "inv", "inv_deep", "flatten", "count", "seek", "ranges", "ranges of one record"];
+const ROUNDS: usize = 4;
+const SAMPLES: usize = 7;
+const SAMPLE: f64 = 2e6;
+const AXIS: AxisLayersInfo = AxisLayersInfo { max_layer: 9, allow_negatives: true };
+
+struct Case {
+    text: String,
+    list: NodeList,
+    tree: Vec<u8>,
+    steps: u64,
+    /// The number of a move about the middle, with its layers as the Rust has them.
+    record: Option<(u64, LayerPrefixContents)>,
+}
+
+struct Random(u64);
+
+impl Random {
+    fn pick<T: Copy>(&mut self, from: &[T]) -> T {
+        self.0 = self.0.wrapping_mul(6364136223846793005).wrapping_add(1442695040888963407);
+        from[(self.0 >> 33) as usize % from.len()]
+    }
+}
+
+fn a_move(r: &mut Random) -> String {
+    format!("{}{}{}", r.pick(&["R", "U", "F", "L", "B", "M", "x", "Rw", "IR"]), r.pick(&["", "", "", "2", "3"]), r.pick(&["", "", "'"]))
+}
+
+fn group(r: &mut Random, deep: usize) -> String {
+    if deep == 0 || r.pick(&[true, false, false]) {
+        return a_move(r);
+    }
+    let (a, b, c) = (group(r, deep - 1), a_move(r), group(r, deep - 1));
+    let end = r.pick(&["", "", "'", "2", "2'"]);
+    match r.pick(&[0, 1, 2, 3]) {
+        0 => format!("[{a} {b}, {c}]{end}"),
+        1 => format!("[{a}: {b} {c}]{end}"),
+        2 => format!("!({a} {b} {c}){end}"),
+        _ => format!("({a} {c}){end}"),
+    }
+}
+
+fn piece(r: &mut Random, kind: &str) -> String {
+    match kind {
+        "moves" => a_move(r),
+        "groups" => group(r, 4),
+        "sets" => {
+            let layers = r.pick(&["{1,3..5,-2}", "2-3", "{-1..4}", "~3", "{1-3,7}", "{2,-4..-2,8,1..2}", "3"]);
+            format!("{layers}{}", a_move(r))
+        }
+        "constraints" => {
+            let end = r.pick(&["{R->F}", "{U->F,L<>B}", "{I}", "{R->U, F->L, B}2", "{A<>B}'", ""]);
+            format!("{}{}{end}", r.pick(&["@", "@", "", "3"]), r.pick(&["U", "R", "IR", "F"]))
+        }
+        "square-1" => r.pick(&["(1, 0)", "/", "(-3,3)", "/", "(0,-1)", "/", "( 6 , -5 )", "(4, 1)"]).into(),
+        _ => r.pick(&["R++", "D--", "R--", "D++", "R++", "D--", "U", "U'"]).into(),
+    }
+}
+
+fn text(kind: &str, size: usize) -> String {
+    let mut r = Random(7);
+    let mut text = String::new();
+    loop {
+        let p = piece(&mut r, kind);
+        // A piece that is too long for what is left is passed over, and the text is done when little is left.
+        if text.len() + p.len() + 1 <= size {
+            text.push_str(if text.is_empty() { "" } else { " " });
+            text.push_str(&p);
+        }
+        if text.len() + 8 >= size {
+            return text;
+        }
+    }
+}
+
+fn case(kind: &str, size: usize) -> Case {
+    let text = text(kind, size);
+    let list = reader::read(text.as_bytes()).expect("the plain reader takes every text");
+    let mut tree = vec![0; RECORD * text.len()];
+    let used = ours::parse(text.as_bytes(), &mut tree).expect("the archive takes every text");
+    tree.truncate(used as usize);
+    let steps = ours::count_steps(text.as_bytes(), &tree).unwrap();
+    let c = Case { record: middle(&tree, &list), text, list, tree, steps };
+    agree(&c);
+    c
+}
+
+fn middle(tree: &[u8], list: &NodeList) -> Option<(u64, LayerPrefixContents)> {
+    // Only lists without groups: there a record's number is the node's.
+    let n = tree.len() / RECORD;
+    let (i, mv) = list.iter().enumerate().skip(n / 2).find_map(|(i, x)| Some((i, x.as_move()?)))?;
+    let flat = n == list.len();
+    flat.then(|| (i as u64, mv.layers.contents.clone().unwrap_or(LayerPrefixContents::Single(Layer::SHALLOWEST))))
+}
+
+/// What is timed gives the same on both sides.
+fn agree(c: &Case) {
+    let text = c.text.as_bytes();
+    let printed = |tree: &[u8]| {
+        let mut out = vec![0; 400 * c.text.len()];
+        let n = ours::display(text, tree, &mut out).unwrap() as usize;
+        String::from_utf8(out[..n].to_vec()).unwrap()
+    };
+    let mut out = vec![0; c.tree.len().max(RECORD * c.steps as usize)];
+    assert_eq!(printed(&c.tree), c.list.to_string());
+    let n = ours::inv(text, &c.tree, &mut out).unwrap() as usize;
+    assert_eq!(printed(&out[..n]), c.list.clone().inv().unwrap().to_string());
+    let n = ours::inv_deep(text, &c.tree, &mut out).unwrap() as usize;
+    assert_eq!(printed(&out[..n]), c.list.clone().inv_deep().unwrap().to_string());
+    let n = ours::flatten(text, &c.tree, &mut out).unwrap() as usize;
+    let steps = c.list.flatten().unwrap();
+    assert_eq!((printed(&out[..n]), n / RECORD), (steps.to_string(), steps.len()));
+}
+
+/// Nanoseconds of a call: the best of several samples of about two milliseconds.
+fn best(mut f: impl FnMut()) -> f64 {
+    let start = Instant::now();
+    f();
+    let once = start.elapsed().as_nanos().max(20) as f64;
+    let n = (SAMPLE / once).clamp(1.0, 100_000.0) as usize;
+    (0..SAMPLES)
+        .map(|_| {
+            let start = Instant::now();
+            (0..n).for_each(|_| f());
+            start.elapsed().as_nanos() as f64 / n as f64
+        })
+        .fold(f64::MAX, f64::min)
+}
+
+/// The same where the call takes its argument or gives something to drop: neither making it nor dropping is timed.
+fn best_apart<A, R>(make: impl Fn() -> A, f: impl Fn(A) -> R) -> f64 {
+    let a = make();
+    let start = Instant::now();
+    let r = f(a);
+    let once = start.elapsed().as_nanos().max(20) as f64;
+    drop(r);
+    let n = (SAMPLE / once).clamp(1.0, 2_000.0) as usize;
+    (0..SAMPLES)
+        .map(|_| {
+            let args: Vec<A> = (0..n).map(|_| make()).collect();
+            let mut results = Vec::with_capacity(n);
+            let start = Instant::now();
+            for a in args {
+                results.push(f(a));
+            }
+            start.elapsed().as_nanos() as f64 / n as f64
+        })
+        .fold(f64::MAX, f64::min)
+}
+
+/// One call of ours, with all that it needs at hand.
+fn our_call<'a>(c: &'a Case, operation: &str) -> Option<Box<dyn FnMut() + 'a>> {
+    let (text, tree) = (c.text.as_bytes(), &c.tree[..]);
+    let mut out = vec![0u8; match operation {
+        "display" => 2 * text.len() + 64,
+        "flatten" => RECORD * c.steps as usize,
+        _ => tree.len().max(4_000),
+    }];
+    Some(match operation {
+        "read" => Box::new(move || assert!(black_box(ours::parse(black_box(text), &mut out)).is_ok())),
+        "display" => Box::new(move || assert!(black_box(ours::display(black_box(text), tree, &mut out)).is_ok())),
+        "inv" => Box::new(move || assert!(black_box(ours::inv(black_box(text), tree, &mut out)).is_ok())),
+        "inv_deep" => Box::new(move || assert!(black_box(ours::inv_deep(black_box(text), tree, &mut out)).is_ok())),
+        "flatten" => Box::new(move || assert!(black_box(ours::flatten(black_box(text), tree, &mut out)).is_ok())),
+        "count" => Box::new(move || assert!(black_box(ours::count_steps(black_box(text), tree)).is_ok())),
+        "seek" => Box::new(move || assert!(black_box(ours::seek_step(black_box(text), tree, c.steps * 2 / 3, &mut out)).is_ok())),
+        _ => {
+            let mut record = c.record.as_ref()?.0;
+            let mut tree = tree;
+            if operation != "ranges" {
+                // The move alone is a tree too, over the same text.
+                tree = &tree[record as usize * RECORD..][..RECORD];
+                record = 0;
+            }
+            Box::new(move || {
+                let a = ours::simplify(black_box(text), tree, record, AXIS.max_layer.into(), AXIS.allow_negatives, &mut out);
+                assert!(black_box(a).is_ok())
+            })
+        }
+    })
+}
+
+/// The Rust's time for the same.
+fn rust_time(c: &Case, operation: &str) -> f64 {
+    let list = &c.list;
+    match operation {
+        "read" => best_apart(|| (), |()| reader::read(black_box(c.text.as_bytes()))),
+        "display" => {
+            let mut out = String::with_capacity(2 * c.text.len() + 64);
+            best(|| {
+                out.clear();
+                write!(out, "{}", black_box(list)).unwrap();
+                black_box(&out);
+            })
+        }
+        "inv" => best_apart(|| list.clone(), |l| l.inv()),
+        "inv_deep" => best_apart(|| list.clone(), |l| l.inv_deep()),
+        "flatten" | "count" => best_apart(|| (), |()| black_box(list).flatten()),
+        "seek" => best_apart(|| (), |()| black_box(list).flatten().map(|l| (l[(c.steps * 2 / 3) as usize].clone(), l))),
+        _ => {
+            let contents = &c.record.as_ref().unwrap().1;
+            best_apart(|| (), |()| black_box(contents).simplify(AXIS))
+        }
+    }
+}
+
+fn shown(ns: f64) -> String {
+    let us = ns / 1000.0;
+    if us < 1.0 { format!("{us:.3}") } else if us < 100.0 { format!("{us:.1}") } else { format!("{us:.0}") }
+}
+
+fn rows(operation: &str, against: &str) {
+    println!("| {operation} | records, steps at 64 KB |{}", SIZES.map(|n| format!(" {n} bytes: ours | {against} | × |")).join(""));
+    println!("|---|---|{}", "---:|---:|---:|".repeat(SIZES.len()));
+    for kind in KINDS {
+        let mut line = String::new();
+        let mut about = String::new();
+        for size in SIZES {
+            let c = case(kind, size);
+            about = format!("{}, {}", c.tree.len() / RECORD, c.steps);
+            let Some(mut call) = our_call(&c, operation) else { continue };
+            // In turns, so that a busy machine slows neither alone.
+            let (mut ours, mut rust) = (f64::MAX, f64::MAX);
+            for _ in 0..ROUNDS {
+                ours = ours.min(best(&mut call));
+                rust = rust.min(if against == "from_utf8" { utf8_time(&c) } else { rust_time(&c, operation) });
+            }
+            let ratio = ours / rust;
+            write!(line, " {} | {} | {ratio:.*} |", shown(ours), shown(rust), if ratio < 10.0 { 2 } else { 0 }).unwrap();
+        }
+        if !line.is_empty() {
+            println!("| {kind} | {about} |{line}");
+        }
+    }
+    println!();
+}
+
+fn utf8_time(c: &Case) -> f64 {
+    best(|| {
+        black_box(std::str::from_utf8(black_box(c.text.as_bytes()))).unwrap();
+    })
+}
+
+fn profile(args: &[String]) {
+    let kind = KINDS.into_iter().find(|k| *k == args[1]).expect("a kind");
+    let c = case(kind, args[2].parse().expect("a size"));
+    let mut call = our_call(&c, &args[0]).expect("an operation");
+    let end = Instant::now() + Duration::from_secs_f64(args[3].parse().expect("seconds"));
+    while Instant::now() < end {
+        (0..20).for_each(|_| call());
+    }
+}
+
+fn main() {
+    let args: Vec<String> = std::env::args().skip(1).collect();
+    if args.first().is_some_and(|a| a == "loop") {
+        return profile(&args[1..]);
+    }
+    println!("Microseconds of a call, best of {} samples of 2 ms or one call; × is ours divided by the other.\n", ROUNDS * SAMPLES);
+    rows("read", "plain reader");
+    rows("read", "from_utf8");
+    for operation in &OPERATIONS[1..] {
+        rows(operation, match *operation {
+            "display" => "Display",
+            "count" => "flatten",
+            "seek" => "flatten and index",
+            "ranges" | "ranges of one record" => "simplify",
+            other => other,
+        });
+    }
+}

@@ -1,0 +1,323 @@
+/* A libFuzzer target: text, tree, places and buffer length come from the input; every C function is called on them. Text, tree and each lent
+ * buffer end at a page that may not be touched, so that a read or write past them stops the run; guard bytes stand before a buffer. The
+ * archive itself is compiled without AddressSanitizer, which sees only this file and the calls into libc. */
+#include "hypuz_notation.h"
+
+#include <stdio.h>
+#include <stdlib.h>
+#include <string.h>
+#include <sys/mman.h>
+#include <unistd.h>
+
+enum { GUARD = 64, MOST = 1 << 16, STEPS = 600 };
+
+static void demand(int holds, const char *what) {
+    if (!holds) {
+        fprintf(stderr, "does not hold: %s\n", what);
+        abort();
+    }
+}
+
+/* What the archive did, told to libFuzzer in place of its branches: answers of each function, first bytes of the records read, sizes. */
+__attribute__((section("__libfuzzer_extra_counters"))) static uint8_t seen[16 * 16 + 256 + 64 + 64];
+
+/* The same answers counted over the whole run, printed at its end. */
+static const char *const functions[] = {"parse_notation", "display", "inv", "inv_deep", "count_steps", "flatten", "seek_step", "simplify", "family"};
+static uint64_t totals[16][16];
+
+static void print_totals(void) {
+    for (size_t f = 0; f < sizeof functions / sizeof *functions; f++) {
+        fprintf(stderr, "%s: %llu accepted", functions[f], (unsigned long long)totals[f][0]);
+        for (size_t r = 1; r < 13; r++)
+            if (totals[f][r]) fprintf(stderr, ", %llu refused %zu", (unsigned long long)totals[f][r], r);
+        fprintf(stderr, "\n");
+    }
+}
+
+static void note(size_t k) { seen[k]++; }
+
+static unsigned bits(uint64_t n) { return n ? 64 - (unsigned)__builtin_clzll(n) : 0; }
+
+/* A region that ends at a page that may not be touched. */
+struct region {
+    uint8_t *base;
+    size_t size;
+};
+
+static struct region texts, trees, outs;
+
+static struct region region(size_t size) {
+    size_t page = (size_t)sysconf(_SC_PAGESIZE);
+    size_t whole = (size + page - 1) / page * page;
+    uint8_t *p = mmap(NULL, whole + 2 * page, PROT_READ | PROT_WRITE, MAP_PRIVATE | MAP_ANONYMOUS, -1, 0);
+    demand(p != MAP_FAILED, "memory");
+    demand(mprotect(p, page, PROT_NONE) == 0 && mprotect(p + page + whole, page, PROT_NONE) == 0, "a page that may not be touched");
+    return (struct region){p + page, whole};
+}
+
+/* The last `size` bytes of a region. */
+static uint8_t *ending(struct region r, size_t size) { return r.base + r.size - size; }
+
+/* What a function is called with, apart from its buffer. */
+struct input {
+    const uint8_t *text, *tree;
+    size_t text_size, tree_size;
+    uint32_t features, layers, negatives;
+    uint64_t place, record;
+};
+
+typedef uint64_t call(const struct input *, uint8_t *, size_t);
+
+static uint64_t parse(const struct input *i, uint8_t *out, size_t n) { return hypuz_parse_notation(i->text, i->text_size, i->features, out, n); }
+static uint64_t display(const struct input *i, uint8_t *out, size_t n) { return hypuz_display(i->text, i->text_size, i->tree, i->tree_size, out, n); }
+static uint64_t inv(const struct input *i, uint8_t *out, size_t n) { return hypuz_inv(i->text, i->text_size, i->tree, i->tree_size, out, n); }
+static uint64_t inv_deep(const struct input *i, uint8_t *out, size_t n) { return hypuz_inv_deep(i->text, i->text_size, i->tree, i->tree_size, out, n); }
+static uint64_t flatten(const struct input *i, uint8_t *out, size_t n) { return hypuz_flatten(i->text, i->text_size, i->tree, i->tree_size, out, n); }
+static uint64_t seek(const struct input *i, uint8_t *out, size_t n) { return hypuz_seek_step(i->text, i->text_size, i->tree, i->tree_size, i->place, out, n); }
+static uint64_t simplify(const struct input *i, uint8_t *out, size_t n) {
+    return hypuz_simplify(i->text, i->text_size, i->tree, i->tree_size, i->record, i->layers, i->negatives, out, n);
+}
+
+/* Whether all of these bytes are still what they were filled with: the first is, and each is as the one before. */
+static int as_before(const uint8_t *p, size_t n) { return n == 0 || (p[0] == 0xa5 && memcmp(p, p + 1, n - 1) == 0); }
+
+/* Calls with `room` bytes that end at a forbidden page; before them and in the unused part the bytes must be as they were. */
+static uint64_t lend(call *f, const struct input *i, size_t room, size_t unit, const char *what) {
+    uint8_t *out = ending(outs, room);
+    memset(out - GUARD, 0xa5, GUARD + room);
+    uint64_t a = f(i, out, room);
+    size_t used = hypuz_refusal(a) ? 0 : (size_t)hypuz_value(a) * unit;
+    demand(hypuz_refusal(a) <= 12 && (hypuz_refusal(a) == 0 || hypuz_value(a) == 0), what);
+    demand(used <= room, what);
+    demand(as_before(out - GUARD, GUARD) && as_before(out + used, room - used), what);
+    return a;
+}
+
+/* With the room that a function needs, found by a call with all of the region: an exact fit gives the same, one byte less is refused 5. */
+static uint64_t fits(call *f, const struct input *i, size_t room, size_t unit, const char *what) {
+    uint64_t some = lend(f, i, room, unit, what);
+    uint64_t all = lend(f, i, outs.size - GUARD, unit, what);
+    if (hypuz_refusal(all)) {
+        demand(some == all, what);
+        return all;
+    }
+    size_t need = (size_t)hypuz_value(all) * unit;
+    demand(some == (room < need ? (uint64_t)5 << 56 : all), what);
+    demand(need == 0 || lend(f, i, need - 1, unit, what) == (uint64_t)5 << 56, what);
+    demand(lend(f, i, need, unit, what) == all, what);
+    return all;
+}
+
+/* What must hold between the functions on a tree that is well formed. */
+static void together(const struct input *i, uint64_t n, uint64_t list) {
+    if (hypuz_refusal(n)) {
+        demand(list == n, "count and list refuse alike");
+        return;
+    }
+    if (n > STEPS) return;
+    demand(list == 25 * n, "the list is as long as counted");
+    uint8_t *steps = malloc(25 * n + 1), step[25];
+    demand(flatten(i, steps, 25 * n) == 25 * n, "the list in an exact fit");
+    for (int k = 0; k < 4 && n; k++) {
+        uint64_t place = (i->place + (uint64_t)k * 7919) % n;
+        demand(hypuz_seek_step(i->text, i->text_size, i->tree, i->tree_size, place, step, 25) == 25, "seeking below the count");
+        demand(memcmp(step, steps + 25 * place, 25) == 0, "seeking gives the list's step");
+    }
+    demand(hypuz_seek_step(i->text, i->text_size, i->tree, i->tree_size, n, step, 25) == (uint64_t)10 << 56, "seeking past the end");
+    free(steps);
+}
+
+/* An inverse twice is the tree again. */
+static void twice(call *f, const struct input *i, uint64_t size, const char *what) {
+    if (hypuz_refusal(size)) return;
+    demand(size == i->tree_size, what);
+    uint8_t *once = malloc(size + 1), *again = malloc(size + 1);
+    demand(f(i, once, size) == size, what);
+    struct input back = *i;
+    back.tree = once;
+    demand(f(&back, again, size) == size && memcmp(again, i->tree, size) == 0, what);
+    free(once);
+    free(again);
+}
+
+static void every(const struct input *i, size_t room) {
+    uint64_t whole = fits(parse, i, room, 1, "reading");
+    uint64_t shown = fits(display, i, room, 1, "printing");
+    uint64_t shallow = fits(inv, i, room, 1, "inverse"), deep = fits(inv_deep, i, room, 1, "deep inverse");
+    uint64_t n = hypuz_count_steps(i->text, i->text_size, i->tree, i->tree_size);
+    uint64_t list = n > STEPS && !hypuz_refusal(n) ? lend(flatten, i, room % 64, 1, "unrolling") : fits(flatten, i, room, 1, "unrolling");
+    uint64_t step = fits(seek, i, room % 64, 1, "seeking");
+    uint64_t turned = fits(simplify, i, room, 4, "layer ranges");
+    uint64_t part = hypuz_family(i->text, i->text_size, i->tree, i->tree_size, i->record);
+    demand(hypuz_refusal(part) || (hypuz_value(part) >> 16) + (hypuz_value(part) & 0xffff) <= i->text_size, "a family inside the text");
+    uint64_t answers[] = {whole, shown, shallow, deep, n, list, step, turned, part};
+    for (size_t k = 0; k < sizeof answers / sizeof *answers; k++) {
+        note(16 * k + hypuz_refusal(answers[k]));
+        totals[k][hypuz_refusal(answers[k])]++;
+    }
+    note(576 + bits(hypuz_value(n)));
+    unsigned r = hypuz_refusal(shown);
+    if (r == 1 || r == 2 || r == 6) {
+        demand(shallow == shown && deep == shown && n == shown && list == shown && part == shown, "refusals 1, 2 and 6 of all alike");
+        return;
+    }
+    demand(r == 0, "printing a tree that is well formed");
+    twice(inv, i, shallow, "inverse twice");
+    twice(inv_deep, i, deep, "deep inverse twice");
+    together(i, n, list);
+}
+
+/* Most changes that libFuzzer makes break UTF-8, and such a text is refused before anything else runs. Unless raw bytes are asked for, a byte
+ * that is not part of a two-byte letter from U+0380 to U+03FF loses its top bit. */
+static void mend(uint8_t *text, size_t n) {
+    for (size_t k = 0; k < n; k++) {
+        if (text[k] < 0x80) continue;
+        if ((text[k] == 0xce || text[k] == 0xcf) && k + 1 < n && (text[k + 1] & 0xc0) == 0x80) k++;
+        else text[k] &= 0x7f;
+    }
+}
+
+/* Text spelled out by the grammar, a choice for each byte of the input: raw bytes almost never make notation, and a text that is not read
+ * leaves the empty tree. */
+struct speller {
+    const uint8_t *data;
+    size_t left;
+    uint8_t *out;
+    size_t size, room;
+};
+
+static unsigned choice(struct speller *s, unsigned n) {
+    if (s->left == 0) return 0;
+    s->left--;
+    return *s->data++ % n;
+}
+
+static void put(struct speller *s, const char *word) {
+    size_t n = strlen(word);
+    if (s->size + n > s->room) return;
+    memcpy(s->out + s->size, word, n);
+    s->size += n;
+}
+
+static void pick(struct speller *s, const char *const *words, unsigned n) { put(s, words[choice(s, n)]); }
+
+#define PICK(s, ...)                                            \
+    do {                                                        \
+        static const char *const words[] = {__VA_ARGS__};       \
+        pick(s, words, (unsigned)(sizeof words / sizeof *words)); \
+    } while (0)
+
+static void multiplier(struct speller *s) {
+    PICK(s, "", "", "", "'", "2", "2'", "3", "0", "0'", "1", "007'", "65536", "2147483647", "2147483647'");
+}
+
+static void family(struct speller *s) { PICK(s, "R", "U", "Fw", "_", "\xce\xb2", "\xce\xa9\xcf\x89", "IR", "x"); }
+
+static void braced(struct speller *s, int layers) {
+    put(s, "{");
+    for (unsigned k = choice(s, 5); k > 0; k--) {
+        if (layers) PICK(s, "1", "-1", "3..5", "5..-2", "-2..-7", "2-4", "32767", "-32767..1", "010", "9");
+        else PICK(s, "R", "R->U", "F <> B", "\xce\xb2->x", "a<>a");
+        if (k > 1) PICK(s, ",", ", ", " ,");
+    }
+    put(s, "}");
+}
+
+static void leaf(struct speller *s) {
+    switch (choice(s, 8)) {
+    case 0: PICK(s, ".", "/", "R++", "R--", "D++", "D--"); return;
+    case 1:
+        PICK(s, "(1, 0)", "(-2147483648,0)", "(0,-2147483648)", "( 2147483647 ,-3)", "(-6,006)");
+        return;
+    case 2:
+        put(s, "@");
+        if (choice(s, 2)) family(s);
+        break;
+    default:
+        PICK(s, "", "", "~");
+        if (choice(s, 3) == 1) braced(s, 1);
+        else PICK(s, "", "", "1", "3", "2-4", "4-2", "32767", "1-32767");
+        family(s);
+    }
+    if (choice(s, 4) == 1) braced(s, 0);
+    multiplier(s);
+}
+
+static void list(struct speller *s, unsigned depth) {
+    for (unsigned k = choice(s, 5); k > 0 && s->left > 0; k--) {
+        unsigned kind = depth < 66 ? choice(s, 8) : 7;
+        if (kind < 2) {
+            PICK(s, "(", "(", "!(", "&(", "^(");
+            list(s, depth + 1);
+            put(s, ")");
+            multiplier(s);
+        } else if (kind < 4) {
+            put(s, "[");
+            list(s, depth + 1);
+            PICK(s, ", ", ": ", ",", ":");
+            list(s, depth + 1);
+            put(s, "]");
+            multiplier(s);
+        } else {
+            leaf(s);
+        }
+        if (k > 1) PICK(s, " ", " ", " ", "  ", "\xe3\x80\x80");
+    }
+}
+
+int LLVMFuzzerTestOneInput(const uint8_t *data, size_t size) {
+    if (!texts.base) atexit(print_totals), texts = region(MOST + 1), trees = region(1 << 17), outs = region(1 << 14);
+    if (size < 16) return 0;
+    struct input i = {0};
+    i.features = data[0] & 128 ? HYPUZ_MAXIMAL : data[0];
+    /* 1 to 16 layers, most of the time. */
+    i.layers = data[2] & 64 ? (uint32_t)data[1] << (data[2] & 15) : 1 + data[1] % 16u;
+    i.negatives = data[2] >> 7;
+    i.place = (uint64_t)data[3] << (data[4] & 63);
+    i.record = data[5] == 255 ? UINT64_MAX - data[6] : data[5] & 31;
+    size_t room = (size_t)(data[7] | data[8] << 8) % 4096;
+    size_t cut = (size_t)(data[9] | data[10] << 8);
+    int damaged = data[11] % 4 == 1, given = data[11] % 32 == 31, raw = data[12] % 16 == 7;
+    data += 16, size -= 16;
+    static uint8_t spelled[4096];
+    struct speller speller = {data, size, spelled, 0, sizeof spelled};
+    if (!raw && !given) {
+        while (speller.left > 0 && speller.size < 3000) {
+            if (speller.size) put(&speller, " ");
+            list(&speller, 0);
+        }
+        /* Now and then a byte of it is changed. */
+        if (data[-4] % 16 == 3 && speller.size) spelled[cut % speller.size] = data[-3];
+    }
+    i.text_size = given ? cut % (size + 1) : raw ? size : speller.size;
+    uint8_t *text = ending(texts, i.text_size);
+    memcpy(text, raw || given ? data : spelled, i.text_size);
+    if ((raw || given) && data[-3] % 16 != 15) mend(text, i.text_size);
+    i.text = text;
+    uint8_t *tree = trees.base;
+    if (given) {
+        /* The rest of the input is the tree. */
+        i.tree_size = size - i.text_size;
+        tree = ending(trees, i.tree_size);
+        memcpy(tree, data + i.text_size, i.tree_size);
+    } else {
+        /* The tree of the text, with a byte changed or bytes cut if so told. */
+        uint64_t a = hypuz_parse_notation(text, i.text_size, HYPUZ_MAXIMAL, trees.base, trees.size);
+        i.tree_size = hypuz_refusal(a) ? 0 : (size_t)hypuz_value(a);
+        tree = ending(trees, i.tree_size);
+        memmove(tree, trees.base, i.tree_size);
+        if (damaged && i.tree_size) {
+            tree[cut % i.tree_size] ^= data[-1] ? data[-1] : 1;
+            if ((data[-2] & 15) == 1) tree += 25 < i.tree_size ? 25 : 1, i.tree_size -= 25 < i.tree_size ? 25 : 1;
+        }
+    }
+    i.tree = tree;
+    /* A record and a place that are there, most of the time. */
+    if (i.record < 32 && i.tree_size >= 25) i.record = data[-11] % (i.tree_size / 25 + (data[-10] & 1));
+    uint64_t counted = hypuz_count_steps(i.text, i.text_size, i.tree, i.tree_size);
+    if (!hypuz_refusal(counted) && counted && !(data[-12] & 64)) i.place %= counted;
+    for (size_t k = 0; k + 25 <= i.tree_size; k += 25) note(256 + tree[k]);
+    note(512 + bits(i.tree_size / 25));
+    every(&i, room);
+    return 0;
+}

@@ -1,0 +1,419 @@
+//! Holds the C functions of the archive against the Rust on trees made at random.
+//!
+//! `compare [TREES] [SEED]` prints how often each comparison was made and how often it differed, with the shortest text that differs.
+//! `compare sample [SEED]` writes 300 cases with the Rust's answers, which are not taken from the archive.
+#[path = "generate.rs"]
+mod generate;
+#[path = "ours.rs"]
+mod ours;
+
+use generate::Random;
+use hypuz_notation::*;
+use ours::RECORD;
+use std::collections::{BTreeMap, HashMap};
+
+/// The longest list that the Rust is asked for, and the most visits that it may take over one.
+const STEPS: u128 = 5_000;
+const VISITS: u128 = 200_000;
+const MOST_STEPS: u128 = u32::MAX as u128;
+const FILL: u8 = 0xa5;
+const GUARD: usize = 8;
+
+/// What the Rust answers: the value, or the number of the refusal.
+type Answer<T> = Result<T, u8>;
+
+fn invert_refusal(e: InvertError) -> u8 {
+    match e {
+        InvertError::NissNodeCannotBeInverted => 7,
+        InvertError::IntegerOverflow => 8,
+    }
+}
+
+fn expand_refusal(e: ExpandError) -> u8 {
+    match e {
+        ExpandError::NissNodeCannotBeExpanded => 7,
+        ExpandError::Invert(e) => invert_refusal(e),
+    }
+}
+
+/// Steps and visits of lists, each list once in each direction, to keep off trees over which the Rust would take for ever.
+#[derive(Default)]
+struct Tally(HashMap<(*const NodeList, bool), Answer<(u128, u128)>>);
+
+/// What a group repeats, in order.
+fn parts(n: &Node, inverted: bool) -> Vec<(&NodeList, bool)> {
+    match n {
+        Node::Group(g) => vec![(&g.contents, inverted != (g.multiplier.0 < 0))],
+        Node::BinaryGroup(g) => {
+            let d = inverted != (g.multiplier.0 < 0);
+            match g.kind {
+                BinaryGroupKind::Commutator => {
+                    let (a, b) = if d { (&g.rhs, &g.lhs) } else { (&g.lhs, &g.rhs) };
+                    vec![(a, false), (b, false), (a, true), (b, true)]
+                }
+                BinaryGroupKind::Conjugate => vec![(&g.lhs, false), (&g.rhs, d), (&g.lhs, true)],
+            }
+        }
+        _ => vec![],
+    }
+}
+
+fn repeats(n: &Node) -> u128 {
+    match n {
+        Node::Group(Group { multiplier, .. }) | Node::BinaryGroup(BinaryGroup { multiplier, .. }) => multiplier.0.unsigned_abs().into(),
+        _ => 1,
+    }
+}
+
+impl Tally {
+    /// Steps and visits, or the refusal that is met first.
+    fn list(&mut self, l: &NodeList, inverted: bool) -> Answer<(u128, u128)> {
+        if let Some(known) = self.0.get(&(l as *const _, inverted)) {
+            return *known;
+        }
+        let mut sum = (0u128, 1u128);
+        let mut found = Ok(());
+        let nodes: Vec<&Node> = if inverted { l.iter().rev().collect() } else { l.iter().collect() };
+        for n in nodes {
+            match self.node(n, inverted) {
+                Ok((steps, visits)) => sum = (sum.0.saturating_add(steps), sum.1.saturating_add(visits)),
+                Err(e) => {
+                    found = Err(e);
+                    break;
+                }
+            }
+        }
+        let answer = found.map(|()| sum);
+        self.0.insert((l as *const _, inverted), answer);
+        answer
+    }
+
+    fn node(&mut self, n: &Node, inverted: bool) -> Answer<(u128, u128)> {
+        match n {
+            Node::Group(Group { kind: GroupKind::Niss, .. }) => Err(7),
+            Node::Group(_) | Node::BinaryGroup(_) => {
+                let times = repeats(n);
+                let mut once = (0u128, 0u128);
+                if times > 0 {
+                    for (l, d) in parts(n, inverted) {
+                        let (steps, visits) = self.list(l, d)?;
+                        once = (once.0.saturating_add(steps), once.1.saturating_add(visits));
+                    }
+                }
+                Ok((once.0.saturating_mul(times), once.1.saturating_mul(times).saturating_add(1)))
+            }
+            _ if inverted => n.clone().inv().map(|_| (1, 1)).map_err(invert_refusal),
+            _ => Ok((1, 1)),
+        }
+    }
+
+    /// The step at a place, which is below the count.
+    fn step(&mut self, l: &NodeList, inverted: bool, mut place: u128) -> Node {
+        let nodes: Vec<&Node> = if inverted { l.iter().rev().collect() } else { l.iter().collect() };
+        for n in nodes {
+            let steps = self.node(n, inverted).unwrap().0;
+            if place >= steps {
+                place -= steps;
+                continue;
+            }
+            let parts = parts(n, inverted);
+            if parts.is_empty() {
+                return if inverted { n.clone().inv().unwrap() } else { n.clone() };
+            }
+            place %= steps / repeats(n);
+            for (l, d) in parts {
+                let steps = self.list(l, d).unwrap().0;
+                if place < steps {
+                    return self.step(l, d, place);
+                }
+                place -= steps;
+            }
+        }
+        unreachable!("the place is below the count")
+    }
+}
+
+/// Every node in reading order, so that an index is a record's number.
+fn records<'a>(l: &'a NodeList, out: &mut Vec<&'a Node>) {
+    for n in l {
+        out.push(n);
+        match n {
+            Node::Group(g) => records(&g.contents, out),
+            Node::BinaryGroup(g) => {
+                records(&g.lhs, out);
+                records(&g.rhs, out);
+            }
+            _ => {}
+        }
+    }
+}
+
+/// The ranges that the Rust resolves a move's layers to.
+fn ranges(mv: &Move, info: AxisLayersInfo) -> Vec<(u16, u16)> {
+    let contents = mv.layers.contents.clone().unwrap_or(LayerPrefixContents::Single(Layer::SHALLOWEST));
+    let positive = |l: &SignedLayer| l.to_unsigned().expect("a simplified set has no negative layers").to_u16();
+    match contents.simplify(info) {
+        None => vec![],
+        Some(LayerPrefixContents::Single(l)) => vec![(l.to_u16(), l.to_u16())],
+        Some(LayerPrefixContents::Range(r)) => vec![(r.start().to_u16(), r.end().to_u16())],
+        Some(LayerPrefixContents::Set(s)) => s
+            .elements
+            .iter()
+            .map(|e| match e {
+                LayerSetElement::Single(l) => (positive(l), positive(l)),
+                LayerSetElement::Range([a, b]) => (positive(a), positive(b)),
+            })
+            .collect(),
+    }
+}
+
+struct Difference {
+    times: u64,
+    text: String,
+    rust: String,
+    ours: String,
+}
+
+#[derive(Default)]
+struct Report {
+    made: BTreeMap<&'static str, u64>,
+    refused: BTreeMap<(&'static str, u8), u64>,
+    differ: BTreeMap<&'static str, Difference>,
+}
+
+impl Report {
+    /// One comparison; the shortest text that differs is kept.
+    fn same<T: PartialEq + std::fmt::Debug>(&mut self, what: &'static str, text: &str, rust: &Answer<T>, ours: &Answer<T>) {
+        *self.made.entry(what).or_default() += 1;
+        if let Err(e) = rust {
+            *self.refused.entry((what, *e)).or_default() += 1;
+        }
+        if rust == ours {
+            return;
+        }
+        let d = self.differ.entry(what).or_insert_with(|| Difference { times: 0, text: String::new(), rust: String::new(), ours: String::new() });
+        d.times += 1;
+        if d.times == 1 || text.len() < d.text.len() {
+            *d = Difference { times: d.times, text: text.into(), rust: format!("{rust:?}"), ours: format!("{ours:?}") };
+        }
+    }
+
+    fn print(&self) -> bool {
+        for (what, n) in &self.made {
+            let refused: String = self.refused.iter().filter(|((w, _), _)| w == what).map(|((_, e), n)| format!(", {n} refused {e}")).collect();
+            println!("{what}: {n} compared{refused}, {} differ", self.differ.get(what).map_or(0, |d| d.times));
+        }
+        for (what, d) in &self.differ {
+            println!("{what} differs, shortest text: {}\n  rust {}\n  ours {}", d.text, d.rust, d.ours);
+        }
+        self.differ.is_empty() && self.made.values().sum::<u64>() > 0
+    }
+}
+
+/// Calls a function with a buffer of so many bytes and a guard behind; gives the bytes written, or what is wrong with them.
+fn lent(size: usize, call: impl FnOnce(&mut [u8]) -> ours::Answer, unit: usize) -> Answer<Vec<u8>> {
+    let mut buffer = vec![FILL; size + GUARD];
+    let answer = call(&mut buffer[..size]);
+    let used = answer.map_or(0, |n| n as usize * unit);
+    assert!(buffer[used..].iter().all(|b| *b == FILL), "bytes past the used part are touched");
+    buffer.truncate(used);
+    answer.map(|_| buffer)
+}
+
+/// A tree over a text, read by the archive.
+struct Read<'a> {
+    text: &'a [u8],
+    tree: Vec<u8>,
+}
+
+impl Read<'_> {
+    /// Some records printed; `size` is what the Rust's text takes.
+    fn printed(&self, records: &[u8], size: usize) -> Answer<String> {
+        lent(size, |b| ours::display(self.text, records, b), 1).map(|b| String::from_utf8(b).unwrap())
+    }
+}
+
+fn read<'a>(text: &'a str, records: usize) -> Answer<Read<'a>> {
+    lent(records * RECORD, |b| ours::parse(text.as_bytes(), b), 1).map(|tree| Read { text: text.as_bytes(), tree })
+}
+
+/// Every comparison of one tree.
+fn compare(r: &mut Random, l: &NodeList, report: &mut Report) {
+    let text = l.to_string();
+    if text.len() > 65_535 {
+        return;
+    }
+    let mut nodes = vec![];
+    records(l, &mut nodes);
+    let ours = read(&text, nodes.len());
+    report.same("reading: records", &text, &Ok(nodes.len() * RECORD), &ours.as_ref().map(|o| o.tree.len()).map_err(|e| *e));
+    let Ok(ours) = ours else { return };
+    report.same("display", &text, &Ok(text.clone()), &ours.printed(&ours.tree, text.len()));
+    spelling(r, l, &text, nodes.len(), report);
+    inverse("inv", ours::inv, l.clone().inv(), &ours, &text, report);
+    inverse("inv_deep", ours::inv_deep, l.clone().inv_deep(), &ours, &text, report);
+    steps(r, l, &ours, &text, report);
+    // Each call checks the whole tree: of a large one some 40 records are taken, else all.
+    let large = nodes.len() > 60;
+    for (i, n) in nodes.iter().enumerate() {
+        if large && !r.one_in(nodes.len() as u64 / 40) {
+            continue;
+        }
+        family(n, i as u64, &ours, &text, report);
+        if let Node::Move(mv) = n {
+            layers(r, mv, i as u64, large, &ours, &text, report);
+        }
+    }
+}
+
+/// The same tree in another spelling prints the same.
+fn spelling(r: &mut Random, l: &NodeList, text: &str, records: usize, report: &mut Report) {
+    let spelled = generate::spelled(r, l);
+    if spelled.len() > 65_535 {
+        return;
+    }
+    let ours = read(&spelled, records).and_then(|o| o.printed(&o.tree, text.len()));
+    report.same("display of another spelling", &spelled, &Ok(text.to_string()), &ours);
+}
+
+type Inverse = fn(&[u8], &[u8], &mut [u8]) -> ours::Answer;
+
+fn inverse(what: &'static str, call: Inverse, rust: Result<NodeList, InvertError>, ours: &Read, text: &str, report: &mut Report) {
+    let rust = rust.map(|l| l.to_string()).map_err(invert_refusal);
+    let size = rust.as_ref().map_or(0, |s| s.len());
+    let given = lent(ours.tree.len(), |b| call(ours.text, &ours.tree, b), 1).and_then(|b| ours.printed(&b, size));
+    report.same(what, text, &rust, &given);
+}
+
+/// Unrolling and seeking against the Rust where it can; where the list is too long, counting and seeking against a plain count.
+fn steps(r: &mut Random, l: &NodeList, ours: &Read, text: &str, report: &mut Report) {
+    let mut tally = Tally::default();
+    let counted = tally.list(l, false);
+    let plain = counted.and_then(|(n, _)| if n > MOST_STEPS { Err(9) } else { Ok(n as u64) });
+    report.same("count_steps with a plain count", text, &plain, &ours::count_steps(ours.text, &ours.tree));
+    let within = |(n, visits): (u128, u128)| n <= STEPS && visits <= VISITS;
+    if counted.is_ok_and(within) || counted.is_err() && bounded(l, &mut tally) {
+        unrolled(r, l, ours, text, report);
+    } else if let Ok(n) = plain {
+        for place in [0, n.saturating_sub(1), r.below(n.max(1)), r.below(n.max(1))] {
+            if place < n {
+                let step = tally.step(l, false, place.into()).to_string();
+                let given = lent(RECORD, |b| ours::seek_step(ours.text, &ours.tree, place, b), 1).and_then(|b| ours.printed(&b, step.len()));
+                report.same("seek_step with a plain walk", text, &Ok(step), &given);
+            }
+        }
+        let given = lent(RECORD, |b| ours::seek_step(ours.text, &ours.tree, n, b), 1);
+        report.same("seek_step past the end", text, &Err(10), &given);
+    }
+}
+
+/// Whether every part that is not refused is short, so that the Rust meets its refusal soon.
+fn bounded(l: &NodeList, tally: &mut Tally) -> bool {
+    tally.list(l, true).ok();
+    let sum = tally.0.values().filter_map(|a| a.ok()).fold(0u128, |s, (_, v)| s.saturating_add(v));
+    let mut nodes = vec![];
+    records(l, &mut nodes);
+    let most = nodes.iter().fold(1u128, |m, n| m.max(repeats(n)));
+    sum.saturating_mul(most) <= VISITS
+}
+
+fn unrolled(r: &mut Random, l: &NodeList, ours: &Read, text: &str, report: &mut Report) {
+    let rust = l.flatten().map_err(expand_refusal);
+    let length = rust.as_ref().map(|l| l.len() as u64).map_err(|e| *e);
+    report.same("count_steps", text, &length, &ours::count_steps(ours.text, &ours.tree));
+    let list = lent(rust.as_ref().map_or(0, |l| l.len()) * RECORD, |b| ours::flatten(ours.text, &ours.tree, b), 1);
+    report.same("flatten: length", text, &length, &list.as_ref().map(|b| (b.len() / RECORD) as u64).map_err(|e| *e));
+    let shown = rust.map(|l| l.to_string());
+    let size = shown.as_ref().map_or(0, |s| s.len());
+    report.same("flatten", text, &shown, &list.as_ref().map_err(|e| *e).and_then(|b| ours.printed(b, size)));
+    let Ok(list) = list else { return };
+    let n = (list.len() / RECORD) as u64;
+    for place in [0, n.saturating_sub(1), r.below(n.max(1)), r.below(n.max(1)), r.below(n.max(1)), n] {
+        let want = if place < n { Ok(list[place as usize * RECORD..][..RECORD].to_vec()) } else { Err(10) };
+        let given = lent(RECORD, |b| ours::seek_step(ours.text, &ours.tree, place, b), 1);
+        report.same("seek_step", text, &want, &given);
+    }
+}
+
+fn family(n: &Node, record: u64, ours: &Read, text: &str, report: &mut Report) {
+    let rust = match n {
+        Node::Move(mv) => Ok(mv.transform.family.as_bytes()),
+        Node::Rotation(t) => Ok(t.transform.family.as_bytes()),
+        _ => Err(12),
+    };
+    let given = ours::family(ours.text, &ours.tree, record).map(|a| &ours.text[(a >> 16) as usize..][..(a & 0xffff) as usize]);
+    report.same("family", text, &rust, &given);
+}
+
+/// All of 1 to 10 and 32767 layers, negatives allowed and not; in a large tree three of these.
+fn layers(r: &mut Random, mv: &Move, record: u64, large: bool, ours: &Read, text: &str, report: &mut Report) {
+    let all: Vec<(u16, bool)> = (1..=10).chain([32767]).flat_map(|n| [(n, false), (n, true)]).collect();
+    let some = if large { (0..3).map(|_| r.pick(&all)).collect() } else { all };
+    for (max_layer, allow_negatives) in some {
+        let rust = ranges(mv, AxisLayersInfo { max_layer, allow_negatives });
+        let given = lent(rust.len() * 4, |b| ours::simplify(ours.text, &ours.tree, record, max_layer.into(), allow_negatives, b), 4);
+        let two = |b: &[u8]| u16::from_be_bytes([b[0], b[1]]);
+        let given = given.map(|b| b.chunks(4).map(|c| (two(c), two(&c[2..]))).collect::<Vec<_>>());
+        report.same("simplify", text, &Ok(rust), &given);
+    }
+}
+
+/// A line of the stored sample, all of it from the Rust: text, printed, inverse, deep inverse, unrolled list, layer ranges.
+fn sample_line(r: &mut Random, l: &NodeList) -> Option<String> {
+    let text = generate::spelled(r, l);
+    let mut tally = Tally::default();
+    let short = tally.list(l, false).map_or_else(|_| bounded(l, &mut tally), |(n, v)| n <= 60 && v <= VISITS);
+    if text.len() > 200 || !short {
+        return None;
+    }
+    let refused = |e: u8| format!("refused {e}");
+    let inverted = |l: Result<NodeList, InvertError>| l.map_or_else(|e| refused(invert_refusal(e)), |l| l.to_string());
+    let flat = l.flatten().map_or_else(|e| refused(expand_refusal(e)), |l| format!("{} {l}", l.len()));
+    let mut nodes = vec![];
+    records(l, &mut nodes);
+    let mut shown = vec![];
+    for (i, mv) in nodes.iter().enumerate().filter_map(|(i, n)| Some((i, n.as_move()?))).take(4) {
+        let info = AxisLayersInfo { max_layer: r.pick(&[1, 2, 3, 5, 7, 10, 32767]), allow_negatives: !r.one_in(3) };
+        let list: Vec<String> = ranges(mv, info).iter().map(|(a, b)| format!("{a}-{b}")).collect();
+        shown.push(format!("{i} {} {} {}", info.max_layer, u8::from(info.allow_negatives), list.join(",")));
+    }
+    Some(format!("{text}\t{l}\t{}\t{}\t{flat}\t{}", inverted(l.clone().inv()), inverted(l.clone().inv_deep()), shown.join("; ")))
+}
+
+fn sample(seed: u64) {
+    let mut r = Random(seed);
+    println!("# text\tprinted\tinverse\tdeep inverse\tcount and unrolled list\tranges: record, max_layer, negatives, list; ...");
+    println!("# Made by `compare sample {seed}` (tests/oracle/compare.rs): the Rust's Display, inv, inv_deep, flatten and simplify of trees made at");
+    println!("# random; the text is another spelling of the tree, which the Rust did not read. `refused N` stands for a refusal.");
+    let mut made = 0;
+    while made < 300 {
+        let l = generate::tree(&mut r);
+        // Few flat lists that nothing refuses: they repeat one another.
+        let flat = !l.iter().any(|n| matches!(n, Node::Group(_) | Node::BinaryGroup(_)));
+        if flat && l.clone().inv().is_ok() && !r.one_in(20) {
+            continue;
+        }
+        if let Some(line) = sample_line(&mut r, &l) {
+            println!("{line}");
+            made += 1;
+        }
+    }
+}
+
+fn main() {
+    let args: Vec<String> = std::env::args().skip(1).collect();
+    let seed = args.get(1).map_or(1, |s| s.parse().expect("a seed"));
+    if args.first().is_some_and(|a| a == "sample") {
+        return sample(seed);
+    }
+    let trees: u64 = args.first().map_or(100_000, |s| s.parse().expect("how many trees"));
+    let mut report = Report::default();
+    let mut r = Random(seed);
+    for _ in 0..trees {
+        let l = generate::tree(&mut r);
+        compare(&mut r, &l, &mut report);
+    }
+    println!("{trees} trees, seed {seed}");
+    let fine = report.print();
+    std::process::exit(if fine { 0 } else { 1 });
+}

@@ -1,0 +1,55 @@
+"""Stored vectors whose answers are the Rust's: tests/oracle/sample.tsv, made by tests/oracle/compare.rs.
+
+Of each text the listing is replayed (printed, shallow inverse, number of steps, steps), the deep inverse as text (letter `x`) and layer ranges. Only the tree
+that a call takes is the reference's; no answer is.
+"""
+import os
+import re
+
+import entry_vectors
+from lines import refused, spelled, value
+
+SAMPLE = os.path.join(os.path.dirname(os.path.abspath(__file__)), "..", "oracle", "sample.tsv")
+SHOWN = 1000
+
+
+def rows():
+    with open(SAMPLE, encoding="utf-8", newline="\n") as f:
+        for line in f.read().split("\n"):
+            if line and not line.startswith("# "):
+                yield line.split("\t")
+
+
+def field(answer):
+    return int(answer[8:]) if answer.startswith("refused ") else None
+
+
+def listed(data, printed, inverse, steps):
+    """The listing's case. Of the parts of a step only the numbers of a pair are parted by a space, which follows a comma."""
+    out = ["text " + printed, "inverse " + inverse]
+    if field(steps) is None:
+        count, _, shown = steps.partition(" ")
+        found = re.split("(?<!,) ", shown) if shown else []
+        assert len(found) == int(count), steps
+        out += ["steps " + count] + [f"{k} {step}" for k, step in enumerate(found[:SHOWN])]
+    else:
+        out.append("steps " + steps)
+    written = "".join(line + "\n" for line in out).encode()
+    yield f"o{len(written) + 3:06x}{0:016x}{0:08x}0{spelled(b'm' + bytes([10]) + data)}|", value(len(written), written)
+
+
+def lines():
+    """Each case with the Rust's answer."""
+    for text, printed, inverse, deep, steps, ranges in rows():
+        data = text.encode()
+        tree = spelled(entry_vectors.tree_of(data))
+        yield from listed(data, printed, inverse, steps)
+        number = field(deep)
+        answer = value(len(deep.encode()), deep.encode()) if number is None else refused(number)
+        yield f"x{len(deep.encode()) + 3:06x}{0:016x}{0:08x}0{spelled(data)}|{tree}", answer
+        for case in filter(None, ranges.split("; ")):
+            record, layers, negatives, found = (case + " ").split(" ")[:4]
+            pairs = [part.split("-") for part in found.split(",") if part]
+            written = b"".join(int(end).to_bytes(2, "big") for pair in pairs for end in pair)
+            head = f"l{len(written) + 3:06x}{int(record):016x}{int(layers):08x}{negatives}"
+            yield f"{head}{spelled(data)}|{tree}", value(len(pairs), written)
