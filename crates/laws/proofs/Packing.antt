@@ -24,6 +24,7 @@ use Rattle.notation.specs.Packed.{
 }
 use Rattle.record.specs.Range.{FitsSpan, FitsFamily, FitsConstraints, FitsLayers, FitsNumber, FitsLeaf, FitsHead}
 use Rattle.record.proofs.RoundTrip.{length-record25, headAt-record25}
+use Rattle.record.proofs.Same.{same-refl, same-eq}
 use Rattle.laws.proofs.Bools.{and-left, and-right, and-both, false-true}
 use Rattle.laws.proofs.Fits.{familyFits, leafFits, nodeFits, bodyFits, treeFits}
 
@@ -226,19 +227,6 @@ module _ (text : List ℕ) (short : length text ≤ 65535) where
     tree-fits (cons n l) h e z =
         (node-fits n (and-left _ _ h) (and-left _ _ e) (omega arith),
           tree-fits l (and-right (nodeOk text n) _ h) (and-right (nodeFits n) _ e) (omega arith))
-
--- Equality of lists of numbers, by test.
-pub same-refl : (s : List ℕ) → sameList s s ≡ true
-unfolding sameList
-same-refl [] = refl
-same-refl (a ∷ s) = and-both (eqb a a) _ (eq-eqb a a refl) (same-refl s)
-
-pub same-eq : (s t : List ℕ) → sameList s t ≡ true → s ≡ t
-unfolding sameList
-same-eq [] [] h = refl
-same-eq [] (b ∷ t) h = absurd (false-true h)
-same-eq (a ∷ s) [] h = absurd (false-true h)
-same-eq (a ∷ s) (b ∷ t) h = λ i. eqb-true a b (and-left _ _ h) i ∷ same-eq s t (and-right (eqb a b) _ h) i
 
 -- what packing writes of a tree in bounds is well formed, and a well-formed tree is what packing writes of its nodes
 pub packed-well-formed : (text : List ℕ) (t : Tree) → FitsTree t → treeOk text t ≡ true → depth t ≤ MAX-NESTING → wellFormed text (pack t) ≡ true

@@ -259,13 +259,21 @@ fn braces(text: &[u8], at: usize, element: Element) -> Taken
     ensures { λ r. ⌜ means.told (now (text .entry)) r ≡ means.forget (rule.braces (means.elementOf element) at (drop at (now (text .entry)))) ⌝ }
 {
     if has(text, at, b'{') {
-        let first = whitespace_end(text, at + 1);
-        let Taken::To(next) = element_end(text, first, element) else {
-            return closing(text, first);
-        };
-        return more_elements(text, next, element);
+        return in_braces(text, at, element);
     }
     Taken::Nothing
+}
+
+// The same where a brace is known to stand. Apart, because most nodes have none: the test alone is small enough to stand in its callers.
+fn in_braces(text: &[u8], at: usize, element: Element) -> Taken
+    requires { ⌜ (at ≤ length (now text)) × (byteAt (now text) at ≡ 123) ⌝ }
+    ensures { λ r. ⌜ means.told (now (text .entry)) r ≡ means.forget (rule.braces (means.elementOf element) at (drop at (now (text .entry)))) ⌝ }
+{
+    let first = whitespace_end(text, at + 1);
+    let Taken::To(next) = element_end(text, first, element) else {
+        return closing(text, first);
+    };
+    more_elements(text, next, element)
 }
 
 pub fn constraint_set(text: &[u8], at: usize) -> Taken

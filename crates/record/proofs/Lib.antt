@@ -2,3 +2,4 @@
 pub mod Cut
 pub mod Packed
 pub mod RoundTrip
+pub mod Same

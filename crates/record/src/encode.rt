@@ -2,11 +2,13 @@
 ghost use mathlib.Core.Path.{_≡_};
 ghost use mathlib.Core.List.{_++_};
 ghost use Prim.Native.Nat.{_+_, _<_, _≤_};
-ghost use lib.ListN.{length, drop};
+ghost use lib.ListN.{length, take, drop};
+ghost use Rattle.notation.specs.Basics.{sameList};
 ghost use lib.Seq.{sets};
 ghost use Rattle.notation.specs.Numbers.{bigEndian};
 ghost use Rattle.notation.specs.Packed as packed;
 ghost use Rattle.record.specs.Meaning as meaning;
+use crate::fields;
 use crate::spanned::LayerPrefixContents;
 use crate::spanned::Move;
 use crate::spanned::Record;
@@ -16,6 +18,7 @@ use crate::spanned::SpanOption;
 use notation::common::BinaryGroupKind;
 use notation::common::GroupKind;
 use notation::common::MegaminxScrambleMove;
+use numbers::big_endian::read_u8;
 use numbers::big_endian::write_u8;
 use numbers::big_endian::write_u16;
 use numbers::big_endian::write_u32;
@@ -40,6 +43,73 @@ pub fn encode(r: Record, out: &mut [u8])
     ensures { λ _. ⌜ now (out .exit) ≡ packed.record25 (meaning.head r) ++ drop packed.RECORD (now (out .entry)) ⌝ }
 {
     put(out, fields_of(r));
+}
+
+// Whether the first record of t has the fields of r.
+pub fn has_fields(r: Record, t: &[u8]) -> bool
+    requires { ⌜ packed.RECORD ≤ length (now t) ⌝ }
+    ensures { λ same. ⌜ same ≡ sameList (packed.headFields (meaning.head r)) (packed.cut packed.widths (take packed.RECORD (now (t .entry)))) ⌝ }
+{
+    same_fields(fields_of(r), fields_at(t))
+}
+
+// The fields of the first record of t as they stand.
+fn fields_at(t: &[u8]) -> Fields
+    requires { ⌜ packed.RECORD ≤ length (now t) ⌝ }
+    ensures { λ f. ⌜ meaning.listed f ≡ packed.cut packed.widths (take packed.RECORD (now (t .entry))) ⌝ }
+{
+    Fields {
+        small: read_u8(t, 0),
+        first: fields::first(t),
+        second: fields::second(t),
+        number: fields::number(t),
+        other: fields::other(t),
+        family: fields::family(t),
+        constraints: fields::constraints(t),
+        layer_set: fields::layer_set(t),
+    }
+}
+
+fn same_fields(a: Fields, b: Fields) -> bool
+    ensures { λ r. ⌜ r ≡ sameList (meaning.listed a) (meaning.listed b) ⌝ }
+{
+    if a.small != b.small {
+        return false;
+    }
+    if a.first != b.first {
+        return false;
+    }
+    if a.second != b.second {
+        return false;
+    }
+    if a.number != b.number {
+        return false;
+    }
+    if a.other != b.other {
+        return false;
+    }
+    same_parts(a, b)
+}
+
+fn same_parts(a: Fields, b: Fields) -> bool
+    ensures { λ r. ⌜ r ≡ sameList (drop 5 (meaning.listed a)) (drop 5 (meaning.listed b)) ⌝ }
+{
+    if a.family.offset != b.family.offset {
+        return false;
+    }
+    if a.family.size != b.family.size {
+        return false;
+    }
+    if a.constraints.offset != b.constraints.offset {
+        return false;
+    }
+    if a.constraints.size != b.constraints.size {
+        return false;
+    }
+    if a.layer_set.offset != b.layer_set.offset {
+        return false;
+    }
+    a.layer_set.size == b.layer_set.size
 }
 
 fn fields_of(r: Record) -> Fields

@@ -17,7 +17,8 @@ use Rattle.numbers.proofs.Positional.{Below}
 use Rattle.record.specs.Range.{FitsHead}
 use Rattle.record.proofs.RoundTrip.{length-record25, headAt-record25}
 use Rattle.laws.proofs.Bools.{and-left, and-right, and-both}
-use Rattle.laws.proofs.Packing.{length-pack, same-refl, same-eq}
+use Rattle.laws.proofs.Packing.{length-pack}
+use Rattle.record.proofs.Same.{same-refl, same-eq}
 use Rattle.tree.specs.Formed.{formed, headOk, first, second, both, firstBytes, secondBytes, restBytes}
 use Rattle.tree.proofs.Opening.{both-sum, nodeOf, counting, counting-own, viewed, unpack-view}
 use Rattle.tree.proofs.Bytes.{head-fits, size-most}

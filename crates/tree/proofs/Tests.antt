@@ -7,23 +7,15 @@ use native.Mathlib.Omega.{arith}
 use borrow.Author.Tests.{le-leb, lt-leb, lt-ltb, le-ltb, ltb-true, ltb-false, eqb-true, eqb-false, ne-eqb}
 use lib.Dec.{leb, ltb, eqb}
 use lib.IntN.{pos, negsuc}
-use lib.ListN.{length, take, drop, getD, length-drop}
-use lib.Seq.{ext-getD, getD-take, length-take-le}
-use Rattle.notation.specs.Basics.{pick, sameList}
+use lib.ListN.{length, take, drop, length-drop}
+use Rattle.notation.specs.Basics.{pick}
 use Rattle.notation.specs.Numbers.{fromBits}
 use Rattle.notation.specs.Chars.{isFamilyChar}
 use Rattle.notation.specs.Utf8.{run}
 use Rattle.notation.specs.Grammar.{Reading, rejected, read, Reader, atEnd}
 use Rattle.notation.specs.Tree.{span}
-use Rattle.notation.specs.Packed.{RECORD}
 use Rattle.notation.specs.WellFormed.{isSome, multiplierOk, familyOk}
-use Rattle.laws.proofs.Packing.{same-refl, same-eq}
 use Rattle.parse.specs.Meaning.{forget}
-
--- a test is false if it cannot be true
-pub refuted : (b : Bool) → (b ≡ true → ⊥) → false ≡ b
-refuted true f = absurd (f refl)
-refuted false f = refl
 
 pub multiplier-test : (b : ℕ) → b < 4294967296 → not (eqb b 2147483648) ≡ multiplierOk (fromBits 32 b)
 multiplier-test b h = go (ltb b 2147483648) refl
@@ -91,17 +83,3 @@ single-test i = rw (le-leb i i (omega arith)) (go (leb 1 i))
     go : (b : Bool) → (b && true && leb i 32767) ≡ (b && leb i 32767)
     go true = refl
     go false = refl
-
--- Bytes compared one by one.
-pub bytes-same : (written t : List ℕ) → length written ≡ RECORD → RECORD ≤ length t → ((k : ℕ) → k < RECORD → getD written k 0 ≡ getD t k 0) → true ≡ sameList written (take RECORD t)
-bytes-same written t e l f =
-    let z : written ≡ take RECORD t =
-    ext-getD 0 written (take RECORD t) (e ∙ sym (length-take-le RECORD t l))
-    (λ k h. let i : k < RECORD = omega arith in f k i ∙ sym (getD-take RECORD t k 0 i))
-    in
-    sym (subst (λ (s : List ℕ). sameList written s ≡ true) z (same-refl written))
-
-pub bytes-differ : (written t : List ℕ) (k : ℕ) → k < RECORD → (getD written k 0 ≡ getD t k 0 → ⊥) → false ≡ sameList written (take RECORD t)
-bytes-differ written t k h n =
-    refuted (sameList written (take RECORD t))
-    λ e. n (ap (λ (s : List ℕ). getD s k 0) (same-eq written (take RECORD t) e) ∙ getD-take RECORD t k 0 h)

@@ -12,9 +12,8 @@ use Rattle.notation.specs.Basics.{pick, sameList}
 use Rattle.notation.specs.Packed.{RECORD, Head, record25, headAt}
 use Rattle.numbers.proofs.Positional.{Below, below-drop}
 use Rattle.laws.proofs.Bools.{and-left, and-right, and-both, false-true}
-use Rattle.laws.proofs.Packing.{same-refl, same-eq}
+use Rattle.record.proofs.Same.{same-refl, same-eq, refuted}
 use Rattle.tree.specs.Formed.{formed, headOk, both, firstBytes, secondBytes, restBytes}
-use Rattle.tree.proofs.Tests.{refuted}
 use Rattle.tree.proofs.Formed.{formed-fact, fact-formed, formed-nil, Parts, formed-parts, parts-formed}
 
 -- two tests that hold together

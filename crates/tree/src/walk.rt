@@ -5,7 +5,7 @@ use crate::leaf::multiplier_ok;
 use crate::leaf::rotation_ok;
 use record::RECORD;
 use record::decode::decode;
-use record::encode::encode;
+use record::encode::has_fields;
 use record::spanned::Record;
 ghost use mathlib.Core.Path.{_≡_};
 ghost use mathlib.Core.Bool.{_&&_};
@@ -102,6 +102,7 @@ fn group_ok(multiplier: u32, depth: usize) -> bool
 // Where the first node ends, whose record says r; 0 if the record is not what packing writes, or a list in it runs past the end.
 fn node_end(t: &[u8], r: Record) -> usize
     requires { ⌜ RECORD ≤ length (now t) ⌝ }
+    requires { ⌜ head r ≡ headAt (now t) ⌝ }
     ensures { λ end. ⌜ end ≡ pick (sameList (record25 (head r)) (take RECORD (now (t .entry))) && leb (RECORD + RECORD * both (head r)) (length (now (t .entry)))) (RECORD + RECORD * both (head r)) 0 ⌝ }
 {
     if is_packed(t, r) {
@@ -138,19 +139,11 @@ fn records_inside(r: Record) -> usize
     }
 }
 
-// Whether the first record is what packing writes of r: this rules out a kind above 14, and unused fields other than 0.
+// Whether the first record, which says r, is what packing writes of r: this rules out a kind above 14, and unused fields other than 0.
 fn is_packed(t: &[u8], r: Record) -> bool
     requires { ⌜ RECORD ≤ length (now t) ⌝ }
+    requires { ⌜ head r ≡ headAt (now t) ⌝ }
     ensures { λ same. ⌜ same ≡ sameList (record25 (head r)) (take RECORD (now (t .entry))) ⌝ }
 {
-    let mut written = [0u8; 25];
-    encode(r, &mut written);
-    let mut i = 0;
-    while i < 25 {
-        if written[i] != t[i] {
-            return false;
-        }
-        i += 1;
-    }
-    true
+    has_fields(r, t)
 }

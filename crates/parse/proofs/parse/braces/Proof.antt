@@ -1,66 +1,23 @@
--- `braces` meets its contract: the first element, then what `more_elements` reads, with as much fuel as the rule has. Assumes nothing.
+-- `braces` meets its contract: without a brace there is no set. Assumes nothing.
 use mathlib.Core.Path.{sym, _∙_}
-use native.Mathlib.Omega.{arith}
-use Prim.Native.Nat.{_+_, _-_}
-use lib.ListN.{length, drop, length-drop}
-use Rattle.notation.specs.Chars.{whiteSpace}
-use Rattle.charsets.proofs.Runs.{end-length}
-use Rattle.parse.specs.Meaning.{elementOf}
-use Rattle.parse.proofs.Bytes.{seen}
-use Rattle.parse.proofs.Past.{within}
-use Rattle.parse.proofs.Rules.{takes-element}
-use Rattle.parse.proofs.Sets.{no-brace, empty-set, set-from}
 use borrow.Author.Needs.{needs}
+use borrow.Author.Tests.{eqb-true}
+use Rattle.parse.specs.Meaning.{elementOf}
+use Rattle.parse.proofs.Sets.{no-brace}
 use Rattle.parse.proofs.parse.braces.Statement.{statement}
 use Rattle.parse.proofs.parse.braces.Tie as tie
 
 has-requires : tie.Need-has-requires
 has-requires c κs = search needs
 
-add-whitespace-end : tie.Need-add-whitespace-end
-add-whitespace-end c = search needs
-
-whitespace-end-requires : tie.Need-whitespace-end-requires
-whitespace-end-requires c κs = (omega (arith, seen (c .before .before .before .args .text .now) (c .before .before .before .args .at) 123 (omega arith) (sym (c .before .has .ensures) ∙ c .if1 .taken)))
-
-element-end-requires : tie.Need-element-end-requires
-element-end-requires c κs = omega (arith, c .whitespace-end .ensures, end-length whiteSpace (c .before .before .before .before .args .text .now) (c .before .before .before .before .args .at + 1) (omega (arith, seen (c .before .before .before .before .args .text .now) (c .before .before .before .before .args .at) 123 (omega arith) (sym (c .before .before .has .ensures) ∙ c .before .if1 .taken))))
-
-enum-known-next : tie.Need-enum-known-next
-enum-known-next c = search needs
-
-enum-told : tie.Need-enum-told
-enum-told c = search needs
-
-closing-requires : tie.Need-closing-requires
-closing-requires c κs = omega (arith, c .before .before .before .whitespace-end .ensures, end-length whiteSpace (c .before .before .before .before .before .before .before .args .text .now) (c .before .before .before .before .before .before .before .args .at + 1) (omega (arith, seen (c .before .before .before .before .before .before .before .args .text .now) (c .before .before .before .before .before .before .before .args .at) 123 (omega arith) (sym (c .before .before .before .before .before .has .ensures) ∙ c .before .before .before .before .if1 .taken))))
+in-braces-requires : tie.Need-in-braces-requires
+in-braces-requires c κs = (c .before .before .before .pre, eqb-true _ _ (sym (c .before .has .ensures) ∙ c .if1 .taken))
 
 returns : tie.Need-returns
-returns c = empty-set (elementOf (c .before .before .before .before .before .before .before .before .args .element)) (c .before .before .before .before .before .before .before .before .args .text .now) (c .before .before .before .before .before .before .before .before .args .at) (sym (c .before .before .before .before .before .before .has .ensures) ∙ c .before .before .before .before .before .if1 .taken) (c .before .before .before .before .whitespace-end .result) (c .before .before .before .before .whitespace-end .ensures) (rw (c .before .enum-told .given .1) at (c .before .before .before .element-end .ensures)) (c .closing .ensures)
-
-more-elements-requires : tie.Need-more-elements-requires
-more-elements-requires c κs = within (c .before .before .before .before .before .before .before .before .args .text .now) (c .before .before .before .before .whitespace-end .result) (takes-element (c .before .before .before .before .before .before .before .before .args .element)) (omega (arith, c .before .before .before .before .whitespace-end .ensures, end-length whiteSpace (c .before .before .before .before .before .before .before .before .args .text .now) (c .before .before .before .before .before .before .before .before .args .at + 1) (omega (arith, seen (c .before .before .before .before .before .before .before .before .args .text .now) (c .before .before .before .before .before .before .before .before .args .at) 123 (omega arith) (sym (c .before .before .before .before .before .before .has .ensures) ∙ c .before .before .before .before .before .if1 .taken))))) (rw (c .before .next .given .1) at (c .before .before .before .element-end .ensures)) .1
+returns c = c .in-braces .ensures
 
 returns-2 : tie.Need-returns-2
-returns-2 c =
-    set-from (elementOf (c .before .before .before .before .before .before .before .before .before .args .element)) (c .before .before .before .before .before .before .before .before .before .args .text .now) (c .before .before .before .before .before .before .before .before .before .args .at) (sym (c .before .before .before .before .before .before .before .has .ensures) ∙ c .before .before .before .before .before .before .if1 .taken) (c .before .before .before .before .before .whitespace-end .result) (c .before .before .before .before .before .whitespace-end .ensures) tt (c .before .before .next .given .0 .0) (rw (c .before .before .next .given .1) at (c .before .before .before .before .element-end .ensures))
-    (c .more-elements .ensures (length (drop (c .before .before .before .before .before .whitespace-end .result) (c .before .before .before .before .before .before .before .before .before .args .text .now))) (omega (arith, length-drop (c .before .before .before .before .before .whitespace-end .result) (c .before .before .before .before .before .before .before .before .before .args .text .now), within (c .before .before .before .before .before .before .before .before .before .args .text .now) (c .before .before .before .before .before .whitespace-end .result) (takes-element (c .before .before .before .before .before .before .before .before .before .args .element)) (omega (arith, c .before .before .before .before .before .whitespace-end .ensures, end-length whiteSpace (c .before .before .before .before .before .before .before .before .before .args .text .now) (c .before .before .before .before .before .before .before .before .before .args .at + 1) (omega (arith, seen (c .before .before .before .before .before .before .before .before .before .args .text .now) (c .before .before .before .before .before .before .before .before .before .args .at) 123 (omega arith) (sym (c .before .before .before .before .before .before .before .has .ensures) ∙ c .before .before .before .before .before .before .if1 .taken))))) (rw (c .before .before .next .given .1) at (c .before .before .before .before .element-end .ensures)) .0)))
-
-returns-3 : tie.Need-returns-3
-returns-3 c = no-brace (elementOf (c .before .before .before .args .element)) (c .before .before .before .args .text .now) (c .before .before .before .args .at) (sym (c .before .has .ensures) ∙ c .if1 .left)
+returns-2 c = no-brace (elementOf (c .before .before .before .args .element)) (c .before .before .before .args .text .now) (c .before .before .before .args .at) (sym (c .before .has .ensures) ∙ c .if1 .left)
 
 pub braces-spec : {M : Type 1} → statement M
-braces-spec =
-    tie.close
-    (tie.spec
-    has-requires
-    add-whitespace-end
-    whitespace-end-requires
-    element-end-requires
-    enum-known-next
-    enum-told
-    closing-requires
-    returns
-    more-elements-requires
-    returns-2
-    returns-3)
+braces-spec = tie.close (tie.spec has-requires in-braces-requires returns returns-2)

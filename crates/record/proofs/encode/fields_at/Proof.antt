@@ -1,0 +1,52 @@
+-- `encode::fields_at` meets its contract: each field where it stands. Assumes nothing.
+use mathlib.Core.Path.{sym, _∙_}
+use borrow.Author.Needs.{needs}
+use lib.Dec.{lit<, lit≤}
+use Rattle.record.proofs.Packed.{field-at}
+use Rattle.record.proofs.Same.{all-fields}
+use Rattle.record.proofs.encode.fields_at.Statement.{statement}
+use Rattle.record.proofs.encode.fields_at.Tie as tie
+
+read-u8-requires : tie.Need-read-u8-requires
+read-u8-requires c κs = search needs
+
+first-requires : tie.Need-first-requires
+first-requires c κs = search needs
+
+second-requires : tie.Need-second-requires
+second-requires c κs = search needs
+
+number-requires : tie.Need-number-requires
+number-requires c κs = search needs
+
+other-requires : tie.Need-other-requires
+other-requires c κs = search needs
+
+family-requires : tie.Need-family-requires
+family-requires c κs = search needs
+
+constraints-requires : tie.Need-constraints-requires
+constraints-requires c κs = search needs
+
+layer-set-requires : tie.Need-layer-set-requires
+layer-set-requires c κs = search needs
+
+returns : tie.Need-returns
+returns c =
+    let t = c .before .before .before .before .before .before .before .before .before .args .t .now in
+    all-fields t (c .before .before .before .before .before .before .before .read-u8 .ensures ∙ sym (field-at t 0 (lit< tt) (lit≤ tt))) (c .before .before .before .before .before .before .first .ensures) (c .before .before .before .before .before .second .ensures) (c .before .before .before .before .number .ensures) (c .before .before .before .other .ensures)
+    (c .before .before .family .ensures) (c .before .constraints .ensures) (c .layer-set .ensures)
+
+pub fields-at-spec : {M : Type 1} → statement M
+fields-at-spec =
+    tie.close
+    (tie.spec
+    read-u8-requires
+    first-requires
+    second-requires
+    number-requires
+    other-requires
+    family-requires
+    constraints-requires
+    layer-set-requires
+    returns)
