@@ -9,7 +9,7 @@ use lib.ListN.{length, drop}
 use Rattle.notation.specs.Basics.{pick}
 use Rattle.notation.specs.Refusals.{Outcome, refusal, result, _>>=_, NO-ROOM}
 use Rattle.notation.specs.Tree.{Leaf, Node, leaf, block, Body, group, binaryGroup, nil, cons, Tree}
-use Rattle.notation.specs.Packed.{RECORD, pack, unpack}
+use Rattle.notation.specs.Packed.{RECORD, size, pack, unpack}
 use Rattle.notation.specs.Invert.{inv, invDeep, overflows}
 use Rattle.notation.specs.Entries.{Lent, lend, checked, inverse, deepInverse}
 use Rattle.notation.specs.declared.common.GroupKind.{GroupKind}
@@ -25,6 +25,7 @@ use Rattle.laws.proofs.WellFormedInverses.{inverted-size, deeply-size}
 use Rattle.laws.proofs.Walking.{Packed}
 use Rattle.invert.specs.Nodes.{over}
 use Rattle.hypuz_notation.specs.Sound.{Sound}
+use Rattle.hypuz_notation.specs.Inverses.{refusing, written, ruled}
 use Rattle.hypuz_notation.proofs.Outcomes.{lend-refused, lend-short, lend-fits}
 
 -- No refusal has the number 0, so 0 can stand for none.
@@ -87,22 +88,29 @@ packs : (q : Option ℕ) (t : Tree) → _>>=_ (verdict q t) (λ t′. result (pa
 packs none t = refl
 packs (some r) t = refl
 
-pub shallow : (text tree : List ℕ) → Inverting text tree (inverse text tree) (invRefusal (unpack tree)) (pack (inverted (unpack tree)))
-shallow text tree =
-    record {
-      passes = λ r c. rw c;
-      is = λ c. rw (c, inv-is (unpack tree)) (packs (invRefusal (unpack tree)) (inverted (unpack tree)));
-      numbered = inv-numbered (unpack tree);
-      long = λ p. length-pack (inverted (unpack tree)) ∙ ap (λ (k : ℕ). RECORD * k) (inverted-size (unpack tree)) ∙ sym (length-pack (unpack tree)) ∙ ap length (p .whole);
-    }
+numbered-by : (deep : Bool) (t : Tree) → Numbered (refusing deep t)
+numbered-by true t = deep-numbered t
+numbered-by false t = inv-numbered t
 
-pub deep : (text tree : List ℕ) → Inverting text tree (deepInverse text tree) (deepRefusal (unpack tree)) (pack (deeply (unpack tree)))
-deep text tree =
+sized : (deep : Bool) (t : Tree) → size (written deep t) ≡ size t
+sized true t = deeply-size t
+sized false t = inverted-size t
+
+passed : (deep : Bool) (text tree : List ℕ) (r : ℕ) → checked text tree ≡ refusal r → ruled deep text tree ≡ refusal r
+passed true text tree r c = rw c
+passed false text tree r c = rw c
+
+ruled-is : (deep : Bool) (text tree : List ℕ) → checked text tree ≡ result (unpack tree) → ruled deep text tree ≡ verdict (refusing deep (unpack tree)) (pack (written deep (unpack tree)))
+ruled-is true text tree c = rw (c, invDeep-is (unpack tree)) (packs (deepRefusal (unpack tree)) (deeply (unpack tree)))
+ruled-is false text tree c = rw (c, inv-is (unpack tree)) (packs (invRefusal (unpack tree)) (inverted (unpack tree)))
+
+pub inverting : (deep : Bool) (text tree : List ℕ) → Inverting text tree (ruled deep text tree) (refusing deep (unpack tree)) (pack (written deep (unpack tree)))
+inverting deep text tree =
     record {
-      passes = λ r c. rw c;
-      is = λ c. rw (c, invDeep-is (unpack tree)) (packs (deepRefusal (unpack tree)) (deeply (unpack tree)));
-      numbered = deep-numbered (unpack tree);
-      long = λ p. length-pack (deeply (unpack tree)) ∙ ap (λ (k : ℕ). RECORD * k) (deeply-size (unpack tree)) ∙ sym (length-pack (unpack tree)) ∙ ap length (p .whole);
+      passes = passed deep text tree;
+      is = ruled-is deep text tree;
+      numbered = numbered-by deep (unpack tree);
+      long = λ p. length-pack (written deep (unpack tree)) ∙ ap (λ (k : ℕ). RECORD * k) (sized deep (unpack tree)) ∙ sym (length-pack (unpack tree)) ∙ ap length (p .whole);
     }
 
 -- The ways out of an inverse.
