@@ -20,7 +20,7 @@ use Rattle.laws.proofs.Packing.{length-pack, well-formed-packed}
 use Rattle.laws.proofs.WellFormedInverses.{inverted-size}
 use Rattle.laws.proofs.Accepting.{accepted-tree}
 use Rattle.laws.proofs.ReadingYields.{reading-size}
-use Rattle.hypuz_notation.proofs.Inverting.{shallow}
+use Rattle.hypuz_notation.proofs.Inverting.{inverting}
 
 pub reading-long : (f : Features) (text tree : List ℕ) → reading f text ≡ result tree → length tree ≤ RECORD * length text
 reading-long f text tree e =
@@ -54,9 +54,9 @@ pub inverse-long : (text tree l : List ℕ) → inverse text tree ≡ result l �
 inverse-long text tree l e = go (checked text tree) refl
   where
     go : (o : Outcome Tree) → checked text tree ≡ o → length l ≡ length tree
-    go (refusal r) c = no-refusal (sym (shallow text tree .passes r c) ∙ e)
+    go (refusal r) c = no-refusal (sym (inverting false text tree .passes r c) ∙ e)
     go (result t) c =
         let f = formed text tree t c in
-        let bytes = written (invRefusal (unpack tree)) (pack (inverted (unpack tree))) l (sym (shallow text tree .is (c ∙ ap result (sym (f .1)))) ∙ e) in
+        let bytes = written (invRefusal (unpack tree)) (pack (inverted (unpack tree))) l (sym (inverting false text tree .is (c ∙ ap result (sym (f .1)))) ∙ e) in
         sym (ap length bytes) ∙ length-pack (inverted (unpack tree)) ∙ ap (λ (k : ℕ). RECORD * k) (inverted-size (unpack tree))
         ∙ sym (length-pack (unpack tree)) ∙ ap length (well-formed-packed text tree (f .0))
