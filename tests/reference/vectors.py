@@ -3,6 +3,7 @@
 (tests/oracle/sample.tsv), alone."""
 import os
 
+import agree_vectors
 import entry_vectors
 import listing_vectors
 import oracle_vectors
@@ -13,7 +14,7 @@ MOST = 2097152  # what the program reads at most
 
 
 def main():
-    both = [*reading_vectors.lines(), *entry_vectors.lines(), *listing_vectors.lines(), *oracle_vectors.lines()]
+    both = [*reading_vectors.lines(), *entry_vectors.lines(), *listing_vectors.lines(), *oracle_vectors.lines(), *agree_vectors.lines()]
     for name, column in (("stdin", 0), ("stdout", 1)):
         with open(os.path.join(HOME, name), "w") as f:
             f.write("".join(line[column] + "\n" for line in both))

@@ -5,11 +5,12 @@ use mathlib.Core.List.{List, [], _∷_}
 use Prim.Native.Nat.{ℕ, zero, suc, _+_, _-_, _≤_, _<_, suc-le-suc}
 use native.Mathlib.Nat.{zero-add, suc-add, le-of-suc-le-suc}
 use native.Mathlib.Omega.{arith}
-use lib.ListN.{length, drop, length-drop}
+use lib.Bits.{bitAnd, bitOr, or-add-and, and-le-l, and-le-r}
+use lib.ListN.{length, getD, drop, length-drop}
 use lib.Seq.{drop-drop}
 use Rattle.notation.specs.Basics.{pick}
 use Rattle.notation.specs.Utf8.{charWidth, codePoint, utf8From, utf8, widthIf, runFrom, run, afterFirst}
-use Rattle.charsets.proofs.Widths.{width-length}
+use Rattle.charsets.proofs.Widths.{width-length, width-one}
 
 -- the first k bytes belong to a character that was seen
 pub utf8-from : (k : ℕ) (s : List ℕ) → utf8From k s ≡ utf8 (drop k s)
@@ -34,6 +35,25 @@ utf8-stop (b ∷ s) h e = rw e
 -- the same at a place of a text
 pub utf8-next : (s : List ℕ) (at w : ℕ) → w ≡ charWidth (drop at s) → 0 < w → utf8 (drop (at + w) s) ≡ utf8 (drop at s)
 utf8-next s at w e h = sym (rw (drop-drop w at s) at (utf8-step (drop at s) w e h))
+
+pub width-fits : (s : List ℕ) (at w : ℕ) → at ≤ length s → w ≡ charWidth (drop at s) → at + w ≤ length s
+width-fits s at w h e = omega (arith, width-length (drop at s), length-drop at s)
+
+-- the byte at a place and the n behind it, joined by `|`
+abbrev pub joined : List ℕ → ℕ → ℕ → ℕ
+joined s at zero = getD s at 0
+joined s at (suc n) = bitOr (joined s at n) (getD s (at + suc n) 0)
+
+-- where they are ASCII joined, each is by itself, and the text behind them is as well formed
+pub utf8-ascii : (s : List ℕ) (at n : ℕ) → at + n < length s → joined s at n ≤ 0x7f → utf8 (drop (at + suc n) s) ≡ utf8 (drop at s)
+utf8-ascii s at zero h l = utf8-next s at 1 (width-one s at (omega arith) l) (omega arith)
+utf8-ascii s at (suc n) h l =
+    let a : ℕ = joined s at n in
+    let b : ℕ = getD s (at + suc n) 0 in
+    let e : bitOr a b + bitAnd a b ≡ a + b = or-add-and a b in
+    let k : at + suc n + 1 ≡ at + suc (suc n) = omega arith in
+    rw k at (utf8-next s (at + suc n) 1 (width-one s (at + suc n) h (omega (arith, e, and-le-l a b))) (omega arith))
+    ∙ utf8-ascii s at n (omega arith) (omega (arith, e, and-le-r a b))
 
 module _ (p : ℕ → Bool) where
   pub widthIf-length : (s : List ℕ) → widthIf p s ≤ length s
@@ -106,13 +126,22 @@ module _ (p : ℕ → Bool) where
     pub end-length : at + run p (drop at s) ≤ length s
     end-length = omega (arith, run-length 0 (drop at s), length-drop at s)
 
-    pub next-fits : (w : ℕ) → w ≡ widthIf p (drop at s) → at + w ≤ length s
-    next-fits w e = omega (arith, widthIf-length (drop at s), length-drop at s)
+  -- a place that a walk along the run from `at` comes to: from there the run ends where it does from `at`
+  pub record Reached (s : List ℕ) (at end : ℕ) : Type 0 where
+    pub inside : end ≤ length s
+    pub same : end + run p (drop end s) ≡ at + run p (drop at s)
 
-    pub end-step : (w : ℕ) → w ≡ widthIf p (drop at s) → 0 < w → at + w + run p (drop (at + w) s) ≡ at + run p (drop at s)
-    end-step w e l =
-        let g : run p (drop at s) ≡ w + run p (drop (at + w) s) = rw (drop-drop w at s) at (run-step (drop at s) w e l) in
-        omega arith
+  pub set-out : {s : List ℕ} {at : ℕ} → at ≤ length s → Reached s at at
+  set-out h = record { inside = h; same = refl; }
 
-    pub end-stop : widthIf p (drop at s) ≡ 0 → at + run p (drop at s) ≡ at
-    end-stop e = omega (arith, run-stop (drop at s) e)
+  module _ {s : List ℕ} {at end w : ℕ} (h : Reached s at end) (e : w ≡ widthIf p (drop end s)) where
+    pub fits : end + w ≤ length s
+    fits = omega (arith, h .inside, widthIf-length (drop end s), length-drop end s)
+
+    pub goes-on : 0 < w → Reached s at (end + w)
+    goes-on l =
+        let g : run p (drop end s) ≡ w + run p (drop (end + w) s) = rw (drop-drop w end s) at (run-step (drop end s) w e l) in
+        record { inside = fits; same = omega (arith, h .same); }
+
+    pub arrived : w ≡ 0 → end ≡ at + run p (drop at s)
+    arrived z = omega (arith, h .same, run-stop (drop end s) (sym e ∙ z))

@@ -135,17 +135,17 @@ unfolding codePoint
 point-at s at a b c d pa pb pc pd e₁ e₂ e₃ =
     rw (first-byte s at, byte-drop s at 1, byte-drop s at 2, byte-drop s at 3, ← pa, ← pb, ← pc, ← pd, e₁, e₂, e₃)
 
--- the width of a character that passes a test: an ASCII one, any, and where there is none
+-- the width r of a character that passes a test: an ASCII one, any, and where there is none
 module _ (p : ℕ → Bool) (s : List ℕ) (at : ℕ) where
-  pub width-ascii : {a : ℕ} {t : Bool} → a ≡ byteAt s at → a ≤ 0x7f → p a ≡ t → pick t 1 0 ≡ widthIf p (drop at s)
-  width-ascii {a} e h q =
-      rw (← width-at s at a _ _ _ e refl refl refl (le-leb a 0x7f h) refl refl refl, ← point-at s at a _ _ _ e refl refl refl (le-leb a 0x7f h) refl refl, q)
+  pub width-ascii : {a r : ℕ} {t : Bool} → a ≡ byteAt s at → a ≤ 0x7f → t ≡ p a → r ≡ pick t 1 0 → r ≡ widthIf p (drop at s)
+  width-ascii {a} e h q f =
+      rw (f, q, ← width-at s at a _ _ _ e refl refl refl (le-leb a 0x7f h) refl refl refl, ← point-at s at a _ _ _ e refl refl refl (le-leb a 0x7f h) refl refl)
 
-  pub width-wide : {w c : ℕ} {t : Bool} → w ≡ charWidth (drop at s) → c ≡ codePoint (drop at s) → p c ≡ t → pick t w 0 ≡ widthIf p (drop at s)
-  width-wide e f q = rw (← e, ← f, q)
+  pub width-wide : {w c r : ℕ} {t : Bool} → w ≡ charWidth (drop at s) → c ≡ codePoint (drop at s) → t ≡ p c → r ≡ pick t w 0 → r ≡ widthIf p (drop at s)
+  width-wide e g q f = rw (f, q, g, e)
 
-  pub width-none : charWidth (drop at s) ≡ 0 → 0 ≡ widthIf p (drop at s)
-  width-none e = rw e (either (p (codePoint (drop at s)))) where
+  pub width-none : {w : ℕ} → w ≡ charWidth (drop at s) → w ≡ 0 → 0 ≡ widthIf p (drop at s)
+  width-none e z = rw (← e, z) (either (p (codePoint (drop at s)))) where
     either : (t : Bool) → _≡_ {A = ℕ} 0 (pick t 0 0)
     either true = refl
     either false = refl

@@ -3,6 +3,7 @@
 use notation::charsets::CharSet;
 use notation::charsets::Class;
 ghost use mathlib.Core.Path.{_≡_};
+ghost use Prim.Native.Nat.{_≤_};
 ghost use Rattle.notation.specs.Basics.{between};
 ghost use Rattle.notation.specs.Chars.{classNumber, classify, isFamilyChar, isGreekLetter, isLatinLetter, whiteSpace};
 
@@ -62,13 +63,21 @@ pub fn classify(c: u32) -> Class
     }
 }
 
+// Whether a family name may hold the ASCII character. It is the usual case and does without the table, which the compiler
+// builds anew at each read.
+pub fn is_ascii_family_char(c: u32) -> bool
+    requires { ⌜ c ≤ 127 ⌝ }
+    ensures { λ r. ⌜ r ≡ isFamilyChar c ⌝ }
+{
+    is_latin_letter(c) || c == 0x5f
+}
+
 // Whether a family name may hold the character.
 pub fn is_family_char(c: u32) -> bool
     ensures { λ r. ⌜ r ≡ isFamilyChar c ⌝ }
 {
-    // ASCII, the usual case, does without the table: the compiler builds a constant array anew at each read.
     if c <= 0x7f {
-        return is_latin_letter(c) || c == 0x5f;
+        return is_ascii_family_char(c);
     }
     class_number(c) != 0
 }
@@ -100,12 +109,20 @@ pub fn is_greek_letter(c: u32) -> bool
     }
 }
 
+// Whether the ASCII character is white space.
+pub fn is_ascii_whitespace(c: u32) -> bool
+    requires { ⌜ c ≤ 127 ⌝ }
+    ensures { λ r. ⌜ r ≡ whiteSpace c ⌝ }
+{
+    c == 0x20 || between(0x9, 0xd, c)
+}
+
 // Unicode's White_Space, as Rust's `char::is_whitespace`.
 pub fn is_whitespace(c: u32) -> bool
     ensures { λ r. ⌜ r ≡ whiteSpace c ⌝ }
 {
     if c <= 0x7f {
-        return c == 0x20 || between(0x9, 0xd, c);
+        return is_ascii_whitespace(c);
     }
     match c {
         0x85 | 0xa0 | 0x1680 | 0x2028 | 0x2029 | 0x202f | 0x205f | 0x3000 => true,

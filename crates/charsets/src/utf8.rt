@@ -1,10 +1,12 @@
 // UTF-8: the characters of a text, by the Unicode Standard's table 3-7, and runs of them.
 
 use crate::charsets::between;
+use crate::charsets::is_ascii_family_char;
+use crate::charsets::is_ascii_whitespace;
 use crate::charsets::is_family_char;
 use crate::charsets::is_whitespace;
 ghost use mathlib.Core.Path.{_≡_};
-ghost use mathlib.Core.Bool.{_&&_};
+ghost use mathlib.Core.Bool.{true, _&&_};
 ghost use Prim.Native.Nat.{_+_, _%_, _<_, _≤_};
 ghost use lib.Dec.{eqb};
 ghost use lib.ListN.{length, drop};
@@ -126,19 +128,32 @@ fn width_if(passes: bool, width: usize) -> usize
     if passes { width } else { 0 }
 }
 
+// The width of a character past ASCII, 0 where none of the wanted ones stands there. Apart, because it is rare: the tests
+// for ASCII alone are small enough to stand in their callers.
+fn wide_width(s: &[u8], at: usize, white: bool) -> usize
+    ensures { λ r. ⌜ r ≡ widthIf (pick white whiteSpace isFamilyChar) (drop at (now (s .entry))) ⌝ }
+{
+    let width = char_width(s, at);
+    if width == 0 {
+        return 0;
+    }
+    let c = code_point(s, at);
+    if white {
+        width_if(is_whitespace(c), width)
+    } else {
+        width_if(is_family_char(c), width)
+    }
+}
+
 // How many bytes the character at `at` takes, 0 where none of a family name stands there.
 pub fn family_width(s: &[u8], at: usize) -> usize
     ensures { λ r. ⌜ r ≡ widthIf isFamilyChar (drop at (now (s .entry))) ⌝ }
 {
     let a = byte_at(s, at);
     if a <= 0x7f {
-        return width_if(is_family_char(a), 1);
+        return width_if(is_ascii_family_char(a), 1);
     }
-    let width = char_width(s, at);
-    if width == 0 {
-        return 0;
-    }
-    width_if(is_family_char(code_point(s, at)), width)
+    wide_width(s, at, false)
 }
 
 // The same for white space.
@@ -147,13 +162,22 @@ pub fn whitespace_width(s: &[u8], at: usize) -> usize
 {
     let a = byte_at(s, at);
     if a <= 0x7f {
-        return width_if(is_whitespace(a), 1);
+        return width_if(is_ascii_whitespace(a), 1);
     }
-    let width = char_width(s, at);
-    if width == 0 {
-        return 0;
+    wide_width(s, at, true)
+}
+
+// Whether eight bytes stand from `at` on, all of them ASCII. They are joined and tested once, so that no test stands between
+// the reads.
+fn all_ascii(s: &[u8], at: usize) -> bool
+    requires { ⌜ at ≤ length (now s) ⌝ }
+    ensures { λ r. ⌜ (r ≡ true → (at + 8 ≤ length (now (s .entry))) × (utf8 (drop (at + 8) (now (s .entry))) ≡ utf8 (drop at (now (s .entry))))) ⌝ }
+{
+    if s.len() - at < 8 {
+        return false;
     }
-    width_if(is_whitespace(code_point(s, at)), width)
+    let first = s[at] | s[at + 1] | s[at + 2] | s[at + 3];
+    (first | s[at + 4] | s[at + 5] | s[at + 6] | s[at + 7]) <= 0x7f
 }
 
 // Whether the text is well-formed UTF-8.
@@ -162,7 +186,9 @@ pub fn is_utf8(s: &[u8]) -> bool
 {
     let mut at = 0;
     while at < s.len() {
-        if s[at] <= 0x7f {
+        if all_ascii(s, at) {
+            at += 8;
+        } else if s[at] <= 0x7f {
             at += 1;
         } else {
             let width = char_width(s, at);

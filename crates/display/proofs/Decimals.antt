@@ -35,6 +35,9 @@ show-last : (k n : ℕ) (rest : List ℕ) → n < 10 → showFrom (suc k) n rest
 unfolding showFrom
 show-last k n rest h = rw (lt-ltb n 10 h)
 
+pub show-digit : (n : ℕ) (rest : List ℕ) → n < 10 → show n rest ≡ (48 + n) ∷ rest
+show-digit n rest h = show-last 9 n rest h
+
 show-more : (k n : ℕ) (rest : List ℕ) → 10 ≤ n → showFrom (suc k) n rest ≡ showFrom k (n / 10) ((48 + n % 10) ∷ rest)
 unfolding showFrom
 show-more k n rest h = rw (le-ltb n 10 h)

@@ -1,35 +1,30 @@
--- Sets in braces, element by element: one law for every kind of element. Assumes nothing.
-use Prim.Native.Nat.{ℕ, zero, suc, _+_, _-_, _≤_, min}
+-- Sets in braces, element by element. Assumes nothing.
+use Prim.Native.Nat.{ℕ, zero, suc, _+_, _≤_}
 use mathlib.Core.Path.{_≡_, refl, sym, ap, _∙_}
 use mathlib.Core.Bool.{Bool, true, false}
 use mathlib.Core.List.{List, [], _∷_}
 use native.Mathlib.Omega.{arith}
-use borrow.Author.Tests.{leb-true, leb-false}
-use lib.Dec.{eqb, leb}
-use lib.ListN.{length, take, drop, length-drop}
-use lib.Seq.{drop-drop, take-all}
+use lib.Dec.{eqb}
+use lib.ListN.{length, drop}
+use lib.Seq.{drop-drop}
 use Rattle.notation.specs.Chars.{whiteSpace}
 use Rattle.notation.specs.Utf8.{run, byteAt}
-use Rattle.notation.specs.Grammar.{Reading, rejected, read, Reader, andThen, done, just, whitespace, padded, moreOf, separatedBy, braces, constraint, layerSetElement, atEnd}
-use Rattle.notation.specs.Meaning.{orEmpty}
+use Rattle.notation.specs.Grammar.{Reading, rejected, read, Reader, andThen, done, just, whitespace, padded, moreOf, separatedBy, braces, layerSetElement, layerSetElements, atEnd}
+use Rattle.notation.specs.Layers.{LayerSetElement}
+use Rattle.notation.specs.Meaning.{orEmpty, layerSetIn}
 use Rattle.notation.specs.WellFormed.{isSome}
-use Rattle.notation.specs.Print.{putMore, putConstraint, putElement}
+use Rattle.notation.specs.Print.{putMore, putElement}
 use Rattle.laws.proofs.Bools.{false-true}
 use Rattle.laws.proofs.Readers.{not-read}
-use Rattle.parse.specs.Meaning.{constraintOf, constraintReading, layerSetElementOf, elementReading}
-use Rattle.parse.specs.declared.parts.Constraint.{Constraint}
-use Rattle.parse.specs.declared.parts.ConstraintAnswer.{ConstraintAnswer}
-use Rattle.parse.specs.declared.parts.ConstraintAnswer.the-variants as constraintAnswer
-use Rattle.parse.specs.declared.parts.LayerSetElement.{LayerSetElement}
+use Rattle.parse.specs.Meaning.{layerSetElementOf, elementReading}
+use Rattle.parse.specs.declared.parts.LayerSetElement as parts
 use Rattle.parse.specs.declared.parts.LayerSetElementAnswer.{LayerSetElementAnswer}
 use Rattle.parse.specs.declared.parts.LayerSetElementAnswer.the-variants as layerAnswer
 use Rattle.parse.proofs.Bytes.{seen, other, just-is, just-not}
-use Rattle.parse.proofs.Past.{Takes, within}
-use Rattle.parse.proofs.Rules.{takes-constraint, takes-layerSetElement}
+use Rattle.parse.proofs.Past.{within}
+use Rattle.parse.proofs.Rules.{takes-layerSetElement}
 use Rattle.display.specs.Written.{MOST, Wrote}
-use Rattle.display.specs.Sets.{Item, item, putItem, setIn, Following, PutItem, ElementPut}
-use Rattle.display.specs.declared.sets.SetKind.{SetKind}
-use Rattle.display.specs.declared.sets.SetKind.the-variants.{Constraints, Layers}
+use Rattle.display.specs.Sets.{Following, PutItem, ElementPut}
 use Rattle.display.specs.declared.sets.ElementAnswer.{ElementAnswer}
 use Rattle.display.specs.declared.sets.ElementAnswer.the-variants.{Put, Nothing}
 use Rattle.display.proofs.Writing.{wrote-none, wrote-then}
@@ -146,82 +141,49 @@ module _ {A : Type 0} (item : Reader A) (part : List ℕ) where
               let x = ended-read (a ∷ l′) l m last t h in
               (l′, sym (x .0), record { fuel = k; middle = m; rest = t; last = last; more = e; closes = x .1 })
 
--- Elements of each kind.
-pub takes-item : (k : SetKind) → Takes 1 (item k)
-takes-item Constraints = takes-constraint
-takes-item Layers = takes-layerSetElement true
+-- Layer sets: an answer by what was read, and what was read by the answer.
+module _ (part : List ℕ) (from at : ℕ) {old new : List ℕ} where
+  pub no-element : {r : LayerSetElementAnswer} → r ≡ layerAnswer.Nothing → elementReading part r ≡ layerSetElement true from (drop from part) →
+      new ≡ old → ElementPut part from old new at Nothing
+  no-element n h s = (rw n at h, s)
 
-module _ (part : List ℕ) (from at : ℕ) {k : SetKind} {old new : List ℕ} where
-  pub no-constraint : {r : ConstraintAnswer} → k ≡ Constraints → r ≡ constraintAnswer.Nothing → constraintReading part r ≡ constraint from (drop from part) →
-      new ≡ old → ElementPut k part from old new at Nothing
-  no-constraint e n h s = rw e (rw n at h, s)
-
-  pub no-layer : {r : LayerSetElementAnswer} → k ≡ Layers → r ≡ layerAnswer.Nothing → elementReading part r ≡ layerSetElement true from (drop from part) →
-      new ≡ old → ElementPut k part from old new at Nothing
-  no-layer e n h s = rw e (rw n at h, s)
-
-  pub a-constraint : {r : ConstraintAnswer} (v : Constraint) (end next : ℕ) → k ≡ Constraints → r ≡ constraintAnswer.Took v end →
-      constraintReading part r ≡ constraint from (drop from part) → Wrote old new at next (putConstraint (constraintOf part v)) →
-      ElementPut k part from old new at (Put next end)
-  a-constraint v end next e n h w = rw e (record { value = constraintOf part v; reads = rw n at h; wrote = w })
-
-  pub a-layer : {r : LayerSetElementAnswer} (v : LayerSetElement) (end next : ℕ) → k ≡ Layers → r ≡ layerAnswer.Took v end →
+  pub an-element : {r : LayerSetElementAnswer} (v : parts.LayerSetElement) (end next : ℕ) → r ≡ layerAnswer.Took v end →
       elementReading part r ≡ layerSetElement true from (drop from part) → Wrote old new at next (putElement (layerSetElementOf v)) →
-      ElementPut k part from old new at (Put next end)
-  a-layer v end next e n h w = rw e (record { value = layerSetElementOf v; reads = rw n at h; wrote = w })
+      ElementPut part from old new at (Put next end)
+  an-element v end next n h w = record { value = layerSetElementOf v; reads = rw n at h; wrote = w }
 
--- an answer that is an element
-pub put-item : (k : SetKind) (part : List ℕ) (from at : ℕ) {old new : List ℕ} {r : ElementAnswer} {next end : ℕ} → r ≡ Put next end →
-    ElementPut k part from old new at r → PutItem k part from end old new at next
-put-item k part from at e h = rw e at h
+  pub put-item : {r : ElementAnswer} {next end : ℕ} → r ≡ Put next end → ElementPut part from old new at r → PutItem part from end old new at next
+  put-item e h = rw e at h
 
-pub not-put : (k : SetKind) (part : List ℕ) (from at : ℕ) {old new : List ℕ} {r : ElementAnswer} → r ≡ Nothing →
-    ElementPut k part from old new at r → (rejected ≡ item k from (drop from part)) × (new ≡ old)
-not-put k part from at e h = rw e at h
-
--- a family's bytes, as far as the text goes
-pub clamped : (s : List ℕ) (from to e : ℕ) → e ≡ min to (length s) → take (e - from) (drop from s) ≡ take (to - from) (drop from s)
-clamped s from to e h = go (leb to (length s)) refl
-  where
-    go : (t : Bool) → leb to (length s) ≡ t → take (e - from) (drop from s) ≡ take (to - from) (drop from s)
-    go true i =
-        let j : e - from ≡ to - from = omega (arith, leb-true to (length s) i) in
-        ap (λ (k : ℕ). take k (drop from s)) j
-    go false i =
-        let j : length s ≤ to = omega (arith, leb-false to (length s) i) in
-        take-all (e - from) (drop from s) (omega (arith, length-drop from s))
-        ∙ sym (take-all (to - from) (drop from s) (omega (arith, length-drop from s)))
-
-pub none-within : (s : List ℕ) (from to e : ℕ) → e ≡ min to (length s) → e ≤ from → [] ≡ take (to - from) (drop from s)
-none-within s from to e h l =
-    let j : 0 ≡ e - from = omega arith in
-    ap (λ (k : ℕ). take k (drop from s)) j ∙ clamped s from to e h
+  pub not-put : {r : ElementAnswer} → r ≡ Nothing → ElementPut part from old new at r → (rejected ≡ layerSetElement true from (drop from part)) × (new ≡ old)
+  not-put e h = rw e at h
 
 -- The loop over the elements: those that are left, and what printing them completes.
-pub record Sofar (k : SetKind) (part : List ℕ) (end : ℕ) (old mid : List ℕ) (at next : ℕ) (l : List (Item k)) : Type 0 where
-  pub left : List (Item k)
-  pub follows : Following (item k) part end left
-  pub onward : (new : List ℕ) (n : ℕ) → Wrote mid new next n (putMore (putItem k) left) → Wrote old new at n (putMore (putItem k) l)
+pub record Sofar (part : List ℕ) (end : ℕ) (old mid : List ℕ) (at next : ℕ) (l : List LayerSetElement) : Type 0 where
+  pub left : List LayerSetElement
+  pub follows : Following (layerSetElement true) part end left
+  pub onward : (new : List ℕ) (n : ℕ) → Wrote mid new next n (putMore putElement left) → Wrote old new at n (putMore putElement l)
 
-pub sofar-none : {k : SetKind} {part : List ℕ} {end : ℕ} {l : List (Item k)} (old : List ℕ) (at : ℕ) → Following (item k) part end l → Sofar k part end old old at at l
+pub sofar-none : {part : List ℕ} {end : ℕ} {l : List LayerSetElement} (old : List ℕ) (at : ℕ) → Following (layerSetElement true) part end l →
+    Sofar part end old old at at l
 sofar-none {l = l} old at f = record { left = l; follows = f; onward = λ new n w. w }
 
-module _ {k : SetKind} {part : List ℕ} {end : ℕ} {old mid : List ℕ} {at next : ℕ} {l : List (Item k)} (w : Sofar k part end old mid at next l)
+module _ {part : List ℕ} {end : ℕ} {old mid : List ℕ} {at next : ℕ} {l : List LayerSetElement} (w : Sofar part end old mid at next l)
     (comma : ℕ) (space : comma ≡ end + run whiteSpace (drop end part)) where
   -- no comma: the elements are at their end
-  pub sofar-all : eqb (byteAt part comma) 44 ≡ false → next ≤ MOST → Wrote old mid at next (putMore (putItem k) l)
+  pub sofar-all : eqb (byteAt part comma) 44 ≡ false → next ≤ MOST → Wrote old mid at next (putMore putElement l)
   unfolding putMore
-  sofar-all e h = w .onward mid next (rw (none-follows (item k) part end comma space e (w .follows)) (wrote-none mid h))
+  sofar-all e h = w .onward mid next (rw (none-follows (layerSetElement true) part end comma space e (w .follows)) (wrote-none mid h))
 
   module _ (e : eqb (byteAt part comma) 44 ≡ true) (from : ℕ) (space₂ : from ≡ comma + 1 + run whiteSpace (drop (comma + 1) part)) where
-    pub sofar-never : rejected ≡ item k from (drop from part) → ⊥
-    sofar-never q = item-follows (item k) part end comma space e from space₂ q (w .follows)
+    pub sofar-never : rejected ≡ layerSetElement true from (drop from part) → ⊥
+    sofar-never q = item-follows (layerSetElement true) part end comma space e from space₂ q (w .follows)
 
-    pub sofar-more : {m₁ mid′ : List ℕ} {n₁ next′ to : ℕ} → Wrote mid m₁ next n₁ (λ rest. 44 ∷ rest) → PutItem k part from to m₁ mid′ n₁ next′ →
-        Sofar k part to old mid′ at next′ l
+    pub sofar-more : {m₁ mid′ : List ℕ} {n₁ next′ to : ℕ} → Wrote mid m₁ next n₁ (λ rest. 44 ∷ rest) → PutItem part from to m₁ mid′ n₁ next′ →
+        Sofar part to old mid′ at next′ l
     unfolding putMore
     sofar-more {to = to} c p =
-        let x = one-follows (item k) part end comma space e from space₂ (p .value) to (p .reads) (w .follows) in
+        let x = one-follows (layerSetElement true) part end comma space e from space₂ (p .value) to (p .reads) (w .follows) in
         record {
           left = x .0;
           follows = x .2;
@@ -229,32 +191,33 @@ module _ {k : SetKind} {part : List ℕ} {end : ℕ} {old mid : List ℕ} {at ne
         }
 
 -- where an element ends
-pub item-end : (k : SetKind) (part : List ℕ) (from to : ℕ) {a : Item k} → from ≤ length part → read a to (drop to part) ≡ item k from (drop from part) →
-    (from + 1 ≤ to) × (to ≤ length part)
-item-end k part from to h q = within part from (takes-item k) h q
+pub item-end : (part : List ℕ) (from to : ℕ) {a : LayerSetElement} → from ≤ length part →
+    read a to (drop to part) ≡ layerSetElement true from (drop from part) → (from + 1 ≤ to) × (to ≤ length part)
+item-end part from to h q = within part from (takes-layerSetElement true) h q
 
 -- A part that is a set, by its first element.
-set-is : (k : SetKind) (part : List ℕ) → isSome (setIn k part) ≡ true →
-    (l : List (Item k)) × (last : ℕ) × (braces (item k) 0 part ≡ read l last []) × (orEmpty (setIn k part) ≡ l)
-set-is k part h = go (braces (item k) 0 part) refl h
+set-is : (part : List ℕ) → isSome (layerSetIn part) ≡ true →
+    (l : List LayerSetElement) × (last : ℕ) × (braces (layerSetElement true) 0 part ≡ read l last []) × (orEmpty (layerSetIn part) ≡ l)
+unfolding layerSetIn layerSetElements
+set-is part h = go (braces (layerSetElement true) 0 part) refl h
   where
-    go : (r : Reading (List (Item k))) → braces (item k) 0 part ≡ r → isSome (atEnd r) ≡ true →
-        (l : List (Item k)) × (last : ℕ) × (braces (item k) 0 part ≡ read l last []) × (orEmpty (setIn k part) ≡ l)
+    go : (r : Reading (List LayerSetElement)) → braces (layerSetElement true) 0 part ≡ r → isSome (atEnd r) ≡ true →
+        (l : List LayerSetElement) × (last : ℕ) × (braces (layerSetElement true) 0 part ≡ read l last []) × (orEmpty (layerSetIn part) ≡ l)
     go rejected e t = absurd (false-true t)
-    go (read l last []) e t = (l, last, e, ap (λ (r : Reading (List (Item k))). orEmpty (atEnd r)) e)
+    go (read l last []) e t = (l, last, e, ap (λ (r : Reading (List LayerSetElement)). orEmpty (atEnd r)) e)
     go (read l last (b ∷ s)) e t = absurd (false-true t)
 
-module _ (k : SetKind) (part : List ℕ) (h : isSome (setIn k part) ≡ true) where
+module _ (part : List ℕ) (h : isSome (layerSetIn part) ≡ true) where
   pub set-long : 1 ≤ length part
-  set-long = let x = set-is k part h in some-bytes (item k) part (x .2)
+  set-long = let x = set-is part h in some-bytes (layerSetElement true) part (x .2)
 
   module _ (start : ℕ) (space : start ≡ 1 + run whiteSpace (drop 1 part)) where
-    pub set-empty : rejected ≡ item k start (drop start part) → orEmpty (setIn k part) ≡ []
-    set-empty q = let x = set-is k part h in x .3 ∙ no-first (item k) part (x .2) start space q
+    pub set-empty : rejected ≡ layerSetElement true start (drop start part) → orEmpty (layerSetIn part) ≡ []
+    set-empty q = let x = set-is part h in x .3 ∙ no-first (layerSetElement true) part (x .2) start space q
 
-    pub set-first : {end : ℕ} {old new : List ℕ} {at next : ℕ} (p : PutItem k part start end old new at next) →
-        (l : List (Item k)) × (orEmpty (setIn k part) ≡ p .value ∷ l) × Following (item k) part end l
+    pub set-first : {end : ℕ} {old new : List ℕ} {at next : ℕ} (p : PutItem part start end old new at next) →
+        (l : List LayerSetElement) × (orEmpty (layerSetIn part) ≡ p .value ∷ l) × Following (layerSetElement true) part end l
     set-first {end = end} p =
-        let x = set-is k part h in
-        let y = first-follows (item k) part (x .2) start space (p .value) end (p .reads) in
+        let x = set-is part h in
+        let y = first-follows (layerSetElement true) part (x .2) start space (p .value) end (p .reads) in
         (y .0, x .3 ∙ y .1, y .2)

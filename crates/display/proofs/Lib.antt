@@ -2,9 +2,11 @@
 pub mod Writing
 pub mod Decimals
 pub mod Signs
+pub mod ByKind
 -- Packed nodes.
 pub mod Nodes
--- Sets in braces.
+-- Layer sets in braces, and constraint sets as text without white space.
 pub mod Elements
+pub mod Squeezing
 -- Leaves and the parts of the text that they name.
 pub mod Leaves

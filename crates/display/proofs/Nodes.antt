@@ -1,28 +1,35 @@
 -- The bytes of a node: its record, its lists, and what it prints. Assumes nothing.
-use Prim.Native.Nat.{ℕ, _+_, _-_, _*_, _≤_, _<_}
+use Prim.Native.Nat.{ℕ, _+_, _-_, _*_, _/_, _≤_, _<_}
 use mathlib.Core.Path.{_≡_, refl, sym, ap, _∙_, subst}
-use mathlib.Core.Bool.{true, _&&_}
+use mathlib.Core.Bool.{Bool, true, false, _&&_}
 use mathlib.Core.List.{List, _∷_, _++_, append-nil}
 use native.Mathlib.Omega.{arith}
+use borrow.Author.Tests.{leb-true, leb-false}
+use lib.Dec.{leb}
 use lib.IntN.{ℤ}
-use lib.ListN.{length, take, drop, length-append, length-take, length-drop}
-use lib.Seq.{take-all}
-use Rattle.notation.specs.Tree.{Leaf, Node, leaf, block, group, binaryGroup, nil, cons, Tree, mapNode, mapBody, mapNodes}
-use Rattle.notation.specs.Packed.{RECORD, Head, leafHead, groupHead, binaryHead, record25, size, packNode, unpack, pack, headAt}
+use lib.ListN.{length, getD, take, drop, length-append, length-take, length-drop, List·getD-eq-default}
+use lib.Seq.{take-all, take-take, length-take-le}
+use Rattle.notation.specs.Numbers.{fromBits}
+use Rattle.notation.specs.Tree.{Leaf, Step as LeafStep, pause, Node, leaf, block, group, binaryGroup, NodeList, nil, cons, Tree, mapNode, mapBody, mapNodes}
+use Rattle.notation.specs.Packed.{
+  RECORD, widths, cut, leafHead, groupHead, binaryHead, groupNumber, binaryNumber, headFields, record25, size, packNode, unpack, pack, headOf, headAt
+}
 use Rattle.notation.specs.Meaning.{stepOf, unspanned}
-use Rattle.notation.specs.WellFormed.{multiplierOk, leafOk, nodeOk, bodyOk, treeOk}
+use Rattle.notation.specs.WellFormed.{multiplierOk, nodeOk, bodyOk, treeOk}
 use Rattle.notation.specs.Print.{putMultiplier, putStep, putPrefix, putSeparator, putNode, putBody, putNodes, putOthers}
 use Rattle.notation.specs.declared.common.GroupKind.{GroupKind}
 use Rattle.notation.specs.declared.common.BinaryGroupKind.{BinaryGroupKind}
 use Rattle.record.specs.Meaning.{field}
 use Rattle.record.specs.Range.{FitsHead}
-use Rattle.record.proofs.RoundTrip.{length-record25, headAt-record25}
+use Rattle.record.proofs.Packed.{byKind, headAt-kind}
+use Rattle.record.proofs.RoundTrip.{length-record25, headAt-record25, cut-record25}
 use Rattle.laws.proofs.Bools.{and-left, and-right}
 use Rattle.laws.proofs.Packing.{FitsNode, FitsTree, unpack-pack}
 use Rattle.laws.proofs.Walking.{Packed, nodeHead, inside, nodeEnd, Step, first-node, no-node, one-list, two-lists}
 use Rattle.display.specs.Written.{MOST, Wrote}
+use Rattle.display.specs.Nodes.{IsNode, part, FirstNode, GoodNode, GoodLeaf}
 use Rattle.display.proofs.Writing.{wrote-none, wrote-as, wrote-then}
-use Rattle.display.specs.Nodes.{IsNode, part, FirstNode, GoodNode}
+use Rattle.display.proofs.ByKind.{group-told, binary-told, leaf-told}
 
 pub part-rest : (a : ℕ) (bs : List ℕ) → part a (length bs) bs ≡ drop a bs
 part-rest a bs = take-all (length bs - a) (drop a bs) (omega (arith, length-drop a bs))
@@ -66,6 +73,11 @@ node-head : {bs : List ℕ} {n : Node Leaf} → IsNode bs n → headAt bs ≡ no
 node-head {bs} {n} s =
     ap headAt (sym (s .bytes) ∙ node-bytes n) ∙ headAt-record25 (nodeHead n) (inside n) (node-head-fits n (s .fits))
 
+node-field : {bs : List ℕ} {n : Node Leaf} → IsNode bs n → (i : ℕ) → field i bs ≡ getD (headFields (nodeHead n)) i 0
+node-field {bs} {n} s i =
+    ap (λ (l : List ℕ). getD (cut widths (take RECORD l)) i 0) (sym (s .bytes) ∙ node-bytes n)
+    ∙ ap (λ (l : List ℕ). getD l i 0) (cut-record25 (nodeHead n) (inside n) (node-head-fits n (s .fits)))
+
 -- a node's bytes are those of a list of one
 alone : {bs : List ℕ} {n : Node Leaf} → IsNode bs n → unpack bs ≡ cons n nil
 unfolding pack FitsTree
@@ -88,21 +100,6 @@ binary-is (leaf y) k c d m e = absurd (let z : _≡_ {A = ℕ} 0 1 = cc in omega
 binary-is (block (group k′ a) m′) k c d m e = absurd (let z : _≡_ {A = ℕ} 0 1 = cc in omega arith)
 binary-is (block (binaryGroup k′ a b) m′) k c d m e = (a, b, cc, cc)
 
--- the whole of a record, by its head
-head-is : {bs : List ℕ} {n : Node Leaf} {h : Head} → IsNode bs n → h ≡ headAt bs → nodeHead n ≡ h
-head-is s e = sym (node-head s) ∙ sym e
-
--- A leaf prints its step.
-pub leaf-ok : {text bs : List ℕ} {h : Head} (x : Leaf) (g : GoodNode text bs) → h ≡ headAt bs → h ≡ leafHead x → leafOk text x ≡ true
-unfolding nodeOk
-leaf-ok {text} x g e i = rw (leaf-is (g .node) x (head-is (g .isNode) e ∙ i)) at (g .ok)
-
-pub leaf-prints : {text bs : List ℕ} {h : Head} (x : Leaf) (g : GoodNode text bs) → h ≡ headAt bs → h ≡ leafHead x →
-    (rest : List ℕ) → putStep (stepOf text x) rest ≡ putNodes (unspanned text (unpack bs)) rest
-unfolding putNode putNodes putOthers mapNode mapNodes
-leaf-prints {text} {bs} x g e i rest =
-    sym (ap (λ (t : Tree). putNodes (unspanned text t) rest) (alone (g .isNode) ∙ ap (λ (n : Node Leaf). cons n nil) (leaf-is (g .node) x (head-is (g .isNode) e ∙ i))))
-
 -- A group prints its list inside.
 pub record OneInside (text bs : List ℕ) (k : GroupKind) (m : ℤ) : Type 0 where
   pub packedList : Packed (part RECORD (length bs) bs)
@@ -111,10 +108,9 @@ pub record OneInside (text bs : List ℕ) (k : GroupKind) (m : ℤ) : Type 0 whe
       putPrefix k (40 ∷ putNodes (unspanned text (unpack (part RECORD (length bs) bs))) (41 ∷ putMultiplier m rest))
       ≡ putNodes (unspanned text (unpack bs)) rest
 
-pub one-inside : {text bs : List ℕ} {h : Head} (k : GroupKind) (c : ℕ) (m : ℤ) → GoodNode text bs → h ≡ headAt bs → h ≡ groupHead k c m →
-    OneInside text bs k m
+one-inside : {text bs : List ℕ} (k : GroupKind) (c : ℕ) (m : ℤ) → GoodNode text bs → headAt bs ≡ groupHead k c m → OneInside text bs k m
 unfolding nodeOk bodyOk putNode putBody putNodes putOthers mapNode mapBody mapNodes
-one-inside {text} {bs} k c m g e i = go (group-is (g .node) k c m (head-is (g .isNode) e ∙ i))
+one-inside {text} {bs} k c m g e = go (group-is (g .node) k c m (sym (node-head (g .isNode)) ∙ e))
   where
     go : (a : Tree) × (g .node ≡ block (group k a) m) → OneInside text bs k m
     go (a, j) =
@@ -139,10 +135,10 @@ pub record TwoInside (text bs : List ℕ) (k : BinaryGroupKind) (middle : ℕ) (
       (putSeparator k (putNodes (unspanned text (unpack (part middle (length bs) bs))) (93 ∷ putMultiplier m rest)))
       ≡ putNodes (unspanned text (unpack bs)) rest
 
-pub two-inside : {text bs : List ℕ} {h : Head} (k : BinaryGroupKind) (c d : ℕ) (m : ℤ) → GoodNode text bs → h ≡ headAt bs → h ≡ binaryHead k c d m →
+two-inside : {text bs : List ℕ} (k : BinaryGroupKind) (c d : ℕ) (m : ℤ) → GoodNode text bs → headAt bs ≡ binaryHead k c d m →
     TwoInside text bs k (RECORD + RECORD * c) m
 unfolding nodeOk bodyOk putNode putBody putNodes putOthers mapNode mapBody mapNodes
-two-inside {text} {bs} k c d m g e i = go (binary-is (g .node) k c d m (head-is (g .isNode) e ∙ i))
+two-inside {text} {bs} k c d m g e = go (binary-is (g .node) k c d m (sym (node-head (g .isNode)) ∙ e))
   where
     go : (a : Tree) × (b : Tree) × (g .node ≡ block (binaryGroup k a b) m) × (size a ≡ c) → TwoInside text bs k (RECORD + RECORD * c) m
     go (a, b, j, z) =
@@ -166,40 +162,119 @@ two-inside {text} {bs} k c d m g e i = go (binary-is (g .node) k c d m (head-is 
           prints = λ rest. rw (first, second, alone s);
         }
 
+-- A group by the kind, the multiplier's bits and the first count in its record.
+pub record OneGroup (text bs : List ℕ) (kind m : ℕ) : Type 0 where
+  pub group : GroupKind
+  pub number : kind ≡ groupNumber group
+  pub inside : OneInside text bs group (fromBits 32 m)
+
+pub record TwoGroup (text bs : List ℕ) (kind m middle : ℕ) : Type 0 where
+  pub group : BinaryGroupKind
+  pub number : kind ≡ binaryNumber group
+  pub inside : TwoInside text bs group middle (fromBits 32 m)
+
+module _ {text bs : List ℕ} (g : GoodNode text bs) {kind m : ℕ} (e : kind ≡ field 0 bs / 16) (i : m ≡ field 3 bs) where
+  pub one-group : kind < 4 → OneGroup text bs kind m
+  one-group h =
+      let t = group-told bs kind h in
+      let l : OneInside text bs (t .0) (fromBits 32 (field 3 bs)) = one-inside (t .0) (field 1 bs) (fromBits 32 (field 3 bs)) g (headAt-kind bs kind e ∙ t .2) in
+      record { group = t .0; number = t .1; inside = rw i l }
+
+  pub two-group : {n : ℕ} → n ≡ field 1 bs → 4 ≤ kind → kind ≤ 5 → TwoGroup text bs kind m (RECORD + RECORD * n)
+  two-group j l h =
+      let t = binary-told bs kind l h in
+      let z : TwoInside text bs (t .0) (RECORD + RECORD * field 1 bs) (fromBits 32 (field 3 bs)) =
+      two-inside (t .0) (field 1 bs) (field 2 bs) (fromBits 32 (field 3 bs)) g (headAt-kind bs kind e ∙ t .2) in
+      record { group = t .0; number = t .1; inside = rw (i, j) z }
+
+-- The first node of a list by its record.
+module _ {bs : List ℕ} {e : ℕ} (f : FirstNode bs e) where
+  same-front : take RECORD (part 0 e bs) ≡ take RECORD bs
+  same-front = take-take RECORD (e - 0) bs (omega (arith, f .least))
+
+  pub same-kind : field 0 (part 0 e bs) / 16 ≡ field 0 bs / 16
+  same-kind = ap (λ (s : List ℕ). getD (cut widths s) 0 0 / 16) same-front
+
+  first-head : headAt bs ≡ nodeHead (f .node)
+  first-head = ap (λ (s : List ℕ). headOf (cut widths s)) (sym same-front) ∙ node-head (f .isNode)
+
+  -- the kinds go up to 14: a record of kind 15 would be read as a pause, which is of kind 8
+  kind-high : field 0 bs / 16 < 15
+  kind-high = go (leb 15 (field 0 bs / 16)) refl
+    where
+      go : (t : Bool) → leb 15 (field 0 bs / 16) ≡ t → field 0 bs / 16 < 15
+      go false z = leb-false 15 (field 0 bs / 16) z
+      go true z =
+          let l : 15 ≤ field 0 bs / 16 = leb-true 15 (field 0 bs / 16) z in
+          let n : f .node ≡ leaf pause = leaf-is (f .node) pause (sym first-head ∙ headAt-kind bs (field 0 bs / 16) refl ∙ List·getD-eq-default (byKind bs) (leafHead pause) l) in
+          let k : field 0 (part 0 e bs) ≡ getD (headFields (nodeHead (f .node))) 0 0 = node-field (f .isNode) 0 in
+          let k′ : field 0 (part 0 e bs) ≡ 128 = rw n at k in
+          absurd (omega (arith, same-kind))
+
+  leaf-ends : (x : Leaf) → headAt bs ≡ leafHead x → e ≡ RECORD
+  unfolding packNode
+  leaf-ends x h =
+      let n : f .node ≡ leaf x = leaf-is (f .node) x (sym first-head ∙ h) in
+      let b : packNode (leaf x) ≡ part 0 e bs = rw n at (f .isNode .bytes) in
+      omega (arith, ap length b, length-record25 (leafHead x), length-take-le (e - 0) bs (omega (arith, f .most)))
+
+  pub leaf-first : (x : Leaf) → headAt bs ≡ leafHead x → FirstNode bs RECORD
+  leaf-first x h = subst (FirstNode bs) (leaf-ends x h) f
+
 -- A list: its first node and those after it.
 module _ (text : List ℕ) {bs : List ℕ} {e : ℕ} (f : FirstNode bs e) (h : treeOk text (unpack bs) ≡ true) where
   first-and-rest-ok : (nodeOk text (f .node) && treeOk text (unpack (part e (length bs) bs))) ≡ true
   unfolding treeOk
   first-and-rest-ok = rw (f .unpacks) at h
 
+  first-ok : nodeOk text (f .node) ≡ true
+  first-ok = and-left (nodeOk text (f .node)) (treeOk text (unpack (part e (length bs) bs))) first-and-rest-ok
+
   pub first-good : GoodNode text (part 0 e bs)
-  first-good =
-      record {
-        node = f .node;
-        isNode = f .isNode;
-        ok = and-left (nodeOk text (f .node)) (treeOk text (unpack (part e (length bs) bs))) first-and-rest-ok;
-      }
+  first-good = record { node = f .node; isNode = f .isNode; ok = first-ok }
 
   pub rest-ok : treeOk text (unpack (part e (length bs) bs)) ≡ true
   rest-ok = and-right (nodeOk text (f .node)) (treeOk text (unpack (part e (length bs) bs))) first-and-rest-ok
 
-pub first-prints : (text : List ℕ) {bs : List ℕ} {e : ℕ} → FirstNode bs e → (rest : List ℕ) →
-    putNodes (unspanned text (unpack (part 0 e bs))) (putOthers (unspanned text (unpack (part e (length bs) bs))) rest) ≡ putNodes (unspanned text (unpack bs)) rest
-unfolding putNodes putOthers mapNodes
-first-prints text f rest = rw (alone (f .isNode), f .unpacks)
+-- a leaf in front, by the kind of its record
+pub leaf-good : (text bs : List ℕ) → Packed bs → 0 < length bs → treeOk text (unpack bs) ≡ true → {kind : ℕ} → kind ≡ field 0 bs / 16 → 5 < kind → GoodLeaf text bs
+unfolding nodeOk
+leaf-good text bs p h ok {kind} e l =
+    let f = first-of bs p h in
+    let t = leaf-told bs kind l in
+    let head : headAt bs ≡ leafHead (t .0) = headAt-kind bs kind e ∙ t .1 in
+    let n : f .node ≡ leaf (t .0) = leaf-is (f .node) (t .0) (sym (first-head f) ∙ head) in
+    let good : nodeOk text (leaf (t .0)) ≡ true = subst (λ (m : Node Leaf). nodeOk text m ≡ true) n (first-ok text f ok) in
+    record { leaf = t .0; room = record-room bs p h; head = head; low = omega arith; high = kind-high f; ok = good }
 
-pub others-print : (text : List ℕ) {bs : List ℕ} {e : ℕ} → FirstNode bs e → (rest : List ℕ) →
-    32 ∷ putNodes (unspanned text (unpack (part 0 e bs))) (putOthers (unspanned text (unpack (part e (length bs) bs))) rest)
-    ≡ putOthers (unspanned text (unpack bs)) rest
-unfolding putNodes putOthers mapNodes
-others-print text f rest = rw (alone (f .isNode), f .unpacks)
+-- What is printed of a list: its first node, and the others.
+first-prints : (text : List ℕ) {bs : List ℕ} {e : ℕ} (f : FirstNode bs e) (rest : List ℕ) →
+    putNode (mapNode (stepOf text) (f .node)) (putOthers (unspanned text (unpack (part e (length bs) bs))) rest) ≡ putNodes (unspanned text (unpack bs)) rest
+unfolding putNodes mapNodes
+first-prints text f rest = rw (f .unpacks)
 
-pub none-print : (text bs : List ℕ) → Packed bs → length bs ≡ 0 → (rest : List ℕ) → rest ≡ putNodes (unspanned text (unpack bs)) rest
+leaf-prints : (text : List ℕ) {bs : List ℕ} {e : ℕ} (f : FirstNode bs e) (x : Leaf) → headAt bs ≡ leafHead x →
+    (rest : List ℕ) → putStep (stepOf text x) rest ≡ putNode (mapNode (stepOf text) (f .node)) rest
+unfolding putNode mapNode
+leaf-prints text f x h rest = let n : f .node ≡ leaf x = leaf-is (f .node) x (sym (first-head f) ∙ h) in rw n
+
+node-prints : (text : List ℕ) {bs : List ℕ} {n : Node Leaf} → IsNode bs n →
+    (rest : List ℕ) → putNodes (unspanned text (unpack bs)) rest ≡ putNode (mapNode (stepOf text) n) rest
+unfolding putNodes putOthers mapNodes
+node-prints text s rest = rw (alone s)
+
+others-print : (text bs : List ℕ) → Packed bs → 0 < length bs → (rest : List ℕ) →
+    32 ∷ putNodes (unspanned text (unpack bs)) rest ≡ putOthers (unspanned text (unpack bs)) rest
+unfolding putNodes putOthers mapNodes
+others-print text bs p h rest = rw (first-of bs p h .unpacks)
+
+none-print : (text bs : List ℕ) → Packed bs → length bs ≡ 0 → (rest : List ℕ) → rest ≡ putNodes (unspanned text (unpack bs)) rest
 unfolding putNodes mapNodes
 none-print text bs p h rest = rw (no-node bs p h)
 
-pub no-others-print : (text bs : List ℕ) → Packed bs → length bs ≡ 0 → (rest : List ℕ) → rest ≡ putOthers (unspanned text (unpack bs)) rest
-unfolding putOthers mapNodes
+no-others-print : (text bs : List ℕ) → Packed bs → length bs ≡ 0 → (rest : List ℕ) →
+    putNodes (unspanned text (unpack bs)) rest ≡ putOthers (unspanned text (unpack bs)) rest
+unfolding putNodes putOthers mapNodes
 no-others-print text bs p h rest = rw (no-node bs p h)
 
 -- Measures: a node's part of a list, and a list's part of a node.
@@ -215,45 +290,67 @@ list-less bs a e h l r = omega (arith, part-short a e bs)
 pub rest-less : (bs : List ℕ) {e : ℕ} → FirstNode bs e → length (part e (length bs) bs) < length bs
 rest-less bs {e} f = omega (arith, part-short e (length bs) bs, f .least, f .most)
 
--- The loop over a list: what is left of it, and what printing that completes.
-pub record Listing (text tree t₀ t old mid : List ℕ) (at next : ℕ) : Type 0 where
+-- The loop over a list: what is left of it, and what printing that completes. It is left as a list at the head of a turn, and as the
+-- others of a list after a node.
+pub record Listing (printer : NodeList LeafStep → List ℕ → List ℕ) (text tree t old mid : List ℕ) (at next : ℕ) : Type 0 where
   pub packedLeft : Packed t
   pub ok : treeOk text (unpack t) ≡ true
   pub shorter : length t ≤ length tree
   pub place : next ≤ MOST
   pub long : length mid ≡ length old
-  pub onward : (new : List ℕ) (n : ℕ) → Wrote mid new next n (putOthers (unspanned text (unpack t))) → Wrote old new at n (putOthers (unspanned text (unpack t₀)))
+  pub onward : (new : List ℕ) (n : ℕ) → Wrote mid new next n (printer (unspanned text (unpack t))) → Wrote old new at n (putNodes (unspanned text (unpack tree)))
 
-pub listing-starts : {text tree : List ℕ} {e : ℕ} (out : List ℕ) {at : ℕ} → FirstNode tree e → treeOk text (unpack tree) ≡ true → at ≤ MOST →
-    Listing text tree (part e (length tree) tree) (part e (length tree) tree) out out at at
-listing-starts {text} {tree} {e} out f h p =
-    record {
-      packedLeft = f .packedRest;
-      ok = rest-ok text f h;
-      shorter = omega (arith, part-short e (length tree) tree);
-      place = p;
-      long = refl;
-      onward = λ new n w. w;
-    }
+pub listing-starts : {text tree : List ℕ} (out : List ℕ) {at : ℕ} → Packed tree → treeOk text (unpack tree) ≡ true → at ≤ MOST →
+    Listing putNodes text tree tree out out at at
+listing-starts out p h l = record { packedLeft = p; ok = h; shorter = omega arith; place = l; long = refl; onward = λ new n w. w }
 
-module _ {text tree t₀ t old mid : List ℕ} {at next : ℕ} (w : Listing text tree t₀ t old mid at next) where
-  pub listing-goes-on : {m₁ mid′ : List ℕ} {n₁ next′ e : ℕ} → FirstNode t e → Wrote mid m₁ next n₁ (λ rest. 32 ∷ rest) →
-      Wrote m₁ mid′ n₁ next′ (putNodes (unspanned text (unpack (part 0 e t)))) → Listing text tree t₀ (part e (length t) t) old mid′ at next′
-  listing-goes-on {e = e} f s v =
+module _ {text tree t old mid : List ℕ} {at next : ℕ} (w : Listing putNodes text tree t old mid at next) where
+  node-listed : {mid′ : List ℕ} {next′ e : ℕ} (f : FirstNode t e) → Wrote mid mid′ next next′ (putNode (mapNode (stepOf text) (f .node))) →
+      Listing putOthers text tree (part e (length t) t) old mid′ at next′
+  node-listed {e = e} f v =
       record {
         packedLeft = f .packedRest;
         ok = rest-ok text f (w .ok);
         shorter = omega (arith, part-short e (length t) t, w .shorter);
         place = omega (arith, v .counts);
-        long = v .long ∙ s .long ∙ w .long;
-        onward = λ new n u. w .onward new n (wrote-as (putOthers (unspanned text (unpack t))) (others-print text f) (wrote-then s (wrote-then v u)));
+        long = v .long ∙ w .long;
+        onward = λ new n u. w .onward new n (wrote-as (putNodes (unspanned text (unpack t))) (first-prints text f) (wrote-then v u));
       }
 
-  pub listing-all : length t ≡ 0 → Wrote old mid at next (putOthers (unspanned text (unpack t₀)))
-  listing-all h =
-      w .onward mid next (wrote-as (putOthers (unspanned text (unpack t))) (no-others-print text t (w .packedLeft) h) (wrote-none mid (w .place)))
+  pub leaf-listed : {mid′ : List ℕ} {next′ : ℕ} → 0 < length t → (x : Leaf) → headAt t ≡ leafHead x → Wrote mid mid′ next next′ (putStep (stepOf text x)) →
+      Listing putOthers text tree (part RECORD (length t) t) old mid′ at next′ × (length (part RECORD (length t) t) < length t)
+  leaf-listed h x i v =
+      let f = leaf-first (first-of t (w .packedLeft) h) x i in
+      (node-listed f (wrote-as (putNode (mapNode (stepOf text) (f .node))) (leaf-prints text f x i) v), rest-less t f)
 
--- the whole list, from its first node and the others
-pub listed : (text : List ℕ) {tree old mid new : List ℕ} {at m next e : ℕ} → FirstNode tree e → Wrote old mid at m (putNodes (unspanned text (unpack (part 0 e tree)))) →
-    Wrote mid new m next (putOthers (unspanned text (unpack (part e (length tree) tree)))) → Wrote old new at next (putNodes (unspanned text (unpack tree)))
-listed text {tree} f w v = wrote-as (putNodes (unspanned text (unpack tree))) (first-prints text f) (wrote-then w v)
+  pub group-listed : {mid′ : List ℕ} {next′ e : ℕ} → FirstNode t e → Wrote mid mid′ next next′ (putNodes (unspanned text (unpack (part 0 e t)))) →
+      Listing putOthers text tree (part e (length t) t) old mid′ at next′ × (length (part e (length t) t) < length t)
+  group-listed f v = (node-listed f (wrote-as (putNode (mapNode (stepOf text) (f .node))) (node-prints text (f .isNode)) v), rest-less t f)
+
+  pub listing-all : length t ≡ 0 → Wrote old mid at next (putNodes (unspanned text (unpack tree)))
+  listing-all h =
+      w .onward mid next (wrote-as (putNodes (unspanned text (unpack t))) (none-print text t (w .packedLeft) h) (wrote-none mid (w .place)))
+
+-- a space before the others, if there are any
+module _ {text tree t old mid : List ℕ} {at next : ℕ} (w : Listing putOthers text tree t old mid at next) where
+  pub listing-spaced : {mid′ : List ℕ} {next′ : ℕ} → 0 < length t → Wrote mid mid′ next next′ (λ rest. 32 ∷ rest) → Listing putNodes text tree t old mid′ at next′
+  listing-spaced h s =
+      record {
+        packedLeft = w .packedLeft;
+        ok = w .ok;
+        shorter = w .shorter;
+        place = omega (arith, s .counts);
+        long = s .long ∙ w .long;
+        onward = λ new n u. w .onward new n (wrote-as (putOthers (unspanned text (unpack t))) (others-print text t (w .packedLeft) h) (wrote-then s u));
+      }
+
+  pub listing-ended : length t ≡ 0 → Listing putNodes text tree t old mid at next
+  listing-ended h =
+      record {
+        packedLeft = w .packedLeft;
+        ok = w .ok;
+        shorter = w .shorter;
+        place = w .place;
+        long = w .long;
+        onward = λ new n u. w .onward new n (wrote-as (putOthers (unspanned text (unpack t))) (no-others-print text t (w .packedLeft) h) u);
+      }

@@ -1,12 +1,13 @@
 -- Printers one after the other: writing one thing and then another writes both. Assumes nothing.
-use Prim.Native.Nat.{ℕ, _+_, _-_, _≤_, _<_, min}
+use Prim.Native.Nat.{ℕ, suc, _+_, _-_, _≤_, _<_, min}
 use mathlib.Core.Path.{_≡_, refl, sym, ap, _∙_}
 use mathlib.Core.List.{List, [], _∷_, _++_, append-assoc, append-nil}
 use native.Mathlib.Numerals.{add-one}
 use native.Mathlib.Omega.{arith}
-use lib.ListN.{length, take, drop, set, length-set, length-append, take-append-drop}
-use lib.Seq.{take-at, drop-at, drop-drop, length-take-le, take-length, set-split, paste, length-paste}
+use lib.ListN.{length, getD, take, drop, set, length-set, length-append, length-drop, take-append-drop}
+use lib.Seq.{take-at, drop-at, drop-drop, getD-take, getD-drop, length-take-le, take-length, set-split, paste, paste-zero, paste-suc, length-paste}
 use Rattle.display.specs.Written.{MOST, Wrote}
+use Rattle.display.specs.Nodes.{part}
 
 -- nothing
 pub wrote-none : {at : ℕ} (l : List ℕ) → at ≤ MOST → Wrote l l at at (λ rest. rest)
@@ -123,6 +124,69 @@ wrote-past old at next s c h =
       long = refl;
       stands = λ i b. absurd (omega (arith, e));
     }
+
+-- The part of some bytes.
+length-part : (from to : ℕ) (bytes : List ℕ) → to ≤ length bytes → length (part from to bytes) ≡ to - from
+length-part from to bytes h = length-take-le (to - from) (drop from bytes) (omega (arith, length-drop from bytes))
+
+pub part-all : (bytes : List ℕ) → part 0 (length bytes) bytes ≡ bytes
+part-all bytes = let e : length bytes - 0 ≡ length bytes = omega arith in ap (λ (n : ℕ). take n bytes) e ∙ take-length bytes
+
+pub part-past : (old : List ℕ) (at next from to : ℕ) (bytes : List ℕ) → to ≤ length bytes → next ≡ min (at + (to - from)) MOST → length old < next →
+    Wrote old old at next (λ rest. part from to bytes ++ rest)
+part-past old at next from to bytes l c h = wrote-past old at next (part from to bytes) (omega (arith, length-part from to bytes l)) h
+
+-- the loop that copies them, `lib.Seq`'s `paste` of those before place i
+pub record Copied (old : List ℕ) (at : ℕ) (bytes : List ℕ) (from to : ℕ) (out : List ℕ) (i next : ℕ) : Type 0 where
+  pub within : to ≤ length bytes
+  pub room : at + (to - from) ≤ length old
+  pub least : from ≤ i
+  pub most : i ≤ to
+  pub place : next ≡ at + (i - from)
+  pub long : length out ≡ length old
+  pub stands : out ≡ paste old at (part from to bytes) (i - from)
+
+pub copied-none : (old : List ℕ) (at : ℕ) (bytes : List ℕ) (from to : ℕ) → from ≤ to → to ≤ length bytes → at + (to - from) ≤ length old → Copied old at bytes from to old from at
+copied-none old at bytes from to h l r =
+    let z : 0 ≡ from - from = omega arith in
+    record {
+      within = l;
+      room = r;
+      least = omega arith;
+      most = h;
+      place = omega arith;
+      long = refl;
+      stands = paste-zero old at (part from to bytes) ∙ ap (paste old at (part from to bytes)) z;
+    }
+
+module _ {old : List ℕ} {at : ℕ} {bytes : List ℕ} {from to : ℕ} {out : List ℕ} {i next : ℕ} (w : Copied old at bytes from to out i next) where
+  byte-is : i < to → getD bytes i 0 ≡ getD (part from to bytes) (i - from) 0
+  byte-is h =
+      let e : i ≡ from + (i - from) = omega (arith, w .least) in
+      ap (λ (n : ℕ). getD bytes n 0) e
+      ∙ sym (getD-take (to - from) (drop from bytes) (i - from) 0 (omega (arith, w .least)) ∙ getD-drop from bytes (i - from) 0)
+
+  pub copied-one : i < to → Copied old at bytes from to (set out next (getD bytes i 0)) (i + 1) (next + 1)
+  copied-one h =
+      let e : suc (i - from) ≡ i + 1 - from = omega (arith, w .least) in
+      let l = length-part from to bytes (w .within) in
+      record {
+        within = w .within;
+        room = w .room;
+        least = omega (arith, w .least);
+        most = omega arith;
+        place = omega (arith, w .place, w .least);
+        long = length-set out next (getD bytes i 0) ∙ w .long;
+        stands =
+            rw (w .place, w .stands, byte-is h)
+            (paste-suc old at (part from to bytes) (i - from) 0 (omega (arith, w .room, w .least)) (omega (arith, l, w .least))
+            ∙ ap (paste old at (part from to bytes)) e);
+      }
+
+  pub copied-all : {end : ℕ} → to ≤ i → end ≡ min (at + (to - from)) MOST → length old < MOST → Wrote old out at end (λ rest. part from to bytes ++ rest)
+  copied-all {end} h c b =
+      let l = length-part from to bytes (w .within) in
+      wrote-copied old out at end (i - from) (part from to bytes) (omega (arith, l)) (omega (arith, l, w .room)) b (omega (arith, l, w .most)) (w .stands)
 
 -- one byte
 pub wrote-byte : (old : List ℕ) (at b : ℕ) → at < length old → length old < MOST → Wrote old (set old at b) at (at + 1) (λ rest. b ∷ rest)

@@ -2,3 +2,4 @@
 pub mod Written
 pub mod Nodes
 pub mod Sets
+pub mod Squeezed

@@ -1,21 +1,18 @@
--- The bytes of a node, a packed list taken apart at the end of its first node, and what a record's values mean.
-use Prim.Native.Nat.{ℕ, _-_, _≤_}
+-- The bytes of a node, a packed list taken apart at the end of its first node, and what a leaf's record prints by its fields.
+use Prim.Native.Nat.{ℕ, _-_, _/_, _%_, _≤_, _<_}
 use mathlib.Core.Path.{_≡_}
 use mathlib.Core.Bool.{true}
-use mathlib.Core.List.{List, _++_}
-use mathlib.Core.Option.{Option}
-use lib.IntN.{ℤ}
+use mathlib.Core.List.{List, _∷_, _++_}
+use lib.Dec.{eqb}
 use lib.ListN.{length, take, drop}
+use Rattle.notation.specs.Basics.{pick}
 use Rattle.notation.specs.Numbers.{fromBits}
-use Rattle.notation.specs.Tree as tree
 use Rattle.notation.specs.Tree.{Leaf, Node, cons, partOf}
-use Rattle.notation.specs.Packed.{RECORD, packNode, unpack}
-use Rattle.notation.specs.WellFormed.{nodeOk}
-use Rattle.notation.specs.Meaning.{constraintMeaning}
-use Rattle.notation.specs.Print.{putConstraints, putMultiplier}
-use Rattle.record.specs.Meaning as means
-use Rattle.record.specs.declared.spanned.Rotation.{Rotation}
-use Rattle.record.specs.declared.spanned.Move.{Move}
+use Rattle.notation.specs.Packed.{RECORD, familyAt, leafHead, headAt, packNode, unpack}
+use Rattle.notation.specs.WellFormed.{inside, constraintsOk, layersOk, leafOk, nodeOk}
+use Rattle.notation.specs.Meaning.{constraintMeaning, layerMeaning}
+use Rattle.notation.specs.Print.{putTilde, putLayers, putConstraints, putMultiplier}
+use Rattle.record.specs.Meaning.{field, layersAt, constraintsAt}
 use Rattle.laws.proofs.Packing.{FitsNode}
 use Rattle.laws.proofs.Walking.{Packed}
 
@@ -41,13 +38,29 @@ pub record GoodNode (text bs : List ℕ) : Type 0 where
   pub isNode : IsNode bs node
   pub ok : nodeOk text node ≡ true
 
-abbrev pub rotationLeaf : Rotation → Leaf
-rotationLeaf x = tree.rotation (means.span (x .family)) (means.spanOption (x .constraints)) (fromBits 32 (x .multiplier))
+-- a leaf that the first record says, well formed in its text
+pub record GoodLeaf (text bs : List ℕ) : Type 0 where
+  pub leaf : Leaf
+  pub room : RECORD ≤ length bs
+  pub head : headAt bs ≡ leafHead leaf
+  pub low : 5 < field 0 bs / 16
+  pub high : field 0 bs / 16 < 15
+  pub ok : leafOk text leaf ≡ true
 
-abbrev pub moveLeaf : Move → Leaf
-moveLeaf x =
-    tree.move (x .inverted) (means.layers (x .layers)) (means.span (x .family)) (means.spanOption (x .constraints)) (fromBits 32 (x .multiplier))
+-- a rotation or a move in the first record, by the fields of the record
+pub record GoodTransform (text bs : List ℕ) : Type 0 where
+  pub room : RECORD ≤ length bs
+  pub layers : (field 0 bs / 16 ≡ 6 → ⊥) → layersOk text (layersAt bs) ≡ true
+  pub family : inside text (familyAt (field 5 bs) (field 6 bs)) ≡ true
+  pub constraints : constraintsOk text (constraintsAt bs) ≡ true
 
--- what a rotation and a move end in
-abbrev pub putTransform : List ℕ → tree.Span → Option tree.Span → ℤ → List ℕ → List ℕ
-putTransform text f c m rest = partOf text f ++ putConstraints (constraintMeaning text c) (putMultiplier m rest)
+-- `@`, or the tilde and the layers
+abbrev pub putBefore : List ℕ → List ℕ → List ℕ → List ℕ
+putBefore text bs rest =
+    pick (eqb (field 0 bs / 16) 6) (64 ∷ rest) (putTilde (eqb (field 0 bs / 8 % 2) 1) (putLayers (layerMeaning text (layersAt bs)) rest))
+
+abbrev pub putTransform : List ℕ → List ℕ → List ℕ → List ℕ
+putTransform text bs rest =
+    putBefore text bs
+    (partOf text (familyAt (field 5 bs) (field 6 bs))
+    ++ putConstraints (constraintMeaning text (constraintsAt bs)) (putMultiplier (fromBits 32 (field 3 bs)) rest))

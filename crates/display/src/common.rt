@@ -1,17 +1,18 @@
 // The parts that nodes share: multipliers, the signs of groups, scramble moves.
+ghost use mathlib.Core.Path.{_≡_};
 ghost use mathlib.Core.List.{_∷_};
 ghost use Prim.Native.Nat.{_≤_};
 ghost use lib.Dec.{eqb};
 ghost use Rattle.notation.specs.Basics.{pick};
 ghost use Rattle.notation.specs.Numbers.{fromBits, show};
+ghost use Rattle.notation.specs.Packed.{groupNumber, binaryNumber, megaminxNumber};
 ghost use Rattle.notation.specs.Print.{putMultiplier, putPrefix, putSeparator, putMegaminx};
+ghost use Rattle.notation.specs.declared.common.GroupKind.{GroupKind};
+ghost use Rattle.notation.specs.declared.common.BinaryGroupKind.{BinaryGroupKind};
+ghost use Rattle.notation.specs.declared.common.MegaminxScrambleMove.{MegaminxScrambleMove};
 ghost use Rattle.display.specs.Written.{MOST as most, Wrote};
 use crate::write::put;
-use crate::write::put_bytes;
 use crate::write::put_number;
-use notation::common::BinaryGroupKind;
-use notation::common::GroupKind;
-use notation::common::MegaminxScrambleMove;
 use numbers::signed::is_negative;
 use numbers::signed::magnitude;
 
@@ -38,27 +39,36 @@ pub(crate) fn put_multiplier(out: &mut [u8], at: usize, bits: u32) -> usize
     next
 }
 
-// What stands before the list of a group.
-pub(crate) fn put_opening(out: &mut [u8], at: usize, kind: GroupKind) -> usize
+// What stands before the list of a group, by the kind of its record.
+pub(crate) fn put_opening(out: &mut [u8], at: usize, kind: u8) -> usize
     requires { ⌜ at ≤ most ⌝ }
-    ensures { λ r. ⌜ Wrote (now (out .entry)) (now (out .exit)) at r (λ rest. putPrefix kind (40 ∷ rest)) ⌝ }
+    ensures { λ r. ⌜ ((k : GroupKind) → kind ≡ groupNumber k → Wrote (now (out .entry)) (now (out .exit)) at r (λ rest. putPrefix k (40 ∷ rest))) ⌝ }
 {
     match kind {
-        GroupKind::Simple => put(out, at, b'('),
-        GroupKind::Macro => put_bytes(out, at, b"!("),
-        GroupKind::Simultaneous => put_bytes(out, at, b"&("),
-        GroupKind::Niss => put_bytes(out, at, b"^("),
+        0 => put(out, at, b'('),
+        1 => put_two(out, at, b'!', b'('),
+        2 => put_two(out, at, b'&', b'('),
+        _ => put_two(out, at, b'^', b'('),
     }
 }
 
-// What stands between the lists of a commutator or a conjugate.
-pub(crate) fn put_separator(out: &mut [u8], at: usize, kind: BinaryGroupKind) -> usize
+// Two bytes, put one by one: a constant array would be built anew at each use.
+fn put_two(out: &mut [u8], at: usize, a: u8, b: u8) -> usize
     requires { ⌜ at ≤ most ⌝ }
-    ensures { λ r. ⌜ Wrote (now (out .entry)) (now (out .exit)) at r (putSeparator kind) ⌝ }
+    ensures { λ r. ⌜ Wrote (now (out .entry)) (now (out .exit)) at r (λ rest. a ∷ b ∷ rest) ⌝ }
+{
+    let next = put(out, at, a);
+    put(out, next, b)
+}
+
+// What stands between the lists of a commutator or a conjugate, by the kind of its record.
+pub(crate) fn put_separator(out: &mut [u8], at: usize, kind: u8) -> usize
+    requires { ⌜ at ≤ most ⌝ }
+    ensures { λ r. ⌜ ((k : BinaryGroupKind) → kind ≡ binaryNumber k → Wrote (now (out .entry)) (now (out .exit)) at r (putSeparator k)) ⌝ }
 {
     match kind {
-        BinaryGroupKind::Commutator => put_bytes(out, at, b", "),
-        BinaryGroupKind::Conjugate => put_bytes(out, at, b": "),
+        4 => put_two(out, at, b',', b' '),
+        _ => put_two(out, at, b':', b' '),
     }
 }
 
@@ -71,14 +81,14 @@ pub(crate) fn put_closing(out: &mut [u8], at: usize, bracket: u8, multiplier: u3
     put_multiplier(out, next, multiplier)
 }
 
-pub(crate) fn put_megaminx(out: &mut [u8], at: usize, kind: MegaminxScrambleMove) -> usize
+// A scramble move, by the kind of its record.
+pub(crate) fn put_megaminx(out: &mut [u8], at: usize, kind: u8) -> usize
     requires { ⌜ at ≤ most ⌝ }
-    ensures { λ r. ⌜ Wrote (now (out .entry)) (now (out .exit)) at r (putMegaminx kind) ⌝ }
+    ensures { λ r. ⌜ ((k : MegaminxScrambleMove) → kind ≡ megaminxNumber k → Wrote (now (out .entry)) (now (out .exit)) at r (putMegaminx k)) ⌝ }
 {
-    match kind {
-        MegaminxScrambleMove::Rpp => put_bytes(out, at, b"R++"),
-        MegaminxScrambleMove::Rmm => put_bytes(out, at, b"R--"),
-        MegaminxScrambleMove::Dpp => put_bytes(out, at, b"D++"),
-        MegaminxScrambleMove::Dmm => put_bytes(out, at, b"D--"),
-    }
+    let letter = if kind < 13 { b'R' } else { b'D' };
+    let sign = if kind % 2 == 1 { b'+' } else { b'-' };
+    let next = put(out, at, letter);
+    let last = put(out, next, sign);
+    put(out, last, sign)
 }

@@ -1,39 +1,36 @@
 // Nodes and lists of nodes, printed from their records and the text that these name parts of.
 ghost use mathlib.Core.Path.{_≡_};
 ghost use mathlib.Core.Bool.{true};
-ghost use mathlib.Core.List.{_∷_, _++_};
-ghost use Prim.Native.Nat.{_+_, _≤_, _<_, min};
+ghost use mathlib.Core.List.{_++_};
+ghost use Prim.Native.Nat.{_+_, _/_, _≤_, _<_, min};
 ghost use lib.ListN.{length, drop};
-ghost use Rattle.notation.specs.Numbers.{fromBits, showSigned};
+ghost use Rattle.notation.specs.Numbers.{fromBits};
 ghost use Rattle.notation.specs.Tree as tree;
-ghost use Rattle.notation.specs.Packed.{unpack};
+ghost use Rattle.notation.specs.Packed.{RECORD as recordSize, leafHead, headAt, unpack};
 ghost use Rattle.notation.specs.Meaning as meaning;
 ghost use Rattle.notation.specs.WellFormed as wellFormed;
 ghost use Rattle.notation.specs.Print as print;
 ghost use Rattle.record.specs.Meaning as means;
 ghost use Rattle.laws.proofs.Walking.{Packed};
 ghost use Rattle.display.specs.Written.{MOST as most, Wrote};
-ghost use Rattle.display.specs.Nodes.{IsNode, FirstNode, GoodNode, rotationLeaf, moveLeaf, putTransform};
+ghost use Rattle.display.specs.Nodes.{FirstNode, GoodNode, GoodLeaf, GoodTransform, putBefore, putTransform};
 use crate::common::put_closing;
 use crate::common::put_megaminx;
 use crate::common::put_multiplier;
 use crate::common::put_opening;
 use crate::common::put_separator;
-use crate::sets::SetKind;
-use crate::sets::put_set;
+use crate::constraints::put_squeezed;
+use crate::sets::put_layer_set;
 use crate::write::put;
-use crate::write::put_bytes;
+use crate::write::put_between;
 use crate::write::put_number;
 use crate::write::put_signed;
 use record::RECORD;
-use record::decode::decode;
+use record::decode::family_of;
+use record::decode::layers;
 use record::fields;
 use record::spanned::LayerPrefixContents;
-use record::spanned::Move;
-use record::spanned::Record;
-use record::spanned::Rotation;
 use record::spanned::Span;
-use record::spanned::SpanOption;
 
 // A part of the text, as it stands there.
 fn put_part(out: &mut [u8], at: usize, text: &[u8], p: Span) -> usize
@@ -43,7 +40,7 @@ fn put_part(out: &mut [u8], at: usize, text: &[u8], p: Span) -> usize
 {
     let from = p.offset as usize;
     let to = from + (p.size as usize);
-    put_bytes(out, at, &text[from..to])
+    put_between(out, at, text, from, to)
 }
 
 // `~`
@@ -57,18 +54,20 @@ fn put_tilde(out: &mut [u8], at: usize, inverted: bool) -> usize
     at
 }
 
-// Constraints, if there are any.
-fn put_constraints(out: &mut [u8], at: usize, text: &[u8], constraints: SpanOption) -> usize
+// The constraints of the first record, if there are any.
+fn put_constraints(out: &mut [u8], at: usize, text: &[u8], t: &[u8]) -> usize
     requires { ⌜ at ≤ most ⌝ }
-    requires { ⌜ wellFormed.constraintsOk (now text) (means.spanOption constraints) ≡ true ⌝ }
-    ensures { λ r. ⌜ Wrote (now (out .entry)) (now (out .exit)) at r (print.putConstraints (meaning.constraintMeaning (now (text .entry)) (means.spanOption constraints))) ⌝ }
+    requires { ⌜ recordSize ≤ length (now t) ⌝ }
+    requires { ⌜ wellFormed.constraintsOk (now text) (means.constraintsAt (now t)) ≡ true ⌝ }
+    ensures { λ r. ⌜ Wrote (now (out .entry)) (now (out .exit)) at r (print.putConstraints (meaning.constraintMeaning (now (text .entry)) (means.constraintsAt (now (t .entry))))) ⌝ }
 {
-    let SpanOption::Some(p) = constraints else {
-        return at;
-    };
-    let from = p.offset as usize;
-    let to = from + (p.size as usize);
-    put_set(out, at, &text[from..to], SetKind::Constraints)
+    if fields::constraints_present(t) {
+        let p = fields::constraints(t);
+        let from = p.offset as usize;
+        let to = from + (p.size as usize);
+        return put_squeezed(out, at, text, from, to);
+    }
+    at
 }
 
 // The layers before a family.
@@ -88,52 +87,37 @@ fn put_layers(out: &mut [u8], at: usize, text: &[u8], layers: LayerPrefixContent
         LayerPrefixContents::Set(p) => {
             let from = p.offset as usize;
             let to = from + (p.size as usize);
-            put_set(out, at, &text[from..to], SetKind::Layers)
+            put_layer_set(out, at, &text[from..to])
         }
     }
 }
 
-// What a rotation and a move end in: a family with constraints, and the multiplier.
-fn put_transform(
-    out: &mut [u8],
-    at: usize,
-    text: &[u8],
-    family: Span,
-    constraints: SpanOption,
-    multiplier: u32,
-) -> usize
+// What stands before the family of the first record: `@`, or the tilde and the layers.
+fn put_before_family(out: &mut [u8], at: usize, text: &[u8], t: &[u8]) -> usize
     requires { ⌜ at ≤ most ⌝ }
-    requires { ⌜ wellFormed.inside (now text) (means.span family) ≡ true ⌝ }
-    requires { ⌜ wellFormed.constraintsOk (now text) (means.spanOption constraints) ≡ true ⌝ }
-    ensures { λ r. ⌜ Wrote (now (out .entry)) (now (out .exit)) at r (putTransform (now (text .entry)) (means.span family) (means.spanOption constraints) (fromBits 32 multiplier)) ⌝ }
+    requires { ⌜ GoodTransform (now text) (now t) ⌝ }
+    ensures { λ r. ⌜ Wrote (now (out .entry)) (now (out .exit)) at r (putBefore (now (text .entry)) (now (t .entry))) ⌝ }
 {
-    let middle = put_part(out, at, text, family);
-    let next = put_constraints(out, middle, text, constraints);
-    put_multiplier(out, next, multiplier)
+    if fields::kind(t) == 6 {
+        return put(out, at, b'@');
+    }
+    let next = put_tilde(out, at, fields::tilde(t));
+    if fields::layer_form(t) == 0 {
+        return next;
+    }
+    put_layers(out, next, text, layers(t))
 }
 
-fn put_rotation(out: &mut [u8], at: usize, text: &[u8], x: Rotation) -> usize
+// The rotation or the move that the first record says.
+fn put_transform(out: &mut [u8], at: usize, text: &[u8], t: &[u8]) -> usize
     requires { ⌜ at ≤ most ⌝ }
-    requires { ⌜ wellFormed.leafOk (now text) (rotationLeaf x) ≡ true ⌝ }
-    ensures { λ r. ⌜ Wrote (now (out .entry)) (now (out .exit)) at r (print.putStep (meaning.stepOf (now (text .entry)) (rotationLeaf x))) ⌝ }
+    requires { ⌜ GoodTransform (now text) (now t) ⌝ }
+    ensures { λ r. ⌜ Wrote (now (out .entry)) (now (out .exit)) at r (putTransform (now (text .entry)) (now (t .entry))) ⌝ }
 {
-    let family = x.family;
-    let constraints = x.constraints;
-    let next = put(out, at, b'@');
-    put_transform(out, next, text, family, constraints, x.multiplier)
-}
-
-fn put_move(out: &mut [u8], at: usize, text: &[u8], x: Move) -> usize
-    requires { ⌜ at ≤ most ⌝ }
-    requires { ⌜ wellFormed.leafOk (now text) (moveLeaf x) ≡ true ⌝ }
-    ensures { λ r. ⌜ Wrote (now (out .entry)) (now (out .exit)) at r (print.putStep (meaning.stepOf (now (text .entry)) (moveLeaf x))) ⌝ }
-{
-    let layers = x.layers;
-    let family = x.family;
-    let constraints = x.constraints;
-    let tilde = put_tilde(out, at, x.inverted);
-    let next = put_layers(out, tilde, text, layers);
-    put_transform(out, next, text, family, constraints, x.multiplier)
+    let from = put_before_family(out, at, text, t);
+    let middle = put_part(out, from, text, family_of(t));
+    let next = put_constraints(out, middle, text, t);
+    put_multiplier(out, next, fields::number(t))
 }
 
 // A pair, each number given by its 32 bits.
@@ -143,7 +127,8 @@ fn put_pair(out: &mut [u8], at: usize, u: u32, d: u32) -> usize
 {
     let first = put(out, at, b'(');
     let comma = put_signed(out, first, u);
-    let second = put_bytes(out, comma, b", ");
+    let space = put(out, comma, b',');
+    let second = put(out, space, b' ');
     let close = put_signed(out, second, d);
     put(out, close, b')')
 }
@@ -168,57 +153,59 @@ pub fn node_list(out: &mut [u8], at: usize, text: &[u8], tree: &[u8]) -> usize
     requires { ⌜ wellFormed.treeOk (now text) (unpack (now tree)) ≡ true ⌝ }
     ensures { λ r. ⌜ Wrote (now (out .entry)) (now (out .exit)) at r (print.putNodes (meaning.unspanned (now (text .entry)) (unpack (now (tree .entry))))) ⌝ }
 {
-    if tree.len() == 0 {
-        return at;
-    }
-    let first = node_end(tree);
-    let mut next = node(out, at, text, &tree[0..first]);
-    let mut t = &tree[first..];
+    let mut t = tree;
+    let mut next = at;
     while 0 < t.len() {
-        let space = put(out, next, b' ');
-        let end = node_end(t);
-        next = node(out, space, text, &t[0..end]);
-        t = &t[end..];
+        if 5 < fields::kind(t) {
+            next = leaf(out, next, text, t);
+            t = &t[RECORD..];
+        } else {
+            let end = node_end(t);
+            next = group(out, next, text, &t[0..end]);
+            t = &t[end..];
+        }
+        if 0 < t.len() {
+            next = put(out, next, b' ');
+        }
     }
     next
 }
 
-// One node, given its bytes.
-fn node(out: &mut [u8], at: usize, text: &[u8], bytes: &[u8]) -> usize
+// The leaf that the first record says.
+fn leaf(out: &mut [u8], at: usize, text: &[u8], t: &[u8]) -> usize
+    requires { ⌜ at ≤ most ⌝ }
+    requires { ⌜ GoodLeaf (now text) (now t) ⌝ }
+    ensures { λ r. ⌜ ((x : tree.Leaf) → headAt (now (t .entry)) ≡ leafHead x → Wrote (now (out .entry)) (now (out .exit)) at r (print.putStep (meaning.stepOf (now (text .entry)) x))) ⌝ }
+{
+    match fields::kind(t) {
+        6 | 7 => put_transform(out, at, text, t),
+        8 => put(out, at, b'.'),
+        9 => put_pair(out, at, fields::number(t), fields::other(t)),
+        10 => put(out, at, b'/'),
+        k => put_megaminx(out, at, k),
+    }
+}
+
+// A group, given its bytes.
+fn group(out: &mut [u8], at: usize, text: &[u8], bytes: &[u8]) -> usize
     requires { ⌜ at ≤ most ⌝ }
     requires { ⌜ GoodNode (now text) (now bytes) ⌝ }
+    requires { ⌜ means.field 0 (now bytes) / 16 ≤ 5 ⌝ }
     ensures { λ r. ⌜ Wrote (now (out .entry)) (now (out .exit)) at r (print.putNodes (meaning.unspanned (now (text .entry)) (unpack (now (bytes .entry))))) ⌝ }
 {
-    match decode(bytes) {
-        Record::Group {
-            kind,
-            first: _,
-            multiplier,
-        } => {
-            let open = put_opening(out, at, kind);
-            let close = node_list(out, open, text, &bytes[RECORD..]);
-            put_closing(out, close, b')', multiplier)
-        }
-        Record::BinaryGroup {
-            kind,
-            first,
-            second: _,
-            multiplier,
-        } => {
-            let middle = RECORD + RECORD * wide(first);
-            let open = put(out, at, b'[');
-            let separator = node_list(out, open, text, &bytes[RECORD..middle]);
-            let second = put_separator(out, separator, kind);
-            let close = node_list(out, second, text, &bytes[middle..]);
-            put_closing(out, close, b']', multiplier)
-        }
-        Record::Rotation(x) => put_rotation(out, at, text, x),
-        Record::Move(x) => put_move(out, at, text, x),
-        Record::Pause => put(out, at, b'.'),
-        Record::UD { u, d } => put_pair(out, at, u, d),
-        Record::Slash => put(out, at, b'/'),
-        Record::Megaminx(k) => put_megaminx(out, at, k),
+    let multiplier = fields::number(bytes);
+    let kind = fields::kind(bytes);
+    if kind < 4 {
+        let open = put_opening(out, at, kind);
+        let close = node_list(out, open, text, &bytes[RECORD..]);
+        return put_closing(out, close, b')', multiplier);
     }
+    let middle = RECORD + RECORD * wide(fields::first(bytes));
+    let open = put(out, at, b'[');
+    let separator = node_list(out, open, text, &bytes[RECORD..middle]);
+    let second = put_separator(out, separator, kind);
+    let close = node_list(out, second, text, &bytes[middle..]);
+    put_closing(out, close, b']', multiplier)
 }
 
 // Where the first node of the list ends: past its record and those of its lists.

@@ -2,7 +2,8 @@
 // run over a part that is too short still measures the text.
 ghost use mathlib.Core.Path.{_≡_};
 ghost use mathlib.Core.List.{_∷_, _++_};
-ghost use Prim.Native.Nat.{_≤_, _%_, min};
+ghost use Prim.Native.Nat.{_-_, _≤_, _%_, min};
+ghost use lib.ListN.{length, take, drop};
 ghost use Rattle.notation.specs.Numbers.{show, showSigned, fromBits};
 ghost use Rattle.display.specs.Written.{MOST as most, Wrote};
 use numbers::signed::is_negative;
@@ -17,20 +18,33 @@ fn hold(n: usize) -> usize
     if n < MOST { n } else { MOST }
 }
 
+// The bytes of `bytes` from `from` to `to`. They are named by their ends, since a slice that is made for the call is slower to read.
+pub fn put_between(out: &mut [u8], at: usize, bytes: &[u8], from: usize, to: usize) -> usize
+    requires { ⌜ at ≤ most ⌝ }
+    requires { ⌜ from ≤ to ⌝ }
+    requires { ⌜ to ≤ length (now bytes) ⌝ }
+    ensures { λ r. ⌜ Wrote (now (out .entry)) (now (out .exit)) at r (λ rest. take (to - from) (drop from (now (bytes .entry))) ++ rest) ⌝ }
+{
+    let end = hold(at + (to - from));
+    if out.len() < end {
+        return end;
+    }
+    let mut i = from;
+    let mut next = at;
+    while i < to {
+        out[next] = bytes[i];
+        i += 1;
+        next += 1;
+    }
+    end
+}
+
+// All of `bytes`.
 pub fn put_bytes(out: &mut [u8], at: usize, bytes: &[u8]) -> usize
     requires { ⌜ at ≤ most ⌝ }
     ensures { λ r. ⌜ Wrote (now (out .entry)) (now (out .exit)) at r (λ rest. now (bytes .entry) ++ rest) ⌝ }
 {
-    let end = hold(at + bytes.len());
-    if out.len() < end {
-        return end;
-    }
-    let mut i = 0;
-    while i < bytes.len() {
-        out[at + i] = bytes[i];
-        i += 1;
-    }
-    end
+    put_between(out, at, bytes, 0, bytes.len())
 }
 
 pub fn put(out: &mut [u8], at: usize, byte: u8) -> usize
@@ -44,8 +58,19 @@ pub fn put(out: &mut [u8], at: usize, byte: u8) -> usize
     hold(at + 1)
 }
 
-// A number in decimal. The digits are found from the last one on.
+// A number in decimal. Most have one digit.
 pub fn put_number(out: &mut [u8], at: usize, n: u32) -> usize
+    requires { ⌜ at ≤ most ⌝ }
+    ensures { λ r. ⌜ Wrote (now (out .entry)) (now (out .exit)) at r (show n) ⌝ }
+{
+    if n < 10 {
+        return put(out, at, b'0' + n as u8);
+    }
+    put_long_number(out, at, n)
+}
+
+// The digits are found from the last one on.
+fn put_long_number(out: &mut [u8], at: usize, n: u32) -> usize
     requires { ⌜ at ≤ most ⌝ }
     ensures { λ r. ⌜ Wrote (now (out .entry)) (now (out .exit)) at r (show n) ⌝ }
 {
@@ -58,7 +83,7 @@ pub fn put_number(out: &mut [u8], at: usize, n: u32) -> usize
         i -= 1;
     }
     digits[i] = b'0' + digit(rest);
-    put_bytes(out, at, &digits[i..])
+    put_between(out, at, &digits, i, 10)
 }
 
 fn digit(n: u32) -> u8

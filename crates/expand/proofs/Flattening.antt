@@ -12,7 +12,7 @@ use lib.Seq.{take-at, drop-at, take-length, drop-length, drop-drop}
 use Rattle.notation.specs.Basics.{pick}
 use Rattle.notation.specs.Numbers.{fromBits}
 use Rattle.notation.specs.Tree.{Leaf, Node, leaf, block, Body, group, binaryGroup, nil, Tree}
-use Rattle.notation.specs.Packed.{RECORD, leafHead, leafRecord, packNode, unpack}
+use Rattle.notation.specs.Packed.{RECORD, leafRecord, packNode, unpack}
 use Rattle.notation.specs.Entries.{records}
 use Rattle.notation.specs.Invert.{undo}
 use Rattle.notation.specs.Unroll.{copies, turned}
@@ -20,7 +20,6 @@ use Rattle.notation.specs.declared.common.GroupKind.the-variants.{Simple}
 use Rattle.notation.specs.declared.common.BinaryGroupKind.{BinaryGroupKind}
 use Rattle.notation.specs.declared.common.BinaryGroupKind.the-variants.{Commutator, Conjugate}
 use Rattle.record.specs.Meaning.{field}
-use Rattle.record.proofs.RoundTrip.{length-record25}
 use Rattle.laws.proofs.Packing.{FitsNode, FitsBody, FitsTree}
 use Rattle.laws.proofs.Walking.{Packed, no-node}
 use Rattle.laws.proofs.Unrolling.{flatBinary, flatNode, flatBody, flat, flatBody-backwards, flat-backwards}
@@ -28,7 +27,7 @@ use Rattle.laws.proofs.Counting.{countBinary, countNode, countBody, count, coun
 use Rattle.expand.specs.Meaning.{binaryKind}
 use Rattle.expand.specs.Nodes.{IsNode, part, FirstNode, firstList, secondList}
 use Rattle.expand.specs.Steps.{AllUndoable, Wrote, Room, Pair, either}
-use Rattle.expand.proofs.Nodes.{Shape, isLeaf, isGroup, isBinary, shape-of, part-rest, node-unique}
+use Rattle.expand.proofs.Nodes.{Shape, isLeaf, isGroup, isBinary, shape-of, part-rest, node-unique, FirstLeaf, leaf-node, leaf-record}
 use Rattle.expand.proofs.Steps.{length-records, records-append, all-flat, all-flatBody}
 
 -- Writing after writing: over what was written, or behind it.
@@ -99,35 +98,35 @@ at-least (suc n) c h = omega arith
 pub room-of : {bs : List ℕ} {L L′ : ℕ} (n : Node Leaf) → IsNode bs n → (n₀ : Node Leaf) × (IsNode bs n₀ × (RECORD * countNode n₀ ≤ L)) → L′ ≡ L → RECORD * countNode n ≤ L′
 room-of n s (n₀, (s₀, r)) e = let j = ap countNode (node-unique s s₀) in omega arith
 
+-- a record copied by way of bytes of its own
+pub by-way : (f z h s : List ℕ) {s′ : List ℕ} → length z ≡ length f → h ≡ take (length f) f ++ drop (length f) z →
+    s′ ≡ take (length h) h ++ drop (length h) s → s′ ≡ take (length f) f ++ drop (length f) s
+by-way f z h s {s′} l e q =
+    let held : h ≡ f = e ∙ ap₂ (λ (a b : List ℕ). a ++ b) (take-length f) (ap (λ (j : ℕ). drop j z) (sym l) ∙ drop-length z) ∙ append-nil f in
+    subst (λ (x : List ℕ). s′ ≡ take (length x) x ++ drop (length x) s) held q
+
+-- a leaf is copied
+pub leaf-room : {bs : List ℕ} {out : ℕ} (l : FirstLeaf bs) → RECORD * countNode (l .first .node) ≤ out → length (part 0 RECORD bs) ≤ out
+unfolding countNode
+leaf-room l r = omega (arith, ap countNode (l .isStep), leaf-record l)
+
+pub leaf-written : {bs out out′ : List ℕ} (l : FirstLeaf bs) →
+    out′ ≡ take (length (part 0 RECORD bs)) (part 0 RECORD bs) ++ drop (length (part 0 RECORD bs)) out → Wrote out out′ (flatNode undo false (l .first .node)) RECORD
+unfolding flatNode packNode records
+leaf-written {bs} {out} {out′} l q =
+    subst (λ (n : Node Leaf). Wrote out out′ (flatNode undo false n) RECORD) (sym (l .isStep)) (record {
+      size = refl;
+      bytes = q ∙ ap₂ (λ (a b : List ℕ). a ++ b)
+          (take-length (part 0 RECORD bs) ∙ sym (leaf-node l .bytes) ∙ sym (append-nil (leafRecord (l .step))))
+          (ap (λ (j : ℕ). drop j out) (leaf-record l));
+    })
+
 module _ (n : Node Leaf) (bs : List ℕ) (s : IsNode bs n) {k : ℕ} (e : k ≡ field 0 bs / 16) where
   shape : (m : ℕ) → m ≡ field 3 bs → Shape k (fromBits 32 m) n
   shape m f = rw (e, f) (shape-of s)
 
-  -- a leaf is copied
-  pub leaf-room : {out : ℕ} → 5 < k → RECORD * countNode n ≤ out → length bs ≤ out
-  unfolding countNode packNode
-  leaf-room {out} h r = go n s (shape (field 3 bs) refl) r
-    where
-      go : {m : ℤ} (n : Node Leaf) → IsNode bs n → Shape k m n → RECORD * countNode n ≤ out → length bs ≤ out
-      go (leaf x) s (isLeaf l) r = omega (arith, ap length (s .bytes), length-record25 (leafHead x))
-      go (block (group g a) m) s (isGroup l q) r = absurd (omega arith)
-      go (block (binaryGroup g a b) m) s (isBinary l l′ q) r = absurd (omega arith)
-
-  pub leaf-written : {out out′ : List ℕ} {r : ℕ} → 5 < k → r ≡ length bs → out′ ≡ take (length bs) bs ++ drop (length bs) out → Wrote out out′ (flatNode undo false n) r
-  unfolding flatNode packNode records
-  leaf-written {out} {out′} {r} h p q = go n s (shape (field 3 bs) refl)
-    where
-      go : {m : ℤ} (n : Node Leaf) → IsNode bs n → Shape k m n → Wrote out out′ (flatNode undo false n) r
-      go (leaf x) s (isLeaf l) =
-          record {
-            size = p ∙ ap length (sym (s .bytes)) ∙ length-record25 (leafHead x);
-            bytes = q ∙ ap₂ (λ (a b : List ℕ). a ++ b) (take-length bs ∙ sym (s .bytes) ∙ sym (append-nil (leafRecord x))) (ap (λ (j : ℕ). drop j out) (sym p));
-          }
-      go (block (group g a) m) s (isGroup l t) = absurd (omega arith)
-      go (block (binaryGroup g a b) m) s (isBinary l l′ t) = absurd (omega arith)
-
   -- a group
-  module _ {m : ℕ} (f : m ≡ field 3 bs) (h : k ≤ 5) where
+  module _ {m : ℕ} (f : m ≡ field 3 bs) (h : field 0 bs / 16 ≤ 5) where
     block-flat : flatNode undo false n ≡ copies (natAbs (fromBits 32 m)) (flatBody undo (turned (fromBits 32 m) false) (bodyOf n))
     unfolding flatNode
     block-flat = go n (shape m f)

@@ -6,7 +6,7 @@ use native.Mathlib.Omega.{arith}
 use lib.Dec.{lit<, eqb}
 use lib.IntN.{ℤ}
 use lib.ListN.{length, getD, take, drop, length-append, length-take, length-drop}
-use lib.Seq.{take-all}
+use lib.Seq.{take-all, take-take, length-take-le}
 use mathlib.Core.Bool.{true, false}
 use Rattle.notation.specs.Numbers.{fromBits, toBits}
 use Rattle.notation.specs.Unroll.{isNiss}
@@ -229,3 +229,45 @@ shapes (block (binaryGroup g a b) m) bs s =
 
 pub shape-of : {n : Node Leaf} {bs : List ℕ} → IsNode bs n → Shape (field 0 bs / 16) (fromBits 32 (field 3 bs)) n
 shape-of {n} {bs} s = shapes n bs s
+
+-- The first node of a list, by the kind k in the list's first record, which is the node's.
+pub front-field : (bs : List ℕ) (e : ℕ) → RECORD ≤ e → (i : ℕ) → field i (part 0 e bs) ≡ field i bs
+front-field bs e h i = ap (λ (l : List ℕ). getD (cut widths l) i 0) (ap (take RECORD) (part-front e bs) ∙ take-take RECORD e bs h)
+
+pub first-low : {bs : List ℕ} {e k : ℕ} → FirstNode bs e → k ≡ field 0 bs / 16 → k ≤ 5 → field 0 (part 0 e bs) / 16 ≤ 5
+first-low {bs} {e} f q h = omega (arith, front-field bs e (f .least) 0)
+
+-- a leaf, which is one record
+pub record FirstLeaf (bs : List ℕ) : Type 0 where
+  pub step : Leaf
+  pub first : FirstNode bs RECORD
+  pub isStep : first .node ≡ leaf step
+
+leaf-of : {bs : List ℕ} {n : Node Leaf} → IsNode bs n → 5 < field 0 bs / 16 → (x : Leaf) × (n ≡ leaf x)
+leaf-of {bs} {n} s h = go n (shape-of s)
+  where
+    go : {m : ℤ} (n : Node Leaf) → Shape (field 0 bs / 16) m n → (x : Leaf) × (n ≡ leaf x)
+    go (leaf x) (isLeaf l) = (x, refl)
+    go (block (group g a) m) (isGroup l q) = absurd (omega arith)
+    go (block (binaryGroup g a b) m) (isBinary l l′ q) = absurd (omega arith)
+
+leaf-long : {bs : List ℕ} (x : Leaf) → IsNode bs (leaf x) → length bs ≡ RECORD
+unfolding packNode
+leaf-long x s = ap length (sym (s .bytes)) ∙ length-record25 (leafHead x)
+
+pub first-leaf : {bs : List ℕ} {k : ℕ} → Packed bs → 0 < length bs → k ≡ field 0 bs / 16 → 5 < k → FirstLeaf bs
+first-leaf {bs} {k} p h q l =
+    let f = first-of bs p h in
+    go (nodeEnd bs) f (leaf-of (f .isNode) (omega (arith, front-field bs (nodeEnd bs) (f .least) 0)))
+  where
+    go : (e : ℕ) (f : FirstNode bs e) → (x : Leaf) × (f .node ≡ leaf x) → FirstLeaf bs
+    go e f (x, i) =
+        let long : e ≡ RECORD = sym (ap length (part-front e bs) ∙ length-take-le e bs (f .most)) ∙ leaf-long x (subst (IsNode (part 0 e bs)) i (f .isNode)) in
+        let g : (g : FirstNode bs RECORD) × (g .node ≡ leaf x) = subst (λ (j : ℕ). (g : FirstNode bs j) × (g .node ≡ leaf x)) long (f, i) in
+        record { step = x; first = g .0; isStep = g .1 }
+
+pub leaf-node : {bs : List ℕ} (l : FirstLeaf bs) → IsNode (part 0 RECORD bs) (leaf (l .step))
+leaf-node {bs} l = subst (IsNode (part 0 RECORD bs)) (l .isStep) (l .first .isNode)
+
+pub leaf-record : {bs : List ℕ} (l : FirstLeaf bs) → length (part 0 RECORD bs) ≡ RECORD
+leaf-record l = leaf-long (l .step) (leaf-node l)

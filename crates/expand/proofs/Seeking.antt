@@ -30,14 +30,14 @@ use Rattle.laws.proofs.Counting as counting
 use Rattle.laws.proofs.Counting.{countBinary, countNode, countBody, count, count-is, visitNode, visitNode-is, visit, visit-is}
 use Rattle.laws.proofs.Seeking.{seekBinary, seekNode, seekBody, seek, seek-is}
 use Rattle.expand.specs.Meaning.{summary, binaryKind}
-use Rattle.expand.specs.Nodes.{IsNode, part, FirstNode, firstList, secondList, Lists}
+use Rattle.expand.specs.Nodes.{part, FirstNode, firstList, secondList, Lists}
 use Rattle.expand.specs.Steps.{Undoable}
 use Rattle.expand.specs.Places.{undoIf, found, Within, Goes, Leads, intoFirst, intoSecond, Onward}
 use Rattle.expand.specs.declared.visit.Summary.{Summary}
 use Rattle.expand.specs.declared.seek.Way.{Way}
 use Rattle.expand.specs.declared.seek.List.{List as ListAt}
 use Rattle.expand.proofs.Parts.{Three, the-part, put-part}
-use Rattle.expand.proofs.Nodes.{Shape, isLeaf, isGroup, isBinary, shape-of, part-length}
+use Rattle.expand.proofs.Nodes.{Shape, isLeaf, isGroup, isBinary, shape-of, part-length, first-low, FirstLeaf, leaf-node}
 use Rattle.expand.proofs.Steps.{fits-undoable}
 use Rattle.expand.proofs.Flattening.{bodyOf, at-least}
 
@@ -342,73 +342,66 @@ sought-some {tree} {t} {place} {at} s = go (length t) refl
     go zero e = absurd (let z = ap count (no-node t (s .packed) e) in omega (arith, s .below))
     go (suc n) e = omega arith
 
-module _ {tree t : List ℕ} {place at e : ℕ} {inverted : Bool} (s : Sought tree place t at inverted) (f : FirstNode t e) (one : Summary) (p : summary one ≡ visitNode (f .node)) where
+module _ {tree t : List ℕ} {place at e : ℕ} {inverted : Bool} (s : Sought tree place t at inverted) (f : FirstNode t e) where
   counted : count (unpack t) ≡ countNode (f .node) + count (unpack (part e (length t) t))
   unfolding count
   counted = ap count (f .unpacks)
 
-  exact : one .steps ≡ countNode (f .node)
-  exact = steps-exact one (f .node) (omega (arith, counted, s .few)) p
+  pub steps-of : (one : Summary) → summary one ≡ visitNode (f .node) → one .steps ≡ countNode (f .node)
+  steps-of one p = steps-exact one (f .node) (omega (arith, counted, s .few)) p
 
-  pub sought-past : one .steps ≤ at → Sought tree place (part e (length t) t) (at - one .steps) inverted
-  unfolding seek
-  sought-past h =
-      record {
-        packed = f .packedRest;
-        below = omega (arith, counted, exact, s .below);
-        few = omega (arith, counted, s .few);
-        same = s .same ∙ ap (λ (u : Tree). undoIf inverted (seek false u at)) (f .unpacks)
-            ∙ ap (undoIf inverted) passed;
-      }
-    where
-      passed : seek false (cons (f .node) (unpack (part e (length t) t))) at ≡ seek false (unpack (part e (length t) t)) (at - one .steps)
-      passed = rw (le-ltb at (countNode (f .node)) (omega (arith, exact)), exact)
+  -- passing over the node's steps or going into it
+  module _ {steps : ℕ} (exact : steps ≡ countNode (f .node)) where
+    pub sought-past : steps ≤ at → Sought tree place (part e (length t) t) (at - steps) inverted
+    unfolding seek
+    sought-past h =
+        record {
+          packed = f .packedRest;
+          below = omega (arith, counted, exact, s .below);
+          few = omega (arith, counted, s .few);
+          same = s .same ∙ ap (λ (u : Tree). undoIf inverted (seek false u at)) (f .unpacks)
+              ∙ ap (undoIf inverted) passed;
+        }
+      where
+        passed : seek false (cons (f .node) (unpack (part e (length t) t))) at ≡ seek false (unpack (part e (length t) t)) (at - steps)
+        passed = rw (le-ltb at (countNode (f .node)) (omega (arith, exact)), exact)
 
-  in-node : at < one .steps → seek false (unpack tree) place ≡ undoIf inverted (seekNode false (f .node) at)
-  unfolding seek
-  in-node h =
-      s .same ∙ ap (λ (u : Tree). undoIf inverted (seek false u at)) (f .unpacks)
-      ∙ ap (undoIf inverted) entered
-    where
-      entered : seek false (cons (f .node) (unpack (part e (length t) t))) at ≡ seekNode false (f .node) at
-      entered = rw (lt-ltb at (countNode (f .node)) (omega (arith, exact)))
+    in-node : at < steps → seek false (unpack tree) place ≡ undoIf inverted (seekNode false (f .node) at)
+    unfolding seek
+    in-node h =
+        s .same ∙ ap (λ (u : Tree). undoIf inverted (seek false u at)) (f .unpacks)
+        ∙ ap (undoIf inverted) entered
+      where
+        entered : seek false (cons (f .node) (unpack (part e (length t) t))) at ≡ seekNode false (f .node) at
+        entered = rw (lt-ltb at (countNode (f .node)) (omega (arith, exact)))
 
-  pub in-block : {k : ℕ} → at < one .steps → k ≡ field 0 (part 0 e t) / 16 → k ≤ 5 → Within (part 0 e t) (one .steps) at (f .node)
-  in-block h q l = record { isNode = f .isNode; counts = exact; below = h; few = omega (arith, exact, counted, s .few); low = omega arith }
+    pub in-block : {k : ℕ} → at < steps → k ≡ field 0 t / 16 → k ≤ 5 → Within (part 0 e t) steps at (f .node)
+    in-block h q l = record { isNode = f .isNode; counts = exact; below = h; few = omega (arith, exact, counted, s .few); low = first-low f q l }
 
-  pub sought-inside : {w : Way} {d : Bool} → at < one .steps → Onward (part 0 e t) (f .node) at w → ((o : Option Leaf) → undoIf inverted (undoIf (w .inverted) o) ≡ undoIf d o) →
-      Sought tree place (part (w .from) (w .to) (part 0 e t)) (w .place) d
-  sought-inside {w} h o c =
-      record { packed = o .packed; below = o .below; few = o .few; same = in-node h ∙ ap (undoIf inverted) (o .same) ∙ c (seek false (unpack (part (w .from) (w .to) (part 0 e t))) (w .place)) }
+    pub sought-inside : {w : Way} {d : Bool} → at < steps → Onward (part 0 e t) (f .node) at w → ((o : Option Leaf) → undoIf inverted (undoIf (w .inverted) o) ≡ undoIf d o) →
+        Sought tree place (part (w .from) (w .to) (part 0 e t)) (w .place) d
+    sought-inside {w} h o c =
+        record { packed = o .packed; below = o .below; few = o .few; same = in-node h ∙ ap (undoIf inverted) (o .same) ∙ c (seek false (unpack (part (w .from) (w .to) (part 0 e t))) (w .place)) }
 
-  -- a leaf is the step
-  pub found-leaf : {k : ℕ} → k ≡ field 0 (part 0 e t) / 16 → 5 < k → at < one .steps → (step : List ℕ) {now step′ : List ℕ} → now ≡ step →
-      ((x : Leaf) → Undoable x → part 0 e t ≡ leafRecord x → step′ ≡ leafRecord (pick inverted (undo x) x) ++ drop RECORD now) →
-      step′ ≡ found (seek false (unpack tree) place) ++ drop RECORD step
-  unfolding packNode FitsNode seekNode countNode
-  found-leaf {k} q h l step {now} {step′} w c = go (f .node) (f .isNode) (subst (λ (j : ℕ). Shape j (fromBits 32 (field 3 (part 0 e t))) (f .node)) (sym q) (shape-of (f .isNode))) (in-node l) exact
-    where
-      go : {m : ℤ} (n : Node Leaf) → IsNode (part 0 e t) n → Shape k m n → seek false (unpack tree) place ≡ undoIf inverted (seekNode false n at) → one .steps ≡ countNode n →
-          step′ ≡ found (seek false (unpack tree) place) ++ drop RECORD step
-      go (leaf x) i (isLeaf b) y z =
-          c x (fits-undoable x (i .fits)) (sym (i .bytes))
-          ∙ ap (λ (z : List ℕ). leafRecord (pick inverted (undo x) x) ++ drop RECORD z) w
-          ∙ ap (λ (o : Option Leaf). found o ++ drop RECORD step) (sym (y ∙ ap (undoIf inverted) here))
-        where
-          here : seekNode false (leaf x) at ≡ some x
-          here = rw (lt-ltb at 1 (omega arith))
-      go (block (group g a) m) i (isGroup b r) y z = absurd (omega arith)
-      go (block (binaryGroup g a b) m) i (isBinary b′ b″ r) y z = absurd (omega arith)
+-- a leaf is one step
+pub leaf-steps : {t : List ℕ} (l : FirstLeaf t) → 1 ≡ countNode (l .first .node)
+unfolding countNode
+leaf-steps l = sym (ap countNode (l .isStep))
 
--- a leaf is one record
-pub leaf-long : {bs : List ℕ} {k : ℕ} {n : Node Leaf} → IsNode bs n → k ≡ field 0 bs / 16 → 5 < k → length bs ≡ RECORD
-unfolding packNode
-leaf-long {bs} {k} {n} s e h = go n s (subst (λ (j : ℕ). Shape j (fromBits 32 (field 3 bs)) n) (sym e) (shape-of s))
+pub found-leaf : {tree t : List ℕ} {place at : ℕ} {inverted : Bool} → Sought tree place t at inverted → (l : FirstLeaf t) → at ≡ 0 → (step : List ℕ) {now step′ : List ℕ} → now ≡ step →
+    ((x : Leaf) → Undoable x → part 0 RECORD t ≡ leafRecord x → step′ ≡ leafRecord (pick inverted (undo x) x) ++ drop RECORD now) →
+    step′ ≡ found (seek false (unpack tree) place) ++ drop RECORD step
+unfolding packNode FitsNode seekNode
+found-leaf {tree} {t} {place} {at} {inverted} s l z step w c =
+    c x (fits-undoable x (leaf-node l .fits)) (sym (leaf-node l .bytes))
+    ∙ ap (λ (y : List ℕ). leafRecord (pick inverted (undo x) x) ++ drop RECORD y) w
+    ∙ ap (λ (o : Option Leaf). found o ++ drop RECORD step) (sym (in-node s (l .first) (leaf-steps l) (omega arith) ∙ ap (undoIf inverted) here))
   where
-    go : {m : ℤ} (n : Node Leaf) → IsNode bs n → Shape k m n → length bs ≡ RECORD
-    go (leaf x) s (isLeaf l) = ap length (sym (s .bytes)) ∙ length-record25 (leafHead x)
-    go (block (group g a) m) s (isGroup l q) = absurd (omega arith)
-    go (block (binaryGroup g a b) m) s (isBinary l l′ q) = absurd (omega arith)
+    x : Leaf
+    x = l .step
+
+    here : seekNode false (l .first .node) at ≡ some x
+    here = ap (λ (n : Node Leaf). seekNode false n at) (l .isStep) ∙ rw z
 
 pub inside-less : (t : List ℕ) (e : ℕ) {n : Node Leaf} {at : ℕ} (w : Way) → Onward (part 0 e t) n at w → length (part (w .from) (w .to) (part 0 e t)) < length t
 inside-less t e w o = omega (arith, part-length (w .from) (w .to) (part 0 e t), part-length 0 e t, o .least, o .order, o .most)

@@ -6,12 +6,12 @@ use mathlib.Core.List.{List}
 use mathlib.Core.Option.{Option, none, some}
 use native.Mathlib.Omega.{arith}
 use borrow.Author.Tests.{ne-eqb, eq-eqb, eqb-true, eqb-false, ltb-true}
-use lib.Dec.{eqb}
+use lib.Dec.{lit≤, eqb}
 use lib.IntN.{ℤ, pos, negsuc}
 use lib.ListN.{length, drop, length-take, length-drop}
 use Rattle.notation.specs.Numbers.{fromBits, toBits}
 use Rattle.notation.specs.Tree.{Leaf, rotation, move, pause, pair, slash, megaminx, Node, leaf, block, group, binaryGroup, Tree}
-use Rattle.notation.specs.Packed.{unpack}
+use Rattle.notation.specs.Packed.{RECORD, unpack}
 use Rattle.notation.specs.Invert.{isMin, overflows}
 use Rattle.notation.specs.declared.common.MegaminxScrambleMove.the-variants.{Rpp, Rmm, Dpp, Dmm}
 use Rattle.record.specs.Meaning.{field}
@@ -24,7 +24,7 @@ use Rattle.laws.proofs.Counting.{blockSummary, binarySummary, joinSummary, visi
 use Rattle.expand.specs.Meaning.{summary, Held, leafSum, overflowsAt, binaryKind}
 use Rattle.expand.specs.Nodes.{IsNode, part, FirstNode, firstList, secondList}
 use Rattle.expand.specs.declared.visit.Summary.{Summary}
-use Rattle.expand.proofs.Nodes.{fields-of, leafKind, leaf-kind, Shape, isLeaf, isGroup, isBinary, shape-of}
+use Rattle.expand.proofs.Nodes.{fields-of, leafKind, leaf-kind, Shape, isLeaf, isGroup, isBinary, shape-of, front-field, FirstLeaf, leaf-node}
 use Rattle.expand.proofs.Summaries.{same}
 
 -- the three ways of the test of a pair
@@ -68,19 +68,18 @@ overflows-of (megaminx Rmm) bs s = overflows-other (megaminx Rmm) bs s refl
 overflows-of (megaminx Dpp) bs s = overflows-other (megaminx Dpp) bs s refl
 overflows-of (megaminx Dmm) bs s = overflows-other (megaminx Dmm) bs s refl
 
+-- a leaf
+pub leaf-visited : {bs : List ℕ} (l : FirstLeaf bs) → leafSum (overflowsAt bs) ≡ visitNode (l .first .node)
+unfolding visitNode
+leaf-visited {bs} l = ap leafSum (front ∙ overflows-of (l .step) (part 0 RECORD bs) (leaf-node l)) ∙ ap visitNode (sym (l .isStep))
+  where
+    front : overflowsAt bs ≡ overflowsAt (part 0 RECORD bs)
+    front = rw (front-field bs RECORD (lit≤ tt) 0, front-field bs RECORD (lit≤ tt) 3, front-field bs RECORD (lit≤ tt) 4)
+
 -- the answers of `visit_node`, by the kind k and the multiplier's bits m of the record
 module _ (n : Node Leaf) (bs : List ℕ) (s : IsNode bs n) {k : ℕ} (e : k ≡ field 0 bs / 16) where
   kind-shape : Shape k (fromBits 32 (field 3 bs)) n
   kind-shape = rw e (shape-of s)
-
-  pub leaf-visited : 5 < k → leafSum (overflowsAt bs) ≡ visitNode n
-  unfolding visitNode
-  leaf-visited h = go n s kind-shape
-    where
-      go : {m : ℤ} (n : Node Leaf) → IsNode bs n → Shape k m n → leafSum (overflowsAt bs) ≡ visitNode n
-      go (leaf x) s (isLeaf l) = ap leafSum (overflows-of x bs s)
-      go (block (group g a) m) s (isGroup l q) = absurd (omega arith)
-      go (block (binaryGroup g a b) m) s (isBinary l l′ q) = absurd (omega arith)
 
   pub group-visited : {m : ℕ} → m ≡ field 3 bs → k < 4 → (A : counting.Summary) → A ≡ visit (firstList n) →
       blockSummary (eqb k 3) (fromBits 32 m) A ≡ visitNode n
@@ -92,7 +91,7 @@ module _ (n : Node Leaf) (bs : List ℕ) (s : IsNode bs n) {k : ℕ} (e : k ≡ 
       go (block (group g a) m) (isGroup l q) p = ap₂ (λ (t : Bool) (s : counting.Summary). blockSummary t m s) q p
       go (block (binaryGroup g a b) m) (isBinary l l′ q) p = absurd (omega arith)
 
-  pub binary-visited : {m : ℕ} → m ≡ field 3 bs → k ≤ 5 → 4 ≤ k → (A B : counting.Summary) → A ≡ visit (firstList n) → B ≡ visit (secondList n) →
+  pub binary-visited : {m : ℕ} → m ≡ field 3 bs → field 0 bs / 16 ≤ 5 → 4 ≤ k → (A B : counting.Summary) → A ≡ visit (firstList n) → B ≡ visit (secondList n) →
       blockSummary false (fromBits 32 m) (binarySummary (binaryKind (eqb k 4)) A B) ≡ visitNode n
   unfolding visitNode visitBody
   binary-visited f h h′ A B p p′ = rw f (go n kind-shape p p′)

@@ -2,7 +2,7 @@
 ghost use mathlib.Core.Path.{_≡_};
 ghost use mathlib.Core.Bool.{false};
 ghost use mathlib.Core.List.{List, _++_};
-ghost use Prim.Native.Nat.{ℕ, _+_, _*_, _≤_};
+ghost use Prim.Native.Nat.{ℕ, _+_, _*_, _/_, _≤_};
 ghost use lib.IntN.{natAbs};
 ghost use lib.ListN.{length, take, drop};
 ghost use Rattle.notation.specs.Tree.{Node, Leaf};
@@ -12,6 +12,7 @@ ghost use Rattle.notation.specs.Packed.{RECORD as recordSize, leafRecord, unpac
 ghost use Rattle.notation.specs.declared.common.MegaminxScrambleMove.{MegaminxScrambleMove};
 ghost use Rattle.notation.specs.Entries.{records};
 ghost use Rattle.notation.specs.Unroll.{copies, turned};
+ghost use Rattle.record.specs.Meaning.{field};
 ghost use Rattle.laws.proofs.Walking.{Packed};
 ghost use Rattle.laws.proofs.Unrolling.{backwards, flatBinary, flatNode, flat};
 ghost use Rattle.laws.proofs.Counting.{count, countNode};
@@ -39,23 +40,38 @@ pub fn flatten(tree: &[u8], out: &mut [u8]) -> usize
     let mut t = tree;
     let mut at = 0;
     while 0 < t.len() {
-        let end = node_end(t);
-        let size = flatten_node(&t[0..end], &mut out[at..]);
-        at += size;
-        t = &t[end..];
+        // A leaf is one record, which is the step.
+        if 5 < fields::kind(t) {
+            copy_record(&t[0..RECORD], &mut out[at..]);
+            at += RECORD;
+            t = &t[RECORD..];
+        } else {
+            let end = node_end(t);
+            let size = flatten_node(&t[0..end], &mut out[at..]);
+            at += size;
+            t = &t[end..];
+        }
     }
     at
 }
 
-// The same of a node, given its bytes. What is repeated 0 times is not entered.
+// Copies a record by way of bytes of its own: since these lie apart from both, the compiler may move many at a time.
+fn copy_record(from: &[u8], out: &mut [u8])
+    requires { ⌜ (length (now from) ≡ recordSize) × (length (now from) ≤ length (now out)) ⌝ }
+    ensures { λ _. ⌜ now (out .exit) ≡ take (length (now (from .entry))) (now (from .entry)) ++ drop (length (now (from .entry))) (now (out .entry)) ⌝ }
+{
+    let mut held = [0; RECORD];
+    copy(from, &mut held);
+    copy(&held, out);
+}
+
+// The same of a group, given its bytes. What is repeated 0 times is not entered.
 fn flatten_node(node: &[u8], out: &mut [u8]) -> usize
     requires { ⌜ ((n : Node Leaf) × (IsNode (now node) n × (recordSize * countNode n ≤ length (now out)))) ⌝ }
+    requires { ⌜ field 0 (now node) / 16 ≤ 5 ⌝ }
     ensures { λ r. ⌜ ((n : Node Leaf) → IsNode (now (node .entry)) n → Wrote (now (out .entry)) (now (out .exit)) (flatNode undo false n) r) ⌝ }
 {
     let kind = fields::kind(node);
-    if 5 < kind {
-        return copy(node, out);
-    }
     let multiplier = fields::number(node);
     if multiplier == 0 {
         return 0;

@@ -53,24 +53,30 @@ pub fn seek(tree: &[u8], place: u64, step: &mut [u8])
     let mut at = place;
     let mut inverted = false;
     loop {
-        let end = node_end(t);
-        let node = &t[0..end];
-        let summary = visit_node(node);
-        let steps = summary.steps;
-        if steps <= at {
-            at -= steps;
-            t = &t[end..];
-        } else {
-            if 5 < fields::kind(node) {
-                write_step(node, inverted, step);
+        // A leaf is one step.
+        if 5 < fields::kind(t) {
+            if at == 0 {
+                write_step(&t[0..RECORD], inverted, step);
                 return;
             }
-            let way = in_block(node, steps, at);
-            let from = way.from;
-            let to = way.to;
-            at = way.place;
-            inverted = differ(inverted, way.inverted);
-            t = &node[from..to];
+            at -= 1;
+            t = &t[RECORD..];
+        } else {
+            let end = node_end(t);
+            let node = &t[0..end];
+            let summary = visit_node(node);
+            let steps = summary.steps;
+            if steps <= at {
+                at -= steps;
+                t = &t[end..];
+            } else {
+                let way = in_block(node, steps, at);
+                let from = way.from;
+                let to = way.to;
+                at = way.place;
+                inverted = differ(inverted, way.inverted);
+                t = &node[from..to];
+            }
         }
     }
 }

@@ -1,10 +1,11 @@
 // One visit of each record tells how many steps a tree unrolls into and the first refusal met in each direction.
 ghost use mathlib.Core.Path.{_≡_};
-ghost use Prim.Native.Nat.{_≤_, min};
+ghost use Prim.Native.Nat.{_/_, _≤_, min};
 ghost use lib.ListN.{length};
 ghost use Rattle.notation.specs.Tree.{Node, Leaf};
 ghost use Rattle.notation.specs.Numbers.{fromBits};
 ghost use Rattle.notation.specs.Packed.{RECORD as recordSize, unpack};
+ghost use Rattle.record.specs.Meaning.{field};
 ghost use Rattle.laws.proofs.Walking.{Packed};
 ghost use Rattle.laws.proofs.Unrolling as unrolling;
 ghost use Rattle.laws.proofs.Counting as counting;
@@ -44,23 +45,27 @@ pub fn visit(tree: &[u8]) -> Summary
         backward: 0,
     };
     while 0 < t.len() {
-        let end = node_end(t);
-        let first = visit_node(&t[0..end]);
-        sum = join(sum, first);
-        t = &t[end..];
+        // A leaf, which most nodes are, is one record: its counts need not be read.
+        if 5 < fields::kind(t) {
+            sum = join(sum, of_leaf(overflows(t)));
+            t = &t[RECORD..];
+        } else {
+            let end = node_end(t);
+            let first = visit_node(&t[0..end]);
+            sum = join(sum, first);
+            t = &t[end..];
+        }
     }
     sum
 }
 
-// Sums up a node, given its bytes.
+// Sums up a group, given its bytes.
 pub(crate) fn visit_node(node: &[u8]) -> Summary
     requires { ⌜ ((n : Node Leaf) × IsNode (now node) n) ⌝ }
+    requires { ⌜ field 0 (now node) / 16 ≤ 5 ⌝ }
     ensures { λ r. ⌜ ((n : Node Leaf) → IsNode (now (node .entry)) n → summary r ≡ counting.visitNode n) ⌝ }
 {
     let kind = fields::kind(node);
-    if 5 < kind {
-        return of_leaf(overflows(node));
-    }
     let multiplier = fields::number(node);
     let middle = first_end(node);
     let a = visit(&node[RECORD..middle]);

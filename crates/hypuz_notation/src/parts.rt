@@ -8,8 +8,9 @@ ghost use Rattle.hypuz_notation.specs.Parts.{partOutcome, Inside};
 use crate::check::check;
 use notation::answer::Answer;
 use record::RECORD;
-use record::decode::decode;
-use record::spanned::Record;
+use record::decode::family_of;
+use record::decode::layers;
+use record::fields;
 use record::spanned::Span;
 
 const MAX_LAYER: u32 = 32767;
@@ -17,6 +18,11 @@ const MAX_LAYER: u32 = 32767;
 const NO_SUCH_LAYER_COUNT: u8 = 11;
 
 const NO_SUCH_RECORD: u8 = 12;
+
+// The kinds of records that name a family.
+const ROTATION: u8 = 6;
+
+const MOVE: u8 = 7;
 
 // A part of the text, or why there is none.
 pub enum PartAnswer {
@@ -50,10 +56,11 @@ pub fn simplify(
         return Answer::Refused(NO_SUCH_RECORD);
     }
     let from = RECORD * (record as usize);
-    let Record::Move(m) = decode(&tree[from..]) else {
+    let found = &tree[from..];
+    if fields::kind(found) != MOVE {
         return Answer::Refused(NO_SUCH_RECORD);
-    };
-    let layers = m.layers;
+    }
+    let layers = layers(found);
     simplify::simplify(text, layers, max_layer as u16, allow_negatives, out)
 }
 
@@ -70,17 +77,15 @@ pub fn family_part(text: &[u8], tree: &[u8], record: u64) -> PartAnswer
         return PartAnswer::Refused(NO_SUCH_RECORD);
     }
     let from = RECORD * (record as usize);
-    match decode(&tree[from..]) {
-        Record::Move(m) => {
-            let family = m.family;
-            PartAnswer::Part(family)
-        }
-        Record::Rotation(x) => {
-            let family = x.family;
-            PartAnswer::Part(family)
-        }
-        _ => PartAnswer::Refused(NO_SUCH_RECORD),
+    let found = &tree[from..];
+    let kind = fields::kind(found);
+    if kind < ROTATION {
+        return PartAnswer::Refused(NO_SUCH_RECORD);
     }
+    if MOVE < kind {
+        return PartAnswer::Refused(NO_SUCH_RECORD);
+    }
+    PartAnswer::Part(family_of(found))
 }
 
 // The family itself: the very part of the caller's text, and an empty one where there is none.

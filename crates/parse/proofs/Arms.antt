@@ -1,4 +1,4 @@
--- What each arm of `node` returns, from the first byte. Assumes nothing.
+-- What `node` and `any_group` return, by the first byte. Assumes nothing.
 use Prim.Native.Nat.{ℕ, suc, _+_, _*_, _-_, _<_, _≤_}
 use mathlib.Core.Path.{_≡_, refl, sym, ap, _∙_}
 use mathlib.Core.Bool.{false}
@@ -19,12 +19,11 @@ use Rattle.notation.specs.Grammar.{Reading, rejected, read, Reader, fail, andTh
 use Rattle.notation.specs.declared.features.Features.{Features}
 use Rattle.parse.specs.declared.nodes.NodeAnswer.{NodeAnswer}
 use Rattle.parse.specs.declared.nodes.NodeAnswer.the-variants.{Took, Nothing}
-use Rattle.parse.specs.Nodes.{Kept, NodeRead, NoNode, Told, repeated}
+use Rattle.parse.specs.Nodes.{Kept, NodeRead, NoNode, Told, nested, repeated}
 use Rattle.parse.proofs.Buffers.{kept-all, kept-then}
 use Rattle.parse.proofs.Readings.{or-none}
-use Rattle.parse.proofs.Choices.{times, just-no, opens-none, node-choice}
-use Rattle.parse.proofs.FirstBytes.{is-end}
-use Rattle.parse.proofs.LeafNodes.{no-leaf-of}
+use Rattle.parse.proofs.Choices.{times, just-no, nothing-nested, node-choice}
+use Rattle.parse.proofs.Pairs.{no-nested}
 
 -- the bytes that a group starts with
 abbrev pub openers : List ℕ
@@ -76,62 +75,65 @@ module _ (text : List ℕ) (at slot : ℕ) where
     abbrev pub binaries : ℕ → Reader (Node Leaf)
     binaries k = repeated (binaryGroupNode (nodeList f k))
 
+    abbrev pub either : ℕ → Reader (Node Leaf)
+    either k = repeated (nested (nodeList f k))
+
     abbrev pub leaves : ℕ → Reader (Node Leaf)
     leaves _ = node f fail
 
-    pub none-at-end : (old : List ℕ) → length text ≤ at → NoNode nodes text at slot old old
-    none-at-end old h =
+    -- What `any_group` returns: nothing where no group can start,
+    none : eqb (byteAt (drop at text) 0) 40 ≡ false → eqb (byteAt (drop at text) 0) 33 ≡ false → eqb (byteAt (drop at text) 0) 38 ≡ false →
+        eqb (byteAt (drop at text) 0) 94 ≡ false → eqb (byteAt (drop at text) 0) 91 ≡ false → (old : List ℕ) → NoNode either text at slot old old
+    none p₁ p₂ p₃ p₄ p₅ old =
         record {
-          rejects = λ k _.
-              opens-none (nodeList f k) at (drop at text) (past 40 refl) (past 33 refl) (past 38 refl) (past 94 refl) (past 91 refl) f
-              ∙ no-leaf-of (node f fail at (drop at text)) (is-end f text at h);
+          rejects = λ k _. ap (λ (r : Reading (ℤ → Node Leaf)). andThen r times) (nothing-nested (nodeList f k) at (drop at text) p₁ p₂ p₃ p₄ p₅);
           kept = kept-all (RECORD * slot) old;
         }
+
+    pub none-at-end : (old : List ℕ) → length text ≤ at → NoNode either text at slot old old
+    none-at-end old h = none (past 40 refl) (past 33 refl) (past 38 refl) (past 94 refl) (past 91 refl) old
       where
         past : (b : ℕ) → eqb 256 b ≡ false → eqb (byteAt (drop at text) 0) b ≡ false
         past b e = rw (drop-of-length-le text h) e
-
-    -- a rule that is tried before a leaf
-    module _ (p : ℕ → Reader (Node Leaf)) (choice : (k : ℕ) → nodes k at (drop at text) ≡ orElse (p k at (drop at text)) (node f fail) at (drop at text)) where
-      pub first-took : (old new : List ℕ) (next end : ℕ) → NodeRead p text at slot old new next end → NodeRead nodes text at slot old new next end
-      first-took old new next end t =
-          record {
-            node = t .node;
-            reads = λ k l. choice k ∙ ap (λ (r : Reading (Node Leaf)). orElse r (node f fail) at (drop at text)) (t .reads k l);
-            slots = t .slots;
-            advances = t .advances;
-            inside = t .inside;
-            wrote = t .wrote;
-          }
-
-      pub leaf-instead : (old mid new : List ℕ) (r : NodeAnswer) → NoNode p text at slot old mid → Told leaves text at slot mid new r → Told nodes text at slot old new r
-      leaf-instead old mid new r g t =
-          told-after nodes old mid new r (g .kept)
-          (told-as leaves nodes mid new r (λ k l. choice k ∙ ap (λ (r : Reading (Node Leaf)). orElse r (node f fail) at (drop at text)) (g .rejects k l)) t)
 
     module _ (h : at < length text) where
       here : (b : ℕ) → (getD text at 0 ≡ b → ⊥) → eqb (byteAt (drop at text) 0) b ≡ false
       here b e = ne-eqb (byteAt (drop at text) 0) b (λ q. e (in-text text at h ∙ sym (first-byte text at) ∙ q))
 
-      pub group-first : (getD text at 0 ≡ 91 → ⊥) → (k : ℕ) → nodes k at (drop at text) ≡ orElse (groups k at (drop at text)) (node f fail) at (drop at text)
-      group-first e k =
-          node-choice f (nodeList f k) at (drop at text)
-          ∙ ap (λ (r : Reading (ℤ → Node Leaf)). orElse (andThen r times) (node f fail) at (drop at text))
-          (or-last (groupNode (nodeList f k) at (drop at text)) (binaryGroupNode (nodeList f k)) at (drop at text) (no-binary (nodeList f k) at (drop at text) (here 91 e)))
+      pub none-opened : (OneOf openers (getD text at 0) → ⊥) → (getD text at 0 ≡ 91 → ⊥) → (old : List ℕ) → NoNode either text at slot old old
+      none-opened e b old =
+          none (here 40 (λ q. e (inr (inr (inl q))))) (here 33 (λ q. e (inl q))) (here 38 (λ q. e (inr (inl q)))) (here 94 (λ q. e (inr (inr (inr q))))) (here 91 b) old
 
-      pub bracket-first : getD text at 0 ≡ 91 → (k : ℕ) → nodes k at (drop at text) ≡ orElse (binaries k at (drop at text)) (node f fail) at (drop at text)
-      bracket-first e k =
-          node-choice f (nodeList f k) at (drop at text)
-          ∙ ap (λ (r : Reading (ℤ → Node Leaf)). orElse (andThen r times) (node f fail) at (drop at text))
+      -- or else what the one that can start returns.
+      pub a-group : (getD text at 0 ≡ 91 → ⊥) → (old new : List ℕ) (r : NodeAnswer) → Told groups text at slot old new r → Told either text at slot old new r
+      a-group e old new r =
+          told-as groups either old new r
+          (λ k _. ap (λ (r : Reading (ℤ → Node Leaf)). andThen r times)
+          (or-last (groupNode (nodeList f k) at (drop at text)) (binaryGroupNode (nodeList f k)) at (drop at text) (no-binary (nodeList f k) at (drop at text) (here 91 e))))
+
+      pub a-bracket : getD text at 0 ≡ 91 → (old new : List ℕ) (r : NodeAnswer) → Told binaries text at slot old new r → Told either text at slot old new r
+      a-bracket e old new r =
+          told-as binaries either old new r
+          (λ k _. ap (λ (r : Reading (ℤ → Node Leaf)). andThen r times)
           (or-none (groupNode (nodeList f k) at (drop at text)) (binaryGroupNode (nodeList f k)) at (drop at text)
-          (rw (drop-cons text at 0 h, e) (no-group (nodeList f k) at (drop (suc at) text))))
+          (rw (drop-cons text at 0 h, e) (no-group (nodeList f k) at (drop (suc at) text)))))
 
-      pub a-leaf : (OneOf openers (getD text at 0) → ⊥) → (getD text at 0 ≡ 91 → ⊥) →
-          (old new : List ℕ) (r : NodeAnswer) → Told leaves text at slot old new r → Told nodes text at slot old new r
-      a-leaf e b old new r =
-          told-as leaves nodes old new r
-          (λ k _. opens-none (nodeList f k) at (drop at text) (here 40 (λ q. e (inr (inr (inl q))))) (here 33 (λ q. e (inl q))) (here 38 (λ q. e (inr (inl q))))
-          (here 94 (λ q. e (inr (inr (inr q))))) (here 91 b) f)
+    -- What `node` returns: a leaf, where no group stands, or else a group.
+    pub leaf-first : (old new : List ℕ) (next end : ℕ) → NodeRead leaves text at slot old new next end → NodeRead nodes text at slot old new next end
+    leaf-first old new next end t =
+        told-as leaves nodes old new (Took next end)
+        (λ k l.
+            node-choice f (nodeList f k) at (drop at text)
+            ∙ ap (λ (r : Reading (ℤ → Node Leaf)). orElse (andThen r times) (node f fail) at (drop at text))
+            (no-nested f k at (drop at text) (t .node) next (drop next text) (t .reads k l))) t
+
+    pub group-instead : (old mid new : List ℕ) (r : NodeAnswer) → NoNode leaves text at slot old mid → Told either text at slot mid new r → Told nodes text at slot old new r
+    group-instead old mid new r g t =
+        told-after nodes old mid new r (g .kept)
+        (told-as either nodes mid new r
+        (λ k l.
+            node-choice f (nodeList f k) at (drop at text)
+            ∙ or-last (andThen (nested (nodeList f k) at (drop at text)) times) (node f fail) at (drop at text) (g .rejects k l)) t)
 
 pub no-bracket-byte : (b : ℕ) → OneOf openers b → b ≡ 91 → ⊥
 no-bracket-byte b = ⊎-elim (λ e q. omega arith) (⊎-elim (λ e q. omega arith) (⊎-elim (λ e q. omega arith) (λ e q. omega arith)))

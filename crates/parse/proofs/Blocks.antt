@@ -1,6 +1,6 @@
 -- What the readers of groups return. Assumes nothing.
 use Prim.Native.Nat.{ℕ, _+_, _*_, _-_, _≤_}
-use mathlib.Core.Path.{_≡_}
+use mathlib.Core.Path.{_≡_, ap}
 use mathlib.Core.Bool.{true, false}
 use mathlib.Core.List.{List, _++_}
 use native.Mathlib.Omega.{arith}
@@ -11,7 +11,7 @@ use Rattle.record.proofs.RoundTrip.{length-record25}
 use Rattle.notation.specs.Utf8.{byteAt}
 use Rattle.notation.specs.Numbers.{fromBits}
 use Rattle.notation.specs.Tree.{block, group, binaryGroup}
-use Rattle.notation.specs.Packed.{RECORD, Head, groupHead, binaryHead, record25, nodeSize, bodySize, size, packNode, packBody, pack}
+use Rattle.notation.specs.Packed.{RECORD, widths, layOut, headFields, Head, groupHead, binaryHead, record25, nodeSize, bodySize, size, packNode, packBody, pack}
 use Rattle.notation.specs.Grammar.{rejected, read, groupKind, groupNode, binaryGroupKind, binaryGroupNode, nodeList}
 use Rattle.notation.specs.declared.features.Features.{Features}
 use Rattle.notation.specs.declared.common.GroupKind.{GroupKind}
@@ -25,11 +25,15 @@ use Rattle.parse.proofs.Groups.{group-unopened, group-unclosed, group-r
 inner-kept : (slot : ℕ) (xs old mid : List ℕ) → Wrote (RECORD * (slot + 1)) xs old mid → Kept (RECORD * slot) old mid
 inner-kept slot xs old mid w = kept-less (RECORD * slot) (RECORD * (slot + 1)) old mid (omega arith) (w .kept)
 
--- a group's record before those of its lists
-outer : (slot : ℕ) (h : Head) (xs old mid : List ℕ) → Wrote (RECORD * (slot + 1)) xs old mid →
-    Wrote (RECORD * slot) (record25 h ++ xs) old (put (RECORD * slot) (record25 h) mid)
-outer slot h xs old mid w =
-    header (RECORD * slot) (RECORD * (slot + 1)) (record25 h) xs old mid (omega (arith, length-record25 h)) w
+laid : (fs : List ℕ) (h : Head) → fs ≡ headFields h → layOut widths fs ≡ record25 h
+unfolding record25
+laid fs h e = ap (layOut widths) e
+
+-- a group's record, written by its fields, before those of its lists
+outer : (slot : ℕ) (fs : List ℕ) (h : Head) → fs ≡ headFields h → (xs old mid : List ℕ) → Wrote (RECORD * (slot + 1)) xs old mid →
+    Wrote (RECORD * slot) (record25 h ++ xs) old (put (RECORD * slot) (layOut widths fs) mid)
+outer slot fs h e xs old mid w =
+    rw (laid fs h e) (header (RECORD * slot) (RECORD * (slot + 1)) (record25 h) xs old mid (omega (arith, length-record25 h)) w)
 
 module _ (f : Features) (text : List ℕ) (at slot : ℕ) (old : List ℕ) where
   module _ (kind : GroupKind) (bracket : ℕ) (starts : read kind bracket (drop bracket text) ≡ groupKind at (drop at text)) where
@@ -52,10 +56,10 @@ module _ (f : Features) (text : List ℕ) (at slot : ℕ) (old : List ℕ) where
             kept = inner-kept slot (pack (list .tree)) old mid (list .wrote);
           }
 
-      pub closed-group : (bits next : ℕ) → CloseRead text close 41 bits next →
-          NodeRead (λ k. repeated (groupNode (nodeList f k))) text at slot old (put (RECORD * slot) (record25 (groupHead kind (end - (slot + 1)) (fromBits 32 bits))) mid) next end
+      pub closed-group : (bits next : ℕ) (fs : List ℕ) → fs ≡ headFields (groupHead kind (end - (slot + 1)) (fromBits 32 bits)) → CloseRead text close 41 bits next →
+          NodeRead (λ k. repeated (groupNode (nodeList f k))) text at slot old (put (RECORD * slot) (layOut widths fs) mid) next end
       unfolding nodeSize bodySize packNode packBody
-      closed-group bits next closes =
+      closed-group bits next fs laid closes =
           let records : end - (slot + 1) ≡ size (list .tree) = omega (arith, list .slots) in
           record {
             node = block (group kind (list .tree)) (fromBits 32 bits);
@@ -64,7 +68,7 @@ module _ (f : Features) (text : List ℕ) (at slot : ℕ) (old : List ℕ) where
             slots = omega (arith, list .slots);
             advances = omega (arith, list .advances, closes .advances);
             inside = closes .inside;
-            wrote = rw records (outer slot (groupHead kind (size (list .tree)) (fromBits 32 bits)) (pack (list .tree)) old mid (list .wrote));
+            wrote = outer slot fs (groupHead kind (size (list .tree)) (fromBits 32 bits)) (rw records at laid) (pack (list .tree)) old mid (list .wrote);
           }
 
   module _ (opens : eqb (byteAt text at) 91 ≡ true) (mid : List ℕ) (sign middle : ℕ) (a : ListRead f text (at + 1) (slot + 1) old mid sign middle) where
@@ -94,11 +98,12 @@ module _ (f : Features) (text : List ℕ) (at slot : ℕ) (old : List ℕ) where
             kept = inner-kept slot (pack (a .tree) ++ pack (b .tree)) old last both;
           }
 
-      pub closed-binary : (bits next : ℕ) → CloseRead text close 93 bits next →
+      pub closed-binary : (bits next : ℕ) (fs : List ℕ) → fs ≡ headFields (binaryHead kind (middle - (slot + 1)) (end - middle) (fromBits 32 bits)) →
+          CloseRead text close 93 bits next →
           NodeRead (λ k. repeated (binaryGroupNode (nodeList f k))) text at slot old
-          (put (RECORD * slot) (record25 (binaryHead kind (middle - (slot + 1)) (end - middle) (fromBits 32 bits))) last) next end
+          (put (RECORD * slot) (layOut widths fs) last) next end
       unfolding nodeSize bodySize packNode packBody
-      closed-binary bits next closes =
+      closed-binary bits next fs laid closes =
           let left : middle - (slot + 1) ≡ size (a .tree) = omega (arith, a .slots) in
           let right : end - middle ≡ size (b .tree) = omega (arith, b .slots) in
           record {
@@ -108,6 +113,5 @@ module _ (f : Features) (text : List ℕ) (at slot : ℕ) (old : List ℕ) where
             slots = omega (arith, a .slots, b .slots);
             advances = omega (arith, a .advances, b .advances, closes .advances);
             inside = closes .inside;
-            wrote = rw (left, right)
-                (outer slot (binaryHead kind (size (a .tree)) (size (b .tree)) (fromBits 32 bits)) (pack (a .tree) ++ pack (b .tree)) old last both);
+            wrote = outer slot fs (binaryHead kind (size (a .tree)) (size (b .tree)) (fromBits 32 bits)) (rw (left, right) at laid) (pack (a .tree) ++ pack (b .tree)) old last both;
           }

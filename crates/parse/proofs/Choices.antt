@@ -14,6 +14,7 @@ use Rattle.notation.specs.Tree.{Node, leaf, Leaf, Tree}
 use Rattle.notation.specs.Grammar.{Reading, rejected, read, Reader, andThen, orElse, _or_, done, fail, when, just, word, uint, multiplier, rotationNode, moveNode, groupKind, groupNode, binaryGroupNode, megaminxScrambleMove, sq1Move, node}
 use Rattle.notation.specs.declared.features.Features.{Features}
 use Rattle.notation.specs.declared.common.MegaminxScrambleMove.{MegaminxScrambleMove}
+use Rattle.parse.specs.Nodes.{nested}
 use Rattle.parse.proofs.Readings.{never, or-none, when-none}
 
 -- a character does not stand where another does, or nothing
@@ -30,11 +31,7 @@ or-same (read a i t) p q at s e = refl
 abbrev pub times : (ℤ → Node Leaf) → Reader (Node Leaf)
 times inner at s = andThen (multiplier at s) (λ m. done (inner m))
 
--- a group or a bracket
-abbrev pub nested : Reader Tree → Reader (ℤ → Node Leaf)
-nested list at s = orElse (groupNode list at s) (binaryGroupNode list) at s
-
--- the rules before and after that one
+-- the rules before and after a group or a bracket
 abbrev pub pause : Reader (Node Leaf)
 pause at s = andThen (just "." at s) (λ _. done (leaf tree.pause))
 
@@ -90,7 +87,7 @@ inner-none f list at s e = or-same (rotationNode f at s) _ _ at s (go (groupNode
     go (read i e t) q = never (sym q)
 
 -- Where no group or bracket is read, the lists do not matter.
-pub none-nested : (f : Features) (list : Reader Tree) (at : ℕ) (s : List ℕ) → nested list at s ≡ rejected → node f list at s ≡ node f fail at s
+none-nested : (f : Features) (list : Reader Tree) (at : ℕ) (s : List ℕ) → nested list at s ≡ rejected → node f list at s ≡ node f fail at s
 none-nested f list at s e = node-by f list at s ∙ by-same f (inner f list) (inner f fail) at s (inner-none f list at s e) ∙ sym (node-by f fail at s)
 
 -- At a first byte that opens none, and at the end of the text.
@@ -99,9 +96,6 @@ module _ (list : Reader Tree) (at : ℕ) (s : List ℕ)
   pub nothing-nested : nested list at s ≡ rejected
   unfolding groupNode binaryGroupNode
   nothing-nested = simp (just-no "!" at s p₂, just-no "&" at s p₃, just-no "^" at s p₄, just-no "(" at s p₁, just-no "[" at s p₅)
-
-  pub opens-none : (f : Features) → node f list at s ≡ node f fail at s
-  opens-none f = none-nested f list at s nothing-nested
 
 -- A group or a bracket starts at none of the bytes that the rules before it start at.
 module _ (list : Reader Tree) (at : ℕ) where

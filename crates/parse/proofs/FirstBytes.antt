@@ -9,24 +9,21 @@ use lib.Dec.{eqb}
 use lib.ListN.{length, getD, drop, drop-of-length-le}
 use lib.Seq.{drop-cons}
 use lib.IntN.{ℤ}
-use Rattle.notation.specs.Basics.{oneOf}
-use Rattle.notation.specs.Chars.{isFamilyChar, classify}
-use Rattle.notation.specs.Numbers.{digitRun}
-use Rattle.notation.specs.Utf8.{run, byteAt, runFrom, codePoint, charWidth}
+use Rattle.notation.specs.Utf8.{byteAt}
 use Rattle.notation.specs.Tree as tree
-use Rattle.notation.specs.Tree.{Node, leaf, Leaf, noLayers, layerSet}
-use Rattle.notation.specs.Packed.{Head, leafHead}
-use Rattle.notation.specs.Grammar.{Reading, rejected, read, Reader, andThen, orElse, done, fail, when, uint, multiplier, tilde, layer, layerPrefixContents, layerSetElements, spanned, rotationNode, moveNode, megaminxScrambleMove, sq1Move, node}
+use Rattle.notation.specs.Tree.{Node, leaf, Leaf}
+use Rattle.notation.specs.Packed.{leafFields}
+use Rattle.notation.specs.Grammar.{Reading, rejected, read, Reader, andThen, orElse, done, fail, when, multiplier, rotationNode, moveNode, megaminxScrambleMove, sq1Move, node}
 use Rattle.notation.specs.declared.features.Features.{Features}
 use Rattle.charsets.proofs.Texts.{in-text, first-byte}
-use Rattle.parse.specs.Meaning.{nodeHead, repeated, leafHeadOf, scrambleHead, scrambleOrMove, numberedLayers}
+use Rattle.parse.specs.Meaning.{nodeFields, repeated, leafRead, scrambleRead, scrambleOrMove}
 use Rattle.numbers.proofs.Bounds.{just-byte}
 use Rattle.parse.proofs.Readings.{assoc, or-none, when-none}
-use Rattle.parse.proofs.LayerSets.{no-layers}
-use Rattle.parse.proofs.Choices.{just-no, or-same, times, pause, scramble, sq1, inner, node-by, by-same, inner-fail, no-pause, scramble-none, rotation-none, sq1-none}
+use Rattle.parse.proofs.Bare.{Bare, bare-move, bare-node, bare-end, bare-parenthesis, bare-slash, bare-at-sign}
+use Rattle.parse.proofs.Choices.{or-same, times, pause, scramble, sq1, inner, node-by, by-same, inner-fail, no-pause, scramble-none, rotation-none, sq1-none}
 
-abbrev pub headed : Reading (Node Leaf) → Reading Head
-headed r = andThen r (λ n. done (nodeHead n))
+abbrev pub headed : Reading (Node Leaf) → Reading (List ℕ)
+headed r = andThen r (λ n. done (nodeFields n))
 
 head-or : (r : Reading (Node Leaf)) (q : Reader (Node Leaf)) (at : ℕ) (s : List ℕ) → headed (orElse r q at s) ≡ orElse (headed r) (λ at s. headed (q at s)) at s
 head-or rejected q at s = refl
@@ -38,23 +35,23 @@ or-last (read a i t) q at s e = refl
 
 head-times : (r : Reading (ℤ → Node Leaf)) → headed (andThen r times) ≡ repeated r
 head-times rejected = refl
-head-times (read i e t) = sym (assoc (multiplier e t) (λ m. done (i m)) (λ n. done (nodeHead n)))
+head-times (read i e t) = sym (assoc (multiplier e t) (λ m. done (i m)) (λ n. done (nodeFields n)))
 
 head-leaf : {A : Type 0} (b : Bool) (p : Reader A) (x : A → Leaf) (at : ℕ) (s : List ℕ) →
-    headed (when b (λ at s. andThen (p at s) (λ a. done (leaf (x a)))) at s) ≡ andThen (when b p at s) (λ a. done (leafHead (x a)))
-head-leaf true p x at s = sym (assoc (p at s) (λ a. done (leaf (x a))) (λ n. done (nodeHead n)))
+    headed (when b (λ at s. andThen (p at s) (λ a. done (leaf (x a)))) at s) ≡ andThen (when b p at s) (λ a. done (leafFields (x a)))
+head-leaf true p x at s = sym (assoc (p at s) (λ a. done (leaf (x a))) (λ n. done (nodeFields n)))
 head-leaf false p x at s = refl
 
 -- the choices of a node without lists
 module _ (f : Features) where
-  abbrev last : Reader Head
-  last at s = leafHeadOf (when (f .sq1) sq1Move at s)
+  abbrev last : Reader (List ℕ)
+  last at s = leafRead (when (f .sq1) sq1Move at s)
 
-  abbrev turned : Reader Head
+  abbrev turned : Reader (List ℕ)
   turned at s = repeated (orElse (rotationNode f at s) (moveNode f) at s)
 
-  abbrev scrambled : Reader Head
-  scrambled at s = scrambleHead (when (f .megaminx) megaminxScrambleMove at s)
+  abbrev scrambled : Reader (List ℕ)
+  scrambled at s = scrambleRead (when (f .megaminx) megaminxScrambleMove at s)
 
   abbrev either : Reader (ℤ → Node Leaf)
   either at s = orElse (rotationNode f at s) (moveNode f) at s
@@ -63,14 +60,14 @@ module _ (f : Features) where
   late : (at : ℕ) (s : List ℕ) → headed (orElse (andThen (either at s) times) (sq1 f) at s) ≡ orElse (turned at s) last at s
   late at s =
       head-or (andThen (either at s) times) (sq1 f) at s
-      ∙ ap (λ (r : Reading Head). orElse r (λ at s. headed (sq1 f at s)) at s) (head-times (either at s))
+      ∙ ap (λ (r : Reading (List ℕ)). orElse r (λ at s. headed (sq1 f at s)) at s) (head-times (either at s))
       ∙ or-same (turned at s) (λ at s. headed (sq1 f at s)) last at s (head-leaf (f .sq1) sq1Move (λ x. x) at s)
 
   middle : (at : ℕ) (s : List ℕ) →
       headed (orElse (scramble f at s) (λ at s. orElse (andThen (either at s) times) (sq1 f) at s) at s) ≡ orElse (scrambled at s) (λ at s. orElse (turned at s) last at s) at s
   middle at s =
       head-or (scramble f at s) (λ at s. orElse (andThen (either at s) times) (sq1 f) at s) at s
-      ∙ ap (λ (r : Reading Head). orElse r (λ at s. headed (orElse (andThen (either at s) times) (sq1 f) at s)) at s) (head-leaf (f .megaminx) megaminxScrambleMove tree.megaminx at s)
+      ∙ ap (λ (r : Reading (List ℕ)). orElse r (λ at s. headed (orElse (andThen (either at s) times) (sq1 f) at s)) at s) (head-leaf (f .megaminx) megaminxScrambleMove tree.megaminx at s)
       ∙ or-same (scrambled at s) (λ at s. headed (orElse (andThen (either at s) times) (sq1 f) at s)) (λ at s. orElse (turned at s) last at s) at s (late at s)
 
   choices : (at : ℕ) (s : List ℕ) → headed (node f fail at s) ≡ orElse (headed (pause at s)) (λ at s. orElse (scrambled at s) (λ at s. orElse (turned at s) last at s) at s) at s
@@ -79,53 +76,6 @@ module _ (f : Features) where
       ∙ head-or (pause at s) (λ at s. orElse (scramble f at s) (λ at s. orElse (andThen (either at s) times) (sq1 f) at s) at s) at s
       ∙ or-same (headed (pause at s)) (λ at s. headed (orElse (scramble f at s) (λ at s. orElse (andThen (either at s) times) (sq1 f) at s) at s))
       (λ at s. orElse (scrambled at s) (λ at s. orElse (turned at s) last at s) at s) at s (middle at s)
-
--- a text at which no move starts
-record Bare (s : List ℕ) : Type 0 where
-  no-tilde : eqb (byteAt s 0) 126 ≡ false
-  no-brace : eqb (byteAt s 0) 123 ≡ false
-  no-digit : digitRun s ≡ 0
-  no-letter : run isFamilyChar s ≡ 0
-
-module _ (f : Features) (at : ℕ) (s : List ℕ) (b : Bare s) where
-  bare-tilde : tilde f at s ≡ read false at s
-  bare-tilde = or-none _ (done false) at s (when-none (f .layers .«inverted_layers») _ at s (rw (just-no "~" at s (b .no-tilde))))
-
-  bare-set : (h : Bool) → layerSetElements h at s ≡ rejected
-  unfolding layerSetElements
-  bare-set h = rw (just-no "{" at s (b .no-brace))
-
-  bare-number : layer at s ≡ rejected
-  unfolding uint
-  bare-number = rw (b .no-digit)
-
-  bare-layers : layerPrefixContents f at s ≡ read noLayers at s
-  unfolding layerPrefixContents
-  bare-layers =
-      or-none (when (f .layers .«layer_sets») (λ at s. andThen (spanned (layerSetElements (f .layers .«hsc1_layer_ranges»)) at s) (λ p. done (layerSet p))) at s) numberedLayers at s
-      (when-none (f .layers .«layer_sets») (λ at s. andThen (spanned (layerSetElements (f .layers .«hsc1_layer_ranges»)) at s) (λ p. done (layerSet p))) at s (rw (bare-set (f .layers .«hsc1_layer_ranges»))))
-      ∙ sym (no-layers at s (sym bare-number))
-
-  bare-move : moveNode f at s ≡ rejected
-  unfolding moveNode
-  bare-move = rw (bare-tilde, bare-layers, b .no-letter)
-
-bare-end : Bare []
-unfolding digitRun runFrom
-bare-end = record { no-tilde = refl; no-brace = refl; no-digit = refl; no-letter = refl }
-
-module _ (u : List ℕ) where
-  bare-parenthesis : Bare (40 ∷ u)
-  unfolding digitRun runFrom codePoint charWidth classify oneOf
-  bare-parenthesis = record { no-tilde = refl; no-brace = refl; no-digit = refl; no-letter = refl }
-
-  bare-slash : Bare (47 ∷ u)
-  unfolding digitRun runFrom codePoint charWidth classify oneOf
-  bare-slash = record { no-tilde = refl; no-brace = refl; no-digit = refl; no-letter = refl }
-
-  bare-at-sign : Bare (64 ∷ u)
-  unfolding digitRun runFrom codePoint charWidth classify oneOf
-  bare-at-sign = record { no-tilde = refl; no-brace = refl; no-digit = refl; no-letter = refl }
 
 -- The answers of `leaf`.
 module _ (f : Features) (text : List ℕ) (at : ℕ) where
@@ -136,7 +86,7 @@ module _ (f : Features) (text : List ℕ) (at : ℕ) where
     bare : (k : ℕ) → getD text at 0 ≡ k → ((u : List ℕ) → Bare (k ∷ u)) → Bare (drop at text)
     bare k e b = rw (drop-cons text at 0, e) (b (drop (suc at) text))
 
-    pub is-pause : getD text at 0 ≡ 46 → read (leafHead tree.pause) (at + 1) (drop (at + 1) text) ≡ headed (node f fail at (drop at text))
+    pub is-pause : getD text at 0 ≡ 46 → read (leafFields tree.pause) (at + 1) (drop (at + 1) text) ≡ headed (node f fail at (drop at text))
     is-pause e =
         sym
         (choices f at (drop at text)
@@ -150,12 +100,12 @@ module _ (f : Features) (text : List ℕ) (at : ℕ) where
         choices f at (drop at text)
         ∙ or-none (headed (pause at (drop at text))) _ at (drop at text) (ap headed (no-pause f at (drop at text) (byte 46 p)))
         ∙ or-none (scrambled f at (drop at text)) _ at (drop at text)
-        (ap scrambleHead (when-none (f .megaminx) megaminxScrambleMove at (drop at text) (scramble-none f at (drop at text) (byte 82 r) (byte 68 d))))
+        (ap scrambleRead (when-none (f .megaminx) megaminxScrambleMove at (drop at text) (scramble-none f at (drop at text) (byte 82 r) (byte 68 d))))
 
     no-last : (getD text at 0 ≡ 47 → ⊥) → (getD text at 0 ≡ 40 → ⊥) → last f at (drop at text) ≡ rejected
-    no-last a b = ap leafHeadOf (when-none (f .sq1) sq1Move at (drop at text) (sq1-none f at (drop at text) (byte 47 a) (byte 40 b)))
+    no-last a b = ap leafRead (when-none (f .sq1) sq1Move at (drop at text) (sq1-none f at (drop at text) (byte 47 a) (byte 40 b)))
 
-    pub is-rotation : {x : Reading Head} → getD text at 0 ≡ 64 → x ≡ repeated (rotationNode f at (drop at text)) → x ≡ headed (node f fail at (drop at text))
+    pub is-rotation : {x : Reading (List ℕ)} → getD text at 0 ≡ 64 → x ≡ repeated (rotationNode f at (drop at text)) → x ≡ headed (node f fail at (drop at text))
     is-rotation e q =
         q
         ∙ sym
@@ -163,23 +113,22 @@ module _ (f : Features) (text : List ℕ) (at : ℕ) where
         ∙ or-last (turned f at (drop at text)) (last f) at (drop at text) (no-last (λ z. omega arith) (λ z. omega arith))
         ∙ ap repeated (or-last (rotationNode f at (drop at text)) (moveNode f) at (drop at text) (bare-move f at (drop at text) (bare 64 e bare-at-sign))))
 
-    square : {x : Reading Head} (k : ℕ) → getD text at 0 ≡ k → ((u : List ℕ) → Bare (k ∷ u)) → (k ≡ 46 → ⊥) → (k ≡ 82 → ⊥) → (k ≡ 68 → ⊥) → (k ≡ 64 → ⊥) →
+    square : {x : Reading (List ℕ)} (k : ℕ) → getD text at 0 ≡ k → ((u : List ℕ) → Bare (k ∷ u)) → (k ≡ 46 → ⊥) → (k ≡ 82 → ⊥) → (k ≡ 68 → ⊥) → (k ≡ 64 → ⊥) →
         x ≡ last f at (drop at text) → x ≡ headed (node f fail at (drop at text))
     square k e b n₁ n₂ n₃ n₄ q =
         q
         ∙ sym
-        (later (λ z. n₁ (sym e ∙ z)) (λ z. n₂ (sym e ∙ z)) (λ z. n₃ (sym e ∙ z))
-        ∙ or-none (turned f at (drop at text)) (last f) at (drop at text)
-        (ap repeated (or-none (rotationNode f at (drop at text)) (moveNode f) at (drop at text) (rotation-none f at (drop at text) (byte 64 (λ z. n₄ (sym e ∙ z))))
-        ∙ bare-move f at (drop at text) (bare k e b))))
+        (ap headed
+        (bare-node f at (drop at text) (bare k e b) (byte 46 (λ z. n₁ (sym e ∙ z))) (byte 82 (λ z. n₂ (sym e ∙ z))) (byte 68 (λ z. n₃ (sym e ∙ z))) (byte 64 (λ z. n₄ (sym e ∙ z))))
+        ∙ head-leaf (f .sq1) sq1Move (λ x. x) at (drop at text))
 
-    pub is-parenthesis : {x : Reading Head} → getD text at 0 ≡ 40 → x ≡ last f at (drop at text) → x ≡ headed (node f fail at (drop at text))
+    pub is-parenthesis : {x : Reading (List ℕ)} → getD text at 0 ≡ 40 → x ≡ last f at (drop at text) → x ≡ headed (node f fail at (drop at text))
     is-parenthesis e q = square 40 e bare-parenthesis (λ z. omega arith) (λ z. omega arith) (λ z. omega arith) (λ z. omega arith) q
 
-    pub is-slash : {x : Reading Head} → getD text at 0 ≡ 47 → x ≡ last f at (drop at text) → x ≡ headed (node f fail at (drop at text))
+    pub is-slash : {x : Reading (List ℕ)} → getD text at 0 ≡ 47 → x ≡ last f at (drop at text) → x ≡ headed (node f fail at (drop at text))
     is-slash e q = square 47 e bare-slash (λ z. omega arith) (λ z. omega arith) (λ z. omega arith) (λ z. omega arith) q
 
-    pub is-other : {x : Reading Head} → (getD text at 0 ≡ 46 → ⊥) → (getD text at 0 ≡ 64 → ⊥) → (getD text at 0 ≡ 40 → ⊥) → (getD text at 0 ≡ 47 → ⊥) →
+    pub is-other : {x : Reading (List ℕ)} → (getD text at 0 ≡ 46 → ⊥) → (getD text at 0 ≡ 64 → ⊥) → (getD text at 0 ≡ 40 → ⊥) → (getD text at 0 ≡ 47 → ⊥) →
         x ≡ scrambleOrMove f at (drop at text) → x ≡ headed (node f fail at (drop at text))
     is-other p a o s q =
         q
@@ -195,9 +144,6 @@ module _ (f : Features) (text : List ℕ) (at : ℕ) where
     where
       all : headed (node f fail at []) ≡ rejected
       all =
-          choices f at []
-          ∙ or-none (headed (pause at [])) _ at [] (ap headed (no-pause f at [] refl))
-          ∙ or-none (scrambled f at []) _ at [] (ap scrambleHead (when-none (f .megaminx) megaminxScrambleMove at [] (scramble-none f at [] refl refl)))
-          ∙ or-none (turned f at []) (last f) at []
-          (ap repeated (or-none (rotationNode f at []) (moveNode f) at [] (rotation-none f at [] refl) ∙ bare-move f at [] bare-end))
-          ∙ ap leafHeadOf (when-none (f .sq1) sq1Move at [] (sq1-none f at [] refl refl))
+          ap headed (bare-node f at [] bare-end refl refl refl refl)
+          ∙ head-leaf (f .sq1) sq1Move (λ x. x) at []
+          ∙ ap leafRead (when-none (f .sq1) sq1Move at [] (sq1-none f at [] refl refl))

@@ -1,14 +1,15 @@
 -- Layers, as the code reads them. Assumes nothing.
 use Prim.Native.Nat.{ℕ, _-_, _≤_, _<_, min, max}
 use mathlib.Core.Path.{_≡_, refl, sym, ap, _∙_}
-use mathlib.Core.Bool.{Bool, true, false}
+use mathlib.Core.Bool.{Bool, true, false, _&&_}
 use mathlib.Core.List.{List}
 use native.Mathlib.Omega.{arith}
 use borrow.Author.Tests.{eqb-true}
 use lib.Dec.{eqb}
 use lib.IntN.{ℤ, pos, negℤ}
 use lib.ListN.{length, drop}
-use Rattle.notation.specs.Numbers.{fromBits}
+use lib.Seq.{drop-cons}
+use Rattle.notation.specs.Numbers.{fromBits, digitRun}
 use Rattle.notation.specs.Utf8.{byteAt}
 use Rattle.notation.specs.Layers.{LayerSetElement, single, range}
 use Rattle.notation.specs.Tree.{Layers, Span, span, layerSet, layerRange, singleLayer, noLayers}
@@ -16,8 +17,10 @@ use Rattle.notation.specs.Grammar.{Reading, rejected, read, andThen, orElse, _o
 use Rattle.notation.specs.declared.features.Features.{Features}
 use Rattle.charsets.proofs.Texts.{in-text}
 use Rattle.numbers.proofs.Bounds.{number, hyphen, sint-plain, not-negated}
-use Rattle.parse.specs.Meaning.{forget, layerAfterDots, layerAfterHyphen, unsignedOrSingle, numberedLayers}
+use Rattle.parse.specs.Meaning.{forget, elementOf, layerAfterDots, layerAfterHyphen, unsignedOrSingle, numberedLayers}
+use Rattle.parse.specs.declared.parts.Element.the-variants.{Layer}
 use Rattle.parse.proofs.Bytes.{seen, just-not}
+use Rattle.parse.proofs.Sets.{no-brace, layer-set-ends}
 use Rattle.parse.proofs.Readings.{never, assoc, steps, or-none, when-none, took, gone}
 
 -- a number that is rejected with a sign is rejected without one
@@ -134,14 +137,30 @@ module _ (at : ℕ) (s : List ℕ) where
         rw (low, high) at (two-layers j next t q)
 
 -- and with one
-module _ (f : Features) (at : ℕ) (s : List ℕ) (r : Reading (Layers Span)) where
-  pub sets-off : f .layers .«layer_sets» ≡ false → r ≡ numberedLayers at s → r ≡ layerPrefixContents f at s
+module _ (f : Features) (text : List ℕ) (at : ℕ) where
+  no-set : f .layers .«layer_sets» ≡ true → rejected ≡ forget (layerSetElements (f .layers .«hsc1_layer_ranges») at (drop at text)) →
+      numberedLayers at (drop at text) ≡ layerPrefixContents f at (drop at text)
   unfolding layerPrefixContents
-  sets-off e q = rw (e, q)
+  no-set e n = rw (e, gone (layerSetElements (f .layers .«hsc1_layer_ranges») at (drop at text)) n)
 
-  pub no-set : f .layers .«layer_sets» ≡ true → rejected ≡ forget (layerSetElements (f .layers .«hsc1_layer_ranges») at s) → r ≡ numberedLayers at s → r ≡ layerPrefixContents f at s
+  pub unopened : (f .layers .«layer_sets» && eqb (byteAt text at) 123) ≡ false → numberedLayers at (drop at text) ≡ layerPrefixContents f at (drop at text)
   unfolding layerPrefixContents
-  no-set e n q = rw (e, gone (layerSetElements (f .layers .«hsc1_layer_ranges») at s) n, q)
+  unopened e = go (f .layers .«layer_sets») refl e
+    where
+      go : (b : Bool) → f .layers .«layer_sets» ≡ b → (b && eqb (byteAt text at) 123) ≡ false → numberedLayers at (drop at text) ≡ layerPrefixContents f at (drop at text)
+      go true w q =
+          no-set w
+          (no-brace (elementOf (Layer (f .layers .«hsc1_layer_ranges»))) text at q ∙ layer-set-ends (f .layers .«hsc1_layer_ranges») at (drop at text))
+      go false w q = rw w
+
+  -- a brace that opens no set is no layer either
+  pub opened-none : f .layers .«layer_sets» ≡ true → eqb (byteAt text at) 123 ≡ true → rejected ≡ forget (layerSetElements (f .layers .«hsc1_layer_ranges») at (drop at text)) →
+      read noLayers at (drop at text) ≡ layerPrefixContents f at (drop at text)
+  unfolding uint digitRun
+  opened-none e b n = no-layers at (drop at text) (rw (drop-cons text at 0 inside, in-text text at inside ∙ eqb-true (byteAt text at) 123 b)) ∙ no-set e n
+    where
+      inside : at < length text
+      inside = seen text at 123 (omega arith) b
 
 pub a-set : (f : Features) (at : ℕ) (s : List ℕ) (next : ℕ) (t : List ℕ) → f .layers .«layer_sets» ≡ true →
     read tt next t ≡ forget (layerSetElements (f .layers .«hsc1_layer_ranges») at s) → read (layerSet (span at (next - at))) next t ≡ layerPrefixContents f at s

@@ -7,10 +7,10 @@ use native.Mathlib.Omega.{arith}
 use lib.IntN.{ℤ}
 use lib.ListN.{length, drop}
 use Rattle.notation.specs.Tree.{Leaf, megaminx, Node, leaf, block}
-use Rattle.notation.specs.Packed.{RECORD, Head, leafHead, record25, nodeSize, packNode}
+use Rattle.notation.specs.Packed.{RECORD, widths, layOut, leafFields, record25, nodeSize, packNode}
 use Rattle.notation.specs.Grammar.{Reading, rejected, read, Reader, done, fail, andThen, _>>_, orElse, when, multiplier, just, constraints, tilde, family, layerPrefixContents, rotationNode, moveNode, groupKind, groupNode, binaryGroupNode, megaminxScrambleMove, sq1Move, node}
 use Rattle.notation.specs.declared.features.Features.{Features}
-use Rattle.parse.specs.Meaning.{nodeHead}
+use Rattle.parse.specs.Meaning.{nodeFields}
 use Rattle.parse.specs.Nodes.{put, NodeRead, NoNode}
 use Rattle.parse.proofs.Buffers.{kept-all, put-wrote}
 
@@ -76,27 +76,27 @@ module _ (f : Features) (at : ℕ) (s : List ℕ) where
       (each-when IsLeaf (f .sq1) _ at s (each-then IsLeaf (sq1Move at s) _ (λ x at s. one tt)))))
 
 -- a record that was read is a leaf's
-leaf-of : (r : Reading (Node Leaf)) (h : Head) (next : ℕ) (t : List ℕ) → Each IsLeaf r → read h next t ≡ andThen r (λ n. done (nodeHead n)) →
-    (x : Leaf) × (r ≡ read (leaf x) next t) × (leafHead x ≡ h)
-leaf-of rejected h next t l e = let z : _≡_ {A = ℕ} 0 1 = cc in absurd (omega arith)
-leaf-of (read (leaf x) a u) h next t l e = (x, cc, cc)
-leaf-of (read (block b m) a u) h next t (one l) e = absurd l
+leaf-of : (r : Reading (Node Leaf)) (fs : List ℕ) (next : ℕ) (t : List ℕ) → Each IsLeaf r → read fs next t ≡ andThen r (λ n. done (nodeFields n)) →
+    (x : Leaf) × (r ≡ read (leaf x) next t) × (leafFields x ≡ fs)
+leaf-of rejected fs next t l e = let z : _≡_ {A = ℕ} 0 1 = cc in absurd (omega arith)
+leaf-of (read (leaf x) a u) fs next t l e = (x, cc, cc)
+leaf-of (read (block b m) a u) fs next t (one l) e = absurd l
 
-pub no-leaf-of : (r : Reading (Node Leaf)) → rejected ≡ andThen r (λ n. done (nodeHead n)) → r ≡ rejected
+no-leaf-of : (r : Reading (Node Leaf)) → rejected ≡ andThen r (λ n. done (nodeFields n)) → r ≡ rejected
 no-leaf-of rejected e = refl
 no-leaf-of (read n a u) e = let z : _≡_ {A = ℕ} 0 1 = cc in absurd (omega arith)
 
 -- What `leaf_node` returns.
 module _ (f : Features) (text : List ℕ) (at slot : ℕ) (old : List ℕ) where
-  pub leaf-rejected : rejected ≡ andThen (node f fail at (drop at text)) (λ n. done (nodeHead n)) → NoNode (λ _. node f fail) text at slot old old
+  pub leaf-rejected : rejected ≡ andThen (node f fail at (drop at text)) (λ n. done (nodeFields n)) → NoNode (λ _. node f fail) text at slot old old
   leaf-rejected e = record { rejects = λ k h. no-leaf-of (node f fail at (drop at text)) e; kept = kept-all (RECORD * slot) old }
 
-  pub leaf-read : (h : Head) (next : ℕ) → read h next (drop next text) ≡ andThen (node f fail at (drop at text)) (λ n. done (nodeHead n)) →
-      at < next → next ≤ length text → NodeRead (λ _. node f fail) text at slot old (put (RECORD * slot) (record25 h) old) next (slot + 1)
-  unfolding nodeSize packNode
-  leaf-read h next e l i = go (leaf-of (node f fail at (drop at text)) h next (drop next text) (node-leaf f at (drop at text)) e) where
-    go : (x : Leaf) × (node f fail at (drop at text) ≡ read (leaf x) next (drop next text)) × (leafHead x ≡ h) →
-        NodeRead (λ _. node f fail) text at slot old (put (RECORD * slot) (record25 h) old) next (slot + 1)
+  pub leaf-read : (fs : List ℕ) (next : ℕ) → read fs next (drop next text) ≡ andThen (node f fail at (drop at text)) (λ n. done (nodeFields n)) →
+      at < next → next ≤ length text → NodeRead (λ _. node f fail) text at slot old (put (RECORD * slot) (layOut widths fs) old) next (slot + 1)
+  unfolding nodeSize packNode record25
+  leaf-read fs next e l i = go (leaf-of (node f fail at (drop at text)) fs next (drop next text) (node-leaf f at (drop at text)) e) where
+    go : (x : Leaf) × (node f fail at (drop at text) ≡ read (leaf x) next (drop next text)) × (leafFields x ≡ fs) →
+        NodeRead (λ _. node f fail) text at slot old (put (RECORD * slot) (layOut widths fs) old) next (slot + 1)
     go (x, r, is) =
         record {
           node = leaf x;
@@ -104,5 +104,5 @@ module _ (f : Features) (text : List ℕ) (at slot : ℕ) (old : List ℕ) where
           slots = refl;
           advances = omega arith;
           inside = i;
-          wrote = rw is (put-wrote (RECORD * slot) (record25 h) old);
+          wrote = rw is (put-wrote (RECORD * slot) (layOut widths fs) old);
         }

@@ -1,24 +1,22 @@
 -- Nodes that are no groups, as the code reads them. Assumes nothing.
-use Prim.Native.Nat.{ℕ, zero, suc, _+_, _-_, _≤_, _<_, _^_}
+use Prim.Native.Nat.{ℕ, zero, suc, _+_, _-_, _≤_, _<_}
 use Prim.Native.Char.{Char, code}
 use Prim.Native.String as S
-use mathlib.Core.Path.{_≡_, refl, sym, ap, _∙_}
-use mathlib.Core.Bool.{Bool, true, false, _&&_}
+use mathlib.Core.Path.{_≡_, refl, sym, ap, ap₂, _∙_}
+use mathlib.Core.Bool.{Bool, true, false, _&&_, _||_}
 use mathlib.Core.List.{List, [], _∷_}
 use mathlib.Core.Option.{Option, none, some}
 use native.Mathlib.Omega.{arith}
-use borrow.Author.Tests.{le-leb, lt-ltb, ltb-false}
-use lib.Dec.{eqb, ltb}
-use lib.ListN.{length, drop}
+use borrow.Author.Tests.{le-leb}
+use lib.Dec.{eqb}
+use lib.ListN.{drop}
 use lib.Seq.{drop-drop}
-use lib.IntN.{ℤ, pos, negsuc}
-use Rattle.notation.specs.Basics.{pick}
+use lib.IntN.{ℤ}
 use Rattle.notation.specs.Chars.{isFamilyChar, whiteSpace}
-use Rattle.notation.specs.Numbers.{fromBits, fitsBits}
 use Rattle.notation.specs.Utf8.{run, byteAt}
 use Rattle.notation.specs.Tree as tree
 use Rattle.notation.specs.Tree.{Span, span, Layers}
-use Rattle.notation.specs.Packed.{familyAt, Head, leafHead}
+use Rattle.notation.specs.Packed.{familyAt, leafFields}
 use Rattle.notation.specs.Grammar.{
   Reading,
   rejected,
@@ -45,18 +43,12 @@ use Rattle.notation.specs.Grammar.{
 }
 use Rattle.notation.specs.declared.features.Features.{Features}
 use Rattle.notation.specs.declared.common.MegaminxScrambleMove.the-variants.{Rpp, Rmm, Dpp, Dmm}
-use Rattle.charsets.proofs.Bools.{and-left, and-right}
-use Rattle.parse.specs.Meaning.{forget, withQuote, repeated, leafHeadOf, scrambleHead, pairAfter, scrambleOrMove, threeBytes}
-use Rattle.parse.proofs.Bytes.{seen, just-is, just-not, word-not}
+use Rattle.charsets.proofs.Bools.{contra, and-left, and-right, and-false}
+use Rattle.parse.specs.declared.parts.Element.the-variants.{Constraint}
+use Rattle.parse.specs.Meaning.{forget, elementOf, withQuote, repeated, leafRead, scrambleRead, pairAfter, scrambleOrMove, twice, scrambleAt, scrambleKind}
+use Rattle.parse.proofs.Bytes.{other, just-is, just-not, word-not}
 use Rattle.parse.proofs.Readings.{took, gone, or-none}
-
--- the number of 32 bits fits 32 bits
-pub bits-fit : (n : ℕ) → n < 2 ^ 32 → fitsBits 32 (fromBits 32 n) ≡ true
-bits-fit n h = go (ltb n 2147483648) refl
-  where
-    go : (t : Bool) → ltb n 2147483648 ≡ t → fitsBits 32 (pick t (pos n) (negsuc (2 ^ 32 - suc n))) ≡ true
-    go true e = e
-    go false e = lt-ltb (4294967296 - suc n) 2147483648 (omega (arith, ltb-false n 2147483648 e))
+use Rattle.parse.proofs.Sets.{no-brace, constraint-set-ends}
 
 -- Multipliers.
 module _ (at : ℕ) (s : List ℕ) where
@@ -67,13 +59,18 @@ module _ (at : ℕ) (s : List ℕ) where
   a-number n next rest e = rw (← e)
 
 -- Constraints after a family.
+module _ (f : Features) (text : List ℕ) (at : ℕ) where
+  pub no-constraints : f .«transform_constraints» ≡ true → rejected ≡ forget (constraintSet at (drop at text)) → read none at (drop at text) ≡ constraints f at (drop at text)
+  no-constraints e q = rw (e, gone (constraintSet at (drop at text)) q)
+
+  pub unopened : (f .«transform_constraints» && eqb (byteAt text at) 123) ≡ false → read none at (drop at text) ≡ constraints f at (drop at text)
+  unopened e = go (f .«transform_constraints») refl e
+    where
+      go : (b : Bool) → f .«transform_constraints» ≡ b → (b && eqb (byteAt text at) 123) ≡ false → read none at (drop at text) ≡ constraints f at (drop at text)
+      go true w q = no-constraints w (no-brace (elementOf Constraint) text at q ∙ constraint-set-ends at (drop at text))
+      go false w q = rw w
+
 module _ (f : Features) (at : ℕ) (s : List ℕ) where
-  pub constraints-off : f .«transform_constraints» ≡ false → read none at s ≡ constraints f at s
-  constraints-off e = rw e
-
-  pub no-constraints : f .«transform_constraints» ≡ true → rejected ≡ forget (constraintSet at s) → read none at s ≡ constraints f at s
-  no-constraints e q = rw (e, gone (constraintSet at s) q)
-
   pub some-constraints : (next : ℕ) (rest : List ℕ) → f .«transform_constraints» ≡ true → read tt next rest ≡ forget (constraintSet at s) →
       read (some (span at (next - at))) next rest ≡ constraints f at s
   some-constraints next rest e q = rw (e, took (constraintSet at s) q .reads)
@@ -95,7 +92,7 @@ rotations-off f at s e = rw e
 pub a-rotation : (f : Features) (text : List ℕ) (at end next last : ℕ) (a : Span) (c : Option Span) (m : ℤ) → f .«generalized_rotations» ≡ true → eqb (byteAt text at) 64 ≡ true →
     end ≡ at + 1 + run isFamilyChar (drop (at + 1) text) → a ≡ familyAt (at + 1) (end - (at + 1)) →
     read c next (drop next text) ≡ constraints f end (drop end text) → read m last (drop last text) ≡ multiplier next (drop next text) →
-    read (leafHead (tree.rotation a c m)) last (drop last text) ≡ repeated (rotationNode f at (drop at text))
+    read (leafFields (tree.rotation a c m)) last (drop last text) ≡ repeated (rotationNode f at (drop at text))
 unfolding rotationNode
 a-rotation f text at end next last a c m on sign e family set times =
     let n : run isFamilyChar (drop (at + 1) text) ≡ end - (at + 1) = omega arith in
@@ -122,7 +119,7 @@ module _ (f : Features) (text : List ℕ) (at mark : ℕ) (t : Bool) (from end :
 
   pub a-move : (next last : ℕ) (a : Span) (c : Option Span) (m : ℤ) → (end ≡ from → ⊥) → a ≡ familyAt from (end - from) →
       read c next (drop next text) ≡ constraints f end (drop end text) → read m last (drop last text) ≡ multiplier next (drop next text) →
-      read (leafHead (tree.move t l a c m)) last (drop last text) ≡ repeated (moveNode f at (drop at text))
+      read (leafFields (tree.move t l a c m)) last (drop last text) ≡ repeated (moveNode f at (drop at text))
   unfolding moveNode
   a-move next last a c m h family set times =
       let n : run isFamilyChar (drop from text) ≡ end - from = omega arith in
@@ -143,15 +140,18 @@ module _ (f : Features) (text : List ℕ) (at mark : ℕ) (t : Bool) (from end :
       positive (suc n) p = omega arith
 
 -- Scramble moves: a letter and twice a sign.
+abbrev threeBytes : List ℕ → ℕ → ℕ → ℕ → Bool
+threeBytes text at letter sign = eqb (byteAt text at) letter && twice text (at + 1) sign
+
 module _ (a b : Char) (text : List ℕ) (at : ℕ) (ha : code a < 256) (hb : code b < 256) where
-  pub three-is : threeBytes text at (code a) (code b) ≡ true → word (S._∷_ a (S._∷_ b (S._∷_ b S.[]))) at (drop at text) ≡ read tt (at + 3) (drop (at + 3) text)
+  three-is : threeBytes text at (code a) (code b) ≡ true → word (S._∷_ a (S._∷_ b (S._∷_ b S.[]))) at (drop at text) ≡ read tt (at + 3) (drop (at + 3) text)
   unfolding word
   three-is e =
       let q = and-right (eqb (byteAt text at) (code a)) _ e in
       rw (just-is a text at ha (and-left _ _ e), just-is b text (at + 1) hb (and-left _ _ q), just-is b text (at + 1 + 1) hb (and-right (eqb (byteAt text (at + 1)) (code b)) _ q))
       (ap (λ (n : ℕ). read tt n (drop n text)) (omega arith))
 
-  pub three-not : threeBytes text at (code a) (code b) ≡ false → word (S._∷_ a (S._∷_ b (S._∷_ b S.[]))) at (drop at text) ≡ rejected
+  three-not : threeBytes text at (code a) (code b) ≡ false → word (S._∷_ a (S._∷_ b (S._∷_ b S.[]))) at (drop at text) ≡ rejected
   unfolding word
   three-not e = go (eqb (byteAt text at) (code a)) refl e
     where
@@ -160,24 +160,18 @@ module _ (a b : Char) (text : List ℕ) (at : ℕ) (ha : code a < 256) (hb : cod
       go true p q = rw (just-is a text at ha p) (word-not b b text (at + 1) hb q)
       go false p q = rw (just-not a text at p)
 
-  -- the text is long enough for the three
-  pub three-inside : threeBytes text at (code a) (code b) ≡ true → at + 3 ≤ length text
-  three-inside e =
-      let q = and-right (eqb (byteAt text at) (code a)) _ e in
-      omega (arith, seen text (at + 1 + 1) (code b) hb (and-right (eqb (byteAt text (at + 1)) (code b)) _ q))
-
 module _ (text : List ℕ) (at : ℕ) where
-  pub rpp : threeBytes text at 82 43 ≡ true → read (leafHead (tree.megaminx Rpp)) (at + 3) (drop (at + 3) text) ≡ scrambleHead (megaminxScrambleMove at (drop at text))
+  rpp : threeBytes text at 82 43 ≡ true → read (leafFields (tree.megaminx Rpp)) (at + 3) (drop (at + 3) text) ≡ scrambleRead (megaminxScrambleMove at (drop at text))
   unfolding megaminxScrambleMove
   rpp e = simp (three-is "R" "+" text at (omega arith) (omega arith) e)
 
   module _ (n₁ : threeBytes text at 82 43 ≡ false) where
-    pub rmm : threeBytes text at 82 45 ≡ true → read (leafHead (tree.megaminx Rmm)) (at + 3) (drop (at + 3) text) ≡ scrambleHead (megaminxScrambleMove at (drop at text))
+    rmm : threeBytes text at 82 45 ≡ true → read (leafFields (tree.megaminx Rmm)) (at + 3) (drop (at + 3) text) ≡ scrambleRead (megaminxScrambleMove at (drop at text))
     unfolding megaminxScrambleMove
     rmm e = simp (three-not "R" "+" text at (omega arith) (omega arith) n₁, three-is "R" "-" text at (omega arith) (omega arith) e)
 
     module _ (n₂ : threeBytes text at 82 45 ≡ false) where
-      pub dpp : threeBytes text at 68 43 ≡ true → read (leafHead (tree.megaminx Dpp)) (at + 3) (drop (at + 3) text) ≡ scrambleHead (megaminxScrambleMove at (drop at text))
+      dpp : threeBytes text at 68 43 ≡ true → read (leafFields (tree.megaminx Dpp)) (at + 3) (drop (at + 3) text) ≡ scrambleRead (megaminxScrambleMove at (drop at text))
       unfolding megaminxScrambleMove
       dpp e =
           simp (
@@ -187,7 +181,7 @@ module _ (text : List ℕ) (at : ℕ) where
           )
 
       module _ (n₃ : threeBytes text at 68 43 ≡ false) where
-        pub dmm : threeBytes text at 68 45 ≡ true → read (leafHead (tree.megaminx Dmm)) (at + 3) (drop (at + 3) text) ≡ scrambleHead (megaminxScrambleMove at (drop at text))
+        dmm : threeBytes text at 68 45 ≡ true → read (leafFields (tree.megaminx Dmm)) (at + 3) (drop (at + 3) text) ≡ scrambleRead (megaminxScrambleMove at (drop at text))
         unfolding megaminxScrambleMove
         dmm e =
             simp (
@@ -197,7 +191,7 @@ module _ (text : List ℕ) (at : ℕ) where
               three-is "D" "-" text at (omega arith) (omega arith) e,
             )
 
-        pub no-scramble-move : threeBytes text at 68 45 ≡ false → rejected ≡ scrambleHead (megaminxScrambleMove at (drop at text))
+        no-scramble-move : threeBytes text at 68 45 ≡ false → rejected ≡ scrambleRead (megaminxScrambleMove at (drop at text))
         unfolding megaminxScrambleMove
         no-scramble-move e =
             simp (
@@ -206,6 +200,42 @@ module _ (text : List ℕ) (at : ℕ) where
               three-not "D" "+" text at (omega arith) (omega arith) n₃,
               three-not "D" "-" text at (omega arith) (omega arith) e,
             )
+
+-- by what stands at the place
+module _ (text : List ℕ) (at : ℕ) where
+  minus : twice text (at + 1) 45 ≡ true → eqb (byteAt text (at + 1)) 43 ≡ false
+  minus e = other (byteAt text (at + 1)) 45 43 (λ z. omega arith) (and-left _ _ e)
+
+  pub scramble-stands : scrambleAt text at ≡ true →
+      read (leafFields (tree.megaminx (scrambleKind (eqb (byteAt text at) 82) (eqb (byteAt text (at + 1)) 43)))) (at + 3) (drop (at + 3) text)
+      ≡ scrambleRead (megaminxScrambleMove at (drop at text))
+  scramble-stands e = go (eqb (byteAt text at) 82) (eqb (byteAt text at) 68) (twice text (at + 1) 43) (twice text (at + 1) 45) refl refl refl refl e
+    where
+      go : (r d p m : Bool) → eqb (byteAt text at) 82 ≡ r → eqb (byteAt text at) 68 ≡ d → twice text (at + 1) 43 ≡ p → twice text (at + 1) 45 ≡ m →
+          ((r || d) && (p || m)) ≡ true →
+          read (leafFields (tree.megaminx (scrambleKind (eqb (byteAt text at) 82) (eqb (byteAt text (at + 1)) 43)))) (at + 3) (drop (at + 3) text)
+          ≡ scrambleRead (megaminxScrambleMove at (drop at text))
+      go true d true m a b q w e = rw (a, and-left (eqb (byteAt text (at + 1)) 43) _ q) (rpp text at (ap₂ _&&_ a q))
+      go true d false true a b q w e = rw (a, minus w) (rmm text at (ap₂ _&&_ a q) (ap₂ _&&_ a w))
+      go true d false false a b q w e = contra e
+      go false true true m a b q w e = rw (a, and-left (eqb (byteAt text (at + 1)) 43) _ q) (dpp text at (ap₂ _&&_ a q) (ap₂ _&&_ a w) (ap₂ _&&_ b q))
+      go false true false true a b q w e = rw (a, minus w) (dmm text at (ap₂ _&&_ a q) (ap₂ _&&_ a w) (ap₂ _&&_ b q) (ap₂ _&&_ b w))
+      go false true false false a b q w e = contra e
+      go false false p m a b q w e = contra e
+
+  scramble-missing : scrambleAt text at ≡ false → rejected ≡ scrambleRead (megaminxScrambleMove at (drop at text))
+  scramble-missing e = go (eqb (byteAt text at) 82) (eqb (byteAt text at) 68) (twice text (at + 1) 43) (twice text (at + 1) 45) refl refl refl refl e
+    where
+      go : (r d p m : Bool) → eqb (byteAt text at) 82 ≡ r → eqb (byteAt text at) 68 ≡ d → twice text (at + 1) 43 ≡ p → twice text (at + 1) 45 ≡ m →
+          ((r || d) && (p || m)) ≡ false → rejected ≡ scrambleRead (megaminxScrambleMove at (drop at text))
+      go r d false false a b q w e =
+          no-scramble-move text at (ap₂ _&&_ a q ∙ and-false r) (ap₂ _&&_ a w ∙ and-false r) (ap₂ _&&_ b q ∙ and-false d) (ap₂ _&&_ b w ∙ and-false d)
+      go false false true m a b q w e = no-scramble-move text at (ap₂ _&&_ a q) (ap₂ _&&_ a w) (ap₂ _&&_ b q) (ap₂ _&&_ b w)
+      go false false false true a b q w e = no-scramble-move text at (ap₂ _&&_ a q) (ap₂ _&&_ a w) (ap₂ _&&_ b q) (ap₂ _&&_ b w)
+      go true d true m a b q w e = contra (sym e)
+      go true d false true a b q w e = contra (sym e)
+      go false true true m a b q w e = contra (sym e)
+      go false true false true a b q w e = contra (sym e)
 
 -- A rule with white space around it.
 module _ {A : Type 0} (p : Reader A) (text : List ℕ) (at from : ℕ) (space : from ≡ at + run whiteSpace (drop at text)) where
@@ -218,96 +248,98 @@ module _ {A : Type 0} (p : Reader A) (text : List ℕ) (at from : ℕ) (space : 
       rw (drop-drop (run whiteSpace (drop at text)) at text, ← space, ← q, drop-drop (run whiteSpace (drop end text)) end text, ← e)
 
 -- Pairs.
-abbrev comma : ℤ → Reader Head
-comma u at s = andThen (just "," at s) (λ _ at s. andThen (padded i32 at s) (λ d at s. andThen (just ")" at s) (λ _. done (leafHead (tree.pair u d)))))
+abbrev comma : ℤ → Reader (List ℕ)
+comma u at s = andThen (just "," at s) (λ _ at s. andThen (padded i32 at s) (λ d at s. andThen (just ")" at s) (λ _. done (leafFields (tree.pair u d)))))
 
 module _ (text : List ℕ) (at : ℕ) where
   pub no-u : rejected ≡ padded i32 at (drop at text) → rejected ≡ pairAfter at (drop at text)
   no-u e = ap (λ (r : Reading ℤ). andThen r comma) e
 
   module _ (u : ℤ) (next : ℕ) (e : read u next (drop next text) ≡ padded i32 at (drop at text)) where
-    after-u : {x : Reading Head} → x ≡ comma u next (drop next text) → x ≡ pairAfter at (drop at text)
+    after-u : {x : Reading (List ℕ)} → x ≡ comma u next (drop next text) → x ≡ pairAfter at (drop at text)
     after-u q = q ∙ ap (λ (r : Reading ℤ). andThen r comma) e
 
     pub no-comma : eqb (byteAt text next) 44 ≡ false → rejected ≡ pairAfter at (drop at text)
     no-comma q = after-u (rw (just-not "," text next q))
 
     module _ (q : eqb (byteAt text next) 44 ≡ true) where
-      after-comma : {x : Reading Head} →
-          x ≡ andThen (padded i32 (next + 1) (drop (next + 1) text)) (λ d at s. andThen (just ")" at s) (λ _. done (leafHead (tree.pair u d)))) → x ≡ pairAfter at (drop at text)
+      after-comma : {x : Reading (List ℕ)} →
+          x ≡ andThen (padded i32 (next + 1) (drop (next + 1) text)) (λ d at s. andThen (just ")" at s) (λ _. done (leafFields (tree.pair u d)))) → x ≡ pairAfter at (drop at text)
       after-comma w = after-u (rw (just-is "," text next (omega arith) q) w)
 
       pub no-d : rejected ≡ padded i32 (next + 1) (drop (next + 1) text) → rejected ≡ pairAfter at (drop at text)
-      no-d w = after-comma (ap (λ (r : Reading ℤ). andThen r (λ d at s. andThen (just ")" at s) (λ _. done (leafHead (tree.pair u d))))) w)
+      no-d w = after-comma (ap (λ (r : Reading ℤ). andThen r (λ d at s. andThen (just ")" at s) (λ _. done (leafFields (tree.pair u d))))) w)
 
       module _ (d : ℤ) (end : ℕ) (w : read d end (drop end text) ≡ padded i32 (next + 1) (drop (next + 1) text)) where
-        pub a-pair : eqb (byteAt text end) 41 ≡ true → read (leafHead (tree.pair u d)) (end + 1) (drop (end + 1) text) ≡ pairAfter at (drop at text)
+        pub a-pair : eqb (byteAt text end) 41 ≡ true → read (leafFields (tree.pair u d)) (end + 1) (drop (end + 1) text) ≡ pairAfter at (drop at text)
         a-pair v =
             after-comma
-            (sym (ap (λ (r : Reading (Unit {0})). andThen r (λ _. done (leafHead (tree.pair u d)))) (just-is ")" text end (omega arith) v))
-            ∙ ap (λ (r : Reading ℤ). andThen r (λ d at s. andThen (just ")" at s) (λ _. done (leafHead (tree.pair u d))))) w)
+            (sym (ap (λ (r : Reading (Unit {0})). andThen r (λ _. done (leafFields (tree.pair u d)))) (just-is ")" text end (omega arith) v))
+            ∙ ap (λ (r : Reading ℤ). andThen r (λ d at s. andThen (just ")" at s) (λ _. done (leafFields (tree.pair u d))))) w)
 
         pub no-close : eqb (byteAt text end) 41 ≡ false → rejected ≡ pairAfter at (drop at text)
         no-close v =
             after-comma
-            (sym (ap (λ (r : Reading (Unit {0})). andThen r (λ _. done (leafHead (tree.pair u d)))) (just-not ")" text end v))
-            ∙ ap (λ (r : Reading ℤ). andThen r (λ d at s. andThen (just ")" at s) (λ _. done (leafHead (tree.pair u d))))) w)
+            (sym (ap (λ (r : Reading (Unit {0})). andThen r (λ _. done (leafFields (tree.pair u d)))) (just-not ")" text end v))
+            ∙ ap (λ (r : Reading ℤ). andThen r (λ d at s. andThen (just ")" at s) (λ _. done (leafFields (tree.pair u d))))) w)
 
-  paired : (at : ℕ) (s : List ℕ) → pairAfter at s ≡ leafHeadOf (andThen (padded i32 at s) (λ u at s. andThen (just "," at s) (λ _ at s. andThen (padded i32 at s) (λ d at s. andThen (just ")" at s) (λ _. done (tree.pair u d))))))
+  paired : (at : ℕ) (s : List ℕ) → pairAfter at s ≡ leafRead (andThen (padded i32 at s) (λ u at s. andThen (just "," at s) (λ _ at s. andThen (padded i32 at s) (λ d at s. andThen (just ")" at s) (λ _. done (tree.pair u d))))))
   paired at s = go (padded i32 at s)
     where
-      closed : (u d : ℤ) (r : Reading (Unit {0})) → andThen r (λ _. done (leafHead (tree.pair u d))) ≡ leafHeadOf (andThen r (λ _. done (tree.pair u d)))
+      closed : (u d : ℤ) (r : Reading (Unit {0})) → andThen r (λ _. done (leafFields (tree.pair u d))) ≡ leafRead (andThen r (λ _. done (tree.pair u d)))
       closed u d rejected = refl
       closed u d (read x e t) = refl
 
-      second : (u : ℤ) (r : Reading ℤ) → andThen r (λ d at s. andThen (just ")" at s) (λ _. done (leafHead (tree.pair u d)))) ≡ leafHeadOf (andThen r (λ d at s. andThen (just ")" at s) (λ _. done (tree.pair u d))))
+      second : (u : ℤ) (r : Reading ℤ) → andThen r (λ d at s. andThen (just ")" at s) (λ _. done (leafFields (tree.pair u d)))) ≡ leafRead (andThen r (λ d at s. andThen (just ")" at s) (λ _. done (tree.pair u d))))
       second u rejected = refl
       second u (read d e t) = closed u d (just ")" e t)
 
-      between : (u : ℤ) (r : Reading (Unit {0})) → andThen r (λ _ at s. andThen (padded i32 at s) (λ d at s. andThen (just ")" at s) (λ _. done (leafHead (tree.pair u d)))))
-          ≡ leafHeadOf (andThen r (λ _ at s. andThen (padded i32 at s) (λ d at s. andThen (just ")" at s) (λ _. done (tree.pair u d)))))
+      between : (u : ℤ) (r : Reading (Unit {0})) → andThen r (λ _ at s. andThen (padded i32 at s) (λ d at s. andThen (just ")" at s) (λ _. done (leafFields (tree.pair u d)))))
+          ≡ leafRead (andThen r (λ _ at s. andThen (padded i32 at s) (λ d at s. andThen (just ")" at s) (λ _. done (tree.pair u d)))))
       between u rejected = refl
       between u (read x e t) = second u (padded i32 e t)
 
-      go : (r : Reading ℤ) → andThen r comma ≡ leafHeadOf (andThen r (λ u at s. andThen (just "," at s) (λ _ at s. andThen (padded i32 at s) (λ d at s. andThen (just ")" at s) (λ _. done (tree.pair u d))))))
+      go : (r : Reading ℤ) → andThen r comma ≡ leafRead (andThen r (λ u at s. andThen (just "," at s) (λ _ at s. andThen (padded i32 at s) (λ d at s. andThen (just ")" at s) (λ _. done (tree.pair u d))))))
       go rejected = refl
       go (read u e t) = between u (just "," e t)
 
   -- Square-1 moves
-  pub a-slash : eqb (byteAt text at) 47 ≡ true → read (leafHead tree.slash) (at + 1) (drop (at + 1) text) ≡ leafHeadOf (sq1Move at (drop at text))
+  pub a-slash : eqb (byteAt text at) 47 ≡ true → read (leafFields tree.slash) (at + 1) (drop (at + 1) text) ≡ leafRead (sq1Move at (drop at text))
   unfolding sq1Move
   a-slash e = rw (just-is "/" text at (omega arith) e)
 
-  pub from-parenthesis : {x : Reading Head} → eqb (byteAt text at) 47 ≡ false → eqb (byteAt text at) 40 ≡ true → x ≡ pairAfter (at + 1) (drop (at + 1) text) →
-      x ≡ leafHeadOf (sq1Move at (drop at text))
+  pub from-parenthesis : {x : Reading (List ℕ)} → eqb (byteAt text at) 47 ≡ false → eqb (byteAt text at) 40 ≡ true → x ≡ pairAfter (at + 1) (drop (at + 1) text) →
+      x ≡ leafRead (sq1Move at (drop at text))
   unfolding sq1Move
   from-parenthesis n e q = rw (just-not "/" text at n, just-is "(" text at (omega arith) e) (q ∙ paired (at + 1) (drop (at + 1) text))
 
-  pub no-sq1 : eqb (byteAt text at) 47 ≡ false → eqb (byteAt text at) 40 ≡ false → rejected ≡ leafHeadOf (sq1Move at (drop at text))
+  pub no-sq1 : eqb (byteAt text at) 47 ≡ false → eqb (byteAt text at) 40 ≡ false → rejected ≡ leafRead (sq1Move at (drop at text))
   unfolding sq1Move
   no-sq1 n m = simp (just-not "/" text at n, just-not "(" text at m)
 
 -- A scramble move, or else a move.
-module _ (f : Features) (at : ℕ) (s : List ℕ) where
-  after : {x : Reading Head} → scrambleHead (when (f .megaminx) megaminxScrambleMove at s) ≡ rejected → x ≡ repeated (moveNode f at s) → x ≡ scrambleOrMove f at s
-  after e q = q ∙ sym (or-none (scrambleHead (when (f .megaminx) megaminxScrambleMove at s)) (λ at s. repeated (moveNode f at s)) at s e)
+module _ (f : Features) (text : List ℕ) (at : ℕ) where
+  abbrev scrambled : Bool → Reading (List ℕ)
+  scrambled b = scrambleRead (when b megaminxScrambleMove at (drop at text))
 
-  chosen : {b : Bool} → f .megaminx ≡ b → scrambleHead (when (f .megaminx) megaminxScrambleMove at s) ≡ scrambleHead (when b megaminxScrambleMove at s)
-  chosen e = ap (λ (b : Bool). scrambleHead (when b megaminxScrambleMove at s)) e
+  abbrev orMove : Reading (List ℕ) → Reading (List ℕ)
+  orMove r = orElse r (λ at s. repeated (moveNode f at s)) at (drop at text)
 
-  pub scramble-off : {x : Reading Head} → f .megaminx ≡ false → x ≡ repeated (moveNode f at s) → x ≡ scrambleOrMove f at s
-  scramble-off e q = after (chosen e) q
+  pub a-scramble : {x : Reading (List ℕ)} → f .megaminx ≡ true → scrambleAt text at ≡ true → x ≡ scrambleRead (megaminxScrambleMove at (drop at text)) →
+      x ≡ scrambleOrMove f at (drop at text)
+  a-scramble e n q = let m = scramble-stands text at n in q ∙ sym m ∙ sym (ap (λ (b : Bool). orMove (scrambled b)) e ∙ ap orMove (sym m))
 
-  pub no-scramble : {x : Reading Head} → f .megaminx ≡ true → rejected ≡ scrambleHead (megaminxScrambleMove at s) → x ≡ repeated (moveNode f at s) → x ≡ scrambleOrMove f at s
-  no-scramble e n q = after (chosen e ∙ sym n) q
-
-  pub a-scramble : (h : Head) (next : ℕ) (t : List ℕ) → f .megaminx ≡ true → read h next t ≡ scrambleHead (megaminxScrambleMove at s) → read h next t ≡ scrambleOrMove f at s
-  a-scramble h next t e n = sym (ap (λ (r : Reading Head). orElse r (λ at s. repeated (moveNode f at s)) at s) (chosen e ∙ sym n))
+  pub no-scramble : {x : Reading (List ℕ)} → (f .megaminx && scrambleAt text at) ≡ false → x ≡ repeated (moveNode f at (drop at text)) → x ≡ scrambleOrMove f at (drop at text)
+  no-scramble e q = q ∙ sym (or-none (scrambled (f .megaminx)) (λ at s. repeated (moveNode f at s)) at (drop at text) (go (f .megaminx) e))
+    where
+      go : (b : Bool) → (b && scrambleAt text at) ≡ false → scrambled b ≡ rejected
+      go true e = sym (scramble-missing text at e)
+      go false e = refl
 
 -- Square-1 moves where they are admitted.
 module _ (f : Features) (at : ℕ) (s : List ℕ) where
-  pub sq1-on : {x : Reading Head} → f .sq1 ≡ true → x ≡ leafHeadOf (sq1Move at s) → x ≡ leafHeadOf (when (f .sq1) sq1Move at s)
-  sq1-on e q = q ∙ sym (ap (λ (b : Bool). leafHeadOf (when b sq1Move at s)) e)
+  pub sq1-on : {x : Reading (List ℕ)} → f .sq1 ≡ true → x ≡ leafRead (sq1Move at s) → x ≡ leafRead (when (f .sq1) sq1Move at s)
+  sq1-on e q = q ∙ sym (ap (λ (b : Bool). leafRead (when b sq1Move at s)) e)
 
-  pub sq1-off : f .sq1 ≡ false → rejected ≡ leafHeadOf (when (f .sq1) sq1Move at s)
-  sq1-off e = sym (ap (λ (b : Bool). leafHeadOf (when b sq1Move at s)) e)
+  pub sq1-off : f .sq1 ≡ false → rejected ≡ leafRead (when (f .sq1) sq1Move at s)
+  sq1-off e = sym (ap (λ (b : Bool). leafRead (when b sq1Move at s)) e)

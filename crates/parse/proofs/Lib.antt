@@ -8,6 +8,7 @@ pub mod Sets
 pub mod LayerSets
 pub mod Choices
 pub mod Leaves
+pub mod Bare
 pub mod FirstBytes
 pub mod Buffers
 pub mod Lists
@@ -15,6 +16,7 @@ pub mod Groups
 pub mod LeafNodes
 pub mod Turns
 pub mod Blocks
+pub mod Pairs
 pub mod Arms
 pub mod NestingScan
 pub mod Entry

@@ -1,25 +1,33 @@
 -- The scan of brackets, byte by byte. Assumes nothing.
 use Prim.Native.Nat.{ℕ, _+_, _<_, _≤_}
 use mathlib.Core.Path.{_≡_, refl, sym, _∙_}
-use mathlib.Core.Bool.{true, false, _||_}
+use mathlib.Core.Bool.{true, false}
 use mathlib.Core.List.{List, [], _∷_}
+use mathlib.Core.Logic.{⊎-elim, inl, inr}
+use types.Run.{OneOf}
 use native.Mathlib.Omega.{arith}
 use native.Mathlib.Numerals.{add-one}
-use borrow.Author.Tests.{le-leb, lt-leb, eq-eqb, ne-eqb}
-use lib.Dec.{eqb}
+use borrow.Author.Tests.{le-leb, lt-leb, ne-eqb}
 use lib.ListN.{length, getD, drop, drop-of-length-le}
 use lib.Seq.{drop-cons}
-use Rattle.notation.specs.Packed.{bit}
 use Rattle.notation.specs.Entries.{opens, closes, nestingOk}
 
-pub first-of : (b x y : ℕ) → b ≡ x → 1 ≡ bit (eqb b x || eqb b y)
-first-of b x y e = rw (eq-eqb b x e)
+-- what each byte adds to the two counts
+pub record Counts (b o c : ℕ) : Type 0 where
+  pub opened : opens b ≡ o
+  pub closed : closes b ≡ c
 
-pub second-of : (b x y : ℕ) → (b ≡ x → ⊥) → b ≡ y → 1 ≡ bit (eqb b x || eqb b y)
-second-of b x y h e = rw (ne-eqb b x h, eq-eqb b y e)
+pub opening : (b : ℕ) → OneOf (40 ∷ 91 ∷ []) b → Counts b 1 0
+opening b = ⊎-elim (λ e. rw e (record { opened = refl; closed = refl })) (λ e. rw e (record { opened = refl; closed = refl }))
 
-pub neither-of : (b x y : ℕ) → (b ≡ x → ⊥) → (b ≡ y → ⊥) → 0 ≡ bit (eqb b x || eqb b y)
-neither-of b x y h k = rw (ne-eqb b x h, ne-eqb b y k)
+pub closing : (b : ℕ) → OneOf (41 ∷ 93 ∷ []) b → Counts b 0 1
+closing b = ⊎-elim (λ e. rw e (record { opened = refl; closed = refl })) (λ e. rw e (record { opened = refl; closed = refl }))
+
+pub neither : (b : ℕ) → (OneOf (40 ∷ 91 ∷ []) b → ⊥) → (OneOf (41 ∷ 93 ∷ []) b → ⊥) → Counts b 0 0
+neither b h k = record {
+  opened = rw (ne-eqb b 40 (λ e. h (inl e)), ne-eqb b 91 (λ e. h (inr e)));
+  closed = rw (ne-eqb b 41 (λ e. k (inl e)), ne-eqb b 93 (λ e. k (inr e)));
+}
 
 over : (o c : ℕ) (l : List ℕ) → c + 64 < o → nestingOk o c l ≡ false
 unfolding nestingOk
@@ -41,13 +49,15 @@ module _ (text : List ℕ) (opened closed at : ℕ) (s : Scanned text opened clo
   unfolding nestingOk
   scan-end h = rw (drop-of-length-le text h, le-leb opened (closed + 64) (s .allowed)) at (s .same)
 
-  module _ (h : at < length text) (o c : ℕ) (is-o : (o ≡ opens (getD text at 0)) × (o ≤ 1)) (is-c : (c ≡ closes (getD text at 0)) × (c ≤ 1)) where
+  module _ (h : at < length text) (o c : ℕ) (k : Counts (getD text at 0) o c) where
     step : nestingOk (opened + o) (closed + c) (drop (at + 1) text) ≡ nestingOk 0 0 text
     unfolding nestingOk
-    step = rw (is-o .0, is-c .0, add-one) (rw (drop-cons text at 0 h, le-leb opened (closed + 64) (s .allowed)) at (s .same))
+    step = rw (← (k .opened), ← (k .closed), add-one) (rw (drop-cons text at 0 h, le-leb opened (closed + 64) (s .allowed)) at (s .same))
 
-    pub scan-on : opened + o ≤ closed + c + 64 → Scanned text (opened + o) (closed + c) (at + 1)
-    scan-on k = record { inside = omega arith; few = (omega (arith, s .few .0, is-o .1), omega (arith, s .few .1, is-c .1)); allowed = k; same = step }
+    -- the counts after it
+    module _ (o′ c′ : ℕ) (is-o : o′ ≡ opened + o) (is-c : c′ ≡ closed + c) where
+      pub scan-on : (o ≤ 1) → (c ≤ 1) → o′ ≤ c′ + 64 → Scanned text o′ c′ (at + 1)
+      scan-on a b l = record { inside = omega arith; few = (omega (arith, s .few .0), omega (arith, s .few .1)); allowed = l; same = rw (is-o, is-c) step }
 
-    pub scan-refused : closed + c + 64 < opened + o → false ≡ nestingOk 0 0 text
-    scan-refused k = sym (sym step ∙ over (opened + o) (closed + c) (drop (at + 1) text) k)
+      pub scan-refused : c′ + 64 < o′ → false ≡ nestingOk 0 0 text
+      scan-refused l = sym (sym (rw (is-o, is-c) step) ∙ over o′ c′ (drop (at + 1) text) l)

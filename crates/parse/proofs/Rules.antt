@@ -10,7 +10,7 @@ use Rattle.notation.specs.Tree.{Span, span}
 use Rattle.notation.specs.Grammar.{Reading, rejected, read, Reader, andThen, done, fail, just, word, sint, multiplier, spanned, constraint, constraintSet, layerSetElement, layerSetElements, layerPrefixContents, constraints, rotationNode, tilde, moveNode, groupNode, binaryGroupNode, megaminxScrambleMove, sq1Move, node}
 use Rattle.notation.specs.declared.features.Features.{Features}
 use Rattle.notation.specs.declared.common.MegaminxScrambleMove.{MegaminxScrambleMove}
-use Rattle.parse.specs.Meaning.{forget, elementOf, layerAfterHyphen, layerAfterDots, numberedLayers, headReading, nodeHead, Within}
+use Rattle.parse.specs.Meaning.{forget, elementOf, layerAfterHyphen, layerAfterDots, numberedLayers, recordReading, nodeFields, Within}
 use Rattle.parse.specs.declared.parts.Element.{Element}
 use Rattle.parse.specs.declared.parts.Element.the-variants as element
 use Rattle.parse.specs.declared.parts.LeafAnswer.{LeafAnswer}
@@ -149,8 +149,8 @@ takes-node f =
 
 -- the answer of `leaf` lies within the text, past its start
 pub leaf-within : (f : Features) (text : List ℕ) (at : ℕ) (r : LeafAnswer) → at ≤ length text →
-    headReading text r ≡ andThen (node f fail at (drop at text)) (λ n. done (nodeHead n)) → Within at (length text) r
+    recordReading text r ≡ andThen (node f fail at (drop at text)) (λ n. done (nodeFields n)) → Within at (length text) r
 leaf-within f text at leafAnswer.Nothing h e = tt
 leaf-within f text at (leafAnswer.Took rec next) h e =
-    let b = within text at (first (takes-node f) (λ n. takes-done {a = nodeHead n})) h e in
+    let b = within text at (first (takes-node f) (λ n. takes-done {a = nodeFields n})) h e in
     (omega (arith, b .0), b .1)

@@ -2,32 +2,27 @@
 -- its own reads.
 use Prim.Native.Nat.{ℕ, _+_, _-_, _≤_, _<_, min, max}
 use mathlib.Core.Path.{_≡_}
-use mathlib.Core.Bool.{Bool, _&&_}
+use mathlib.Core.Bool.{Bool, true, false, _&&_, _||_}
 use mathlib.Core.List.{List, [], _∷_}
 use mathlib.Core.Option.{Option}
 use lib.Dec.{eqb}
 use lib.IntN.{ℤ, pos, negℤ}
-use lib.ListN.{length, take, drop}
+use lib.ListN.{length, drop}
 use Rattle.notation.specs.Numbers.{fromBits}
 use Rattle.notation.specs.Utf8.{byteAt}
 use Rattle.notation.specs.Layers.{single, range}
 use Rattle.notation.specs.Layers as rules
 use Rattle.notation.specs.Tree as tree
-use Rattle.notation.specs.Tree.{fromTo, swap, fix, layerRange, singleLayer, noLayers, Node, leaf, block, Leaf}
-use Rattle.notation.specs.Packed.{Head, leafHead, bodyHead}
+use Rattle.notation.specs.Tree.{layerRange, singleLayer, noLayers, Node, leaf, block, Leaf}
+use Rattle.notation.specs.Packed.{bodyHead, leafFields, headFields}
 use Rattle.notation.specs.Grammar.{Reading, rejected, read, Reader, done, andThen, _or_, when, just, word, whitespace, padded, layer, signedLayer, i32, multiplier, moreOf, constraint, layerSetElement, moveNode, megaminxScrambleMove, _>>=_, _>>_}
 use Rattle.notation.specs.declared.features.Features.{Features}
 use Rattle.notation.specs.declared.common.GroupKind.{GroupKind}
 use Rattle.notation.specs.declared.common.MegaminxScrambleMove.{MegaminxScrambleMove}
-use Rattle.record.specs.Meaning.{head, layers, spanOption}
-use Rattle.record.specs.Range.{FitsHead, FitsLayers, FitsConstraints}
+use Rattle.notation.specs.declared.common.MegaminxScrambleMove.the-variants.{Rpp, Rmm, Dpp, Dmm}
+use Rattle.record.specs.Meaning.{listed, layers, spanOption}
 use Rattle.parse.specs.declared.parts.Taken.{Taken}
 use Rattle.parse.specs.declared.parts.Taken.the-variants as taken
-use Rattle.parse.specs.declared.parts.Part.{Part}
-use Rattle.parse.specs.declared.parts.Constraint.{Constraint}
-use Rattle.parse.specs.declared.parts.Constraint.the-variants as constraint′
-use Rattle.parse.specs.declared.parts.ConstraintAnswer.{ConstraintAnswer}
-use Rattle.parse.specs.declared.parts.ConstraintAnswer.the-variants as constraintAnswer
 use Rattle.parse.specs.declared.parts.LayerSetElement.{LayerSetElement}
 use Rattle.parse.specs.declared.parts.LayerSetElement.the-variants as layerElement
 use Rattle.parse.specs.declared.parts.LayerSetElementAnswer.{LayerSetElementAnswer}
@@ -51,26 +46,10 @@ abbrev pub told : List ℕ → Taken → Reading (Unit {0})
 told text taken.Nothing = rejected
 told text (taken.To next) = read tt next (drop next text)
 
--- the bytes of a part
-abbrev pub between : List ℕ → ℕ → ℕ → List ℕ
-between text from to = take (to - from) (drop from text)
-
-abbrev pub bytesTaken : List ℕ → ℕ → Taken → Reading (List ℕ)
-bytesTaken text at taken.Nothing = rejected
-bytesTaken text at (taken.To next) = read (between text at next) next (drop next text)
-
 -- Elements of sets.
-abbrev pub bytes : List ℕ → Part → List ℕ
-bytes text p = between text (p .from) (p .to)
-
-abbrev pub constraintOf : List ℕ → Constraint → tree.Constraint
-constraintOf text (constraint′.FromTo a b) = fromTo (bytes text a) (bytes text b)
-constraintOf text (constraint′.Swap a b) = swap (bytes text a) (bytes text b)
-constraintOf text (constraint′.Fix a) = fix (bytes text a)
-
-abbrev pub constraintReading : List ℕ → ConstraintAnswer → Reading tree.Constraint
-constraintReading text constraintAnswer.Nothing = rejected
-constraintReading text (constraintAnswer.Took k next) = read (constraintOf text k) next (drop next text)
+-- the sign of a constraint: -> or <>
+abbrev pub signAt : List ℕ → ℕ → Bool
+signAt text at = (eqb (byteAt text at) 45 && eqb (byteAt text (at + 1)) 62) || (eqb (byteAt text at) 60 && eqb (byteAt text (at + 1)) 62)
 
 abbrev pub layerSetElementOf : LayerSetElement → rules.LayerSetElement
 layerSetElementOf (layerElement.Single i) = single (fromBits 32 i)
@@ -133,47 +112,47 @@ withQuote n = (do just "'"; done (negℤ (pos n))) or done (pos n)
 abbrev pub groupReading : List ℕ → Group → Reading GroupKind
 groupReading text r = read (r .kind) (r .next) (drop (r .next) text)
 
--- Nodes, by what their records say.
-abbrev pub nodeHead : Node Leaf → Head
-nodeHead (leaf x) = leafHead x
-nodeHead (block b m) = bodyHead b m
+-- Nodes, by the fields of their records.
+abbrev pub nodeFields : Node Leaf → List ℕ
+nodeFields (leaf x) = leafFields x
+nodeFields (block b m) = headFields (bodyHead b m)
 
-abbrev pub headReading : List ℕ → LeafAnswer → Reading Head
-headReading text leafAnswer.Nothing = rejected
-headReading text (leafAnswer.Took rec next) = read (head rec) next (drop next text)
+abbrev pub recordReading : List ℕ → LeafAnswer → Reading (List ℕ)
+recordReading text leafAnswer.Nothing = rejected
+recordReading text (leafAnswer.Took f next) = read (listed f) next (drop next text)
 
 -- a node with its multiplier
-abbrev pub repeated : Reading (ℤ → Node Leaf) → Reading Head
-repeated r = andThen r (λ inner. do m ← multiplier; done (nodeHead (inner m)))
+abbrev pub repeated : Reading (ℤ → Node Leaf) → Reading (List ℕ)
+repeated r = andThen r (λ inner. do m ← multiplier; done (nodeFields (inner m)))
 
-abbrev pub leafHeadOf : Reading Leaf → Reading Head
-leafHeadOf r = andThen r (λ x. done (leafHead x))
+abbrev pub leafRead : Reading Leaf → Reading (List ℕ)
+leafRead r = andThen r (λ x. done (leafFields x))
 
-abbrev pub scrambleHead : Reading MegaminxScrambleMove → Reading Head
-scrambleHead r = andThen r (λ k. done (leafHead (tree.megaminx k)))
+abbrev pub scrambleRead : Reading MegaminxScrambleMove → Reading (List ℕ)
+scrambleRead r = andThen r (λ k. done (leafFields (tree.megaminx k)))
 
-abbrev pub pairAfter : Reader Head
-pairAfter = do u ← padded i32; just ","; d ← padded i32; just ")"; done (leafHead (tree.pair u d))
+abbrev pub pairAfter : Reader (List ℕ)
+pairAfter = do u ← padded i32; just ","; d ← padded i32; just ")"; done (leafFields (tree.pair u d))
 
-abbrev pub scrambleOrMove : Features → Reader Head
-scrambleOrMove f = (λ at s. scrambleHead (when (f .megaminx) megaminxScrambleMove at s)) or (λ at s. repeated (moveNode f at s))
+abbrev pub scrambleOrMove : Features → Reader (List ℕ)
+scrambleOrMove f = (λ at s. scrambleRead (when (f .megaminx) megaminxScrambleMove at s)) or (λ at s. repeated (moveNode f at s))
 
--- a letter and twice a sign
-abbrev pub threeBytes : List ℕ → ℕ → ℕ → ℕ → Bool
-threeBytes text at letter sign =
-    eqb (byteAt text at) letter && (eqb (byteAt text (at + 1)) sign && eqb (byteAt text (at + 1 + 1)) sign)
+-- twice a sign
+abbrev pub twice : List ℕ → ℕ → ℕ → Bool
+twice text at sign = eqb (byteAt text at) sign && eqb (byteAt text (at + 1)) sign
 
--- What else the caller may count on: numbers fit their fields, and an answer lies within the text.
-abbrev pub LayersFit : Layers → Type 0
-LayersFit r = FitsLayers (layers (r .contents))
+-- a scramble move: R or D, then ++ or --
+abbrev pub scrambleAt : List ℕ → ℕ → Bool
+scrambleAt text at = (eqb (byteAt text at) 82 || eqb (byteAt text at) 68) && (twice text (at + 1) 43 || twice text (at + 1) 45)
 
-abbrev pub ConstraintsFit : Constraints → Type 0
-ConstraintsFit r = FitsConstraints (spanOption (r .part))
+-- which one it is, by whether the letter is R and the sign +
+abbrev pub scrambleKind : Bool → Bool → MegaminxScrambleMove
+scrambleKind true true = Rpp
+scrambleKind true false = Rmm
+scrambleKind false true = Dpp
+scrambleKind false false = Dmm
 
-abbrev pub RecordFits : LeafAnswer → Type 0
-RecordFits leafAnswer.Nothing = Unit {0}
-RecordFits (leafAnswer.Took rec next) = FitsHead (head rec)
-
+-- What else the caller may count on: an answer lies within the text.
 abbrev pub Within : ℕ → ℕ → LeafAnswer → Type 0
 Within at end leafAnswer.Nothing = Unit {0}
-Within at end (leafAnswer.Took rec next) = (at < next) × (next ≤ end)
+Within at end (leafAnswer.Took f next) = (at < next) × (next ≤ end)

@@ -6,7 +6,7 @@ use lib.IntN.{ℤ}
 use lib.ListN.{length, take, drop}
 use Rattle.notation.specs.Tree.{Leaf, Node, Tree}
 use Rattle.notation.specs.Packed.{RECORD, nodeSize, size, packNode, pack}
-use Rattle.notation.specs.Grammar.{Reading, Reader, rejected, read, done, _>>=_, multiplier, nodeList}
+use Rattle.notation.specs.Grammar.{Reading, Reader, rejected, read, done, _>>=_, _or_, multiplier, groupNode, binaryGroupNode, nodeList}
 use Rattle.notation.specs.Entries.{MAX-TEXT}
 use Rattle.notation.specs.declared.features.Features.{Features}
 use mathlib.Core.Bool.{true, false}
@@ -66,6 +66,10 @@ pub record NoNode (rule : ℕ → Reader (Node Leaf)) (text : List ℕ) (at slot
 abbrev pub Told : (ℕ → Reader (Node Leaf)) → List ℕ → ℕ → ℕ → List ℕ → List ℕ → NodeAnswer → Type 0
 Told rule text at slot old new (Took next end) = NodeRead rule text at slot old new next end
 Told rule text at slot old new Nothing = NoNode rule text at slot old new
+
+-- a group or a bracket
+abbrev pub nested : Reader Tree → Reader (ℤ → Node Leaf)
+nested list = groupNode list or binaryGroupNode list
 
 -- a node that can be repeated, with its multiplier
 abbrev pub repeated : Reader (ℤ → Node Leaf) → Reader (Node Leaf)

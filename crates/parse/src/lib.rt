@@ -5,7 +5,6 @@ pub mod parse;
 pub mod parts;
 pub mod spanned;
 
-pub use parse::constraint;
 pub use parse::constraint_set;
 pub use parse::group_kind;
 pub use parse::layer_set;

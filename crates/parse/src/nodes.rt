@@ -8,7 +8,7 @@ ghost use Rattle.notation.specs.Basics.{pick};
 ghost use Rattle.notation.specs.Utf8.{byteAt};
 ghost use Rattle.notation.specs.Grammar as rule;
 ghost use Rattle.notation.specs.Packed as packed;
-ghost use Rattle.record.specs.Meaning.{head};
+ghost use Rattle.record.specs.Meaning.{listed};
 ghost use Rattle.parse.specs.Nodes as nodes;
 use crate::parse::group_kind;
 use crate::parse::has;
@@ -19,8 +19,10 @@ use charsets::whitespace_end;
 use notation::common::BinaryGroupKind;
 use notation::features::Features;
 use record::RECORD;
-use record::encode::encode;
-use record::spanned::Record;
+use record::encode::Fields;
+use record::encode::binary_group_fields;
+use record::encode::group_fields;
+use record::encode::put;
 
 // Where a list ends in the text, and the slot after its last record.
 pub struct Listed {
@@ -70,14 +72,14 @@ fn binary_group_kind(text: &[u8], at: usize) -> BinaryKind
     BinaryKind::Nothing
 }
 
-fn put_record(tree: &mut [u8], slot: usize, r: Record)
+fn put_record(tree: &mut [u8], slot: usize, f: Fields)
     requires { ⌜ slot ≤ 65535 ⌝ }
-    ensures { λ _. ⌜ now (tree .exit) ≡ nodes.put (packed.RECORD * slot) (packed.record25 (head r)) (now (tree .entry)) ⌝ }
+    ensures { λ _. ⌜ now (tree .exit) ≡ nodes.put (packed.RECORD * slot) (packed.layOut packed.widths (listed f)) (now (tree .entry)) ⌝ }
 {
     let at = RECORD * slot;
     let end = at + RECORD;
     if end <= tree.len() {
-        encode(r, &mut tree[at..end]);
+        put(&mut tree[at..end], f);
     }
 }
 
@@ -86,10 +88,10 @@ fn leaf_node(text: &[u8], at: usize, features: Features, tree: &mut [u8], slot: 
     requires { ⌜ nodes.Within (now text) at slot ⌝ }
     ensures { λ r. ⌜ nodes.Told (λ _. rule.node features rule.fail) (now (text .entry)) at slot (now (tree .entry)) (now (tree .exit)) r ⌝ }
 {
-    let LeafAnswer::Took(r, next) = leaf(text, at, features) else {
+    let LeafAnswer::Took(f, next) = leaf(text, at, features) else {
         return NodeAnswer::Nothing;
     };
-    put_record(tree, slot, r);
+    put_record(tree, slot, f);
     NodeAnswer::Took(next, slot + 1)
 }
 
@@ -112,28 +114,29 @@ pub fn node_list(text: &[u8], at: usize, features: Features, tree: &mut [u8], sl
     }
 }
 
-// What cannot be read as a group may be a pair; a pair stands only where the group's list was empty, so no list is read twice.
+// A leaf is tried first: where one stands, no group does, so the rule's order does not matter, and most nodes are leaves.
 fn node(text: &[u8], at: usize, features: Features, tree: &mut [u8], slot: usize) -> NodeAnswer
     requires { ⌜ nodes.Within (now text) at slot ⌝ }
     ensures { λ r. ⌜ nodes.Told (λ k. rule.node features (rule.nodeList features k)) (now (text .entry)) at slot (now (tree .entry)) (now (tree .exit)) r ⌝ }
+{
+    let NodeAnswer::Took(next, end) = leaf_node(text, at, features, tree, slot) else {
+        return any_group(text, at, features, tree, slot);
+    };
+    NodeAnswer::Took(next, end)
+}
+
+// A group of either sort. The first byte tells which one it can be.
+fn any_group(text: &[u8], at: usize, features: Features, tree: &mut [u8], slot: usize) -> NodeAnswer
+    requires { ⌜ nodes.Within (now text) at slot ⌝ }
+    ensures { λ r. ⌜ nodes.Told (λ k. nodes.repeated (nodes.nested (rule.nodeList features k))) (now (text .entry)) at slot (now (tree .entry)) (now (tree .exit)) r ⌝ }
 {
     if text.len() <= at {
         return NodeAnswer::Nothing;
     }
     match text[at] {
-        b'(' | b'!' | b'&' | b'^' => {
-            let NodeAnswer::Took(next, end) = group(text, at, features, tree, slot) else {
-                return leaf_node(text, at, features, tree, slot);
-            };
-            NodeAnswer::Took(next, end)
-        }
-        b'[' => {
-            let NodeAnswer::Took(next, end) = binary_group(text, at, features, tree, slot) else {
-                return leaf_node(text, at, features, tree, slot);
-            };
-            NodeAnswer::Took(next, end)
-        }
-        _ => leaf_node(text, at, features, tree, slot),
+        b'(' | b'!' | b'&' | b'^' => group(text, at, features, tree, slot),
+        b'[' => binary_group(text, at, features, tree, slot),
+        _ => NodeAnswer::Nothing,
     }
 }
 
@@ -151,15 +154,7 @@ fn group(text: &[u8], at: usize, features: Features, tree: &mut [u8], slot: usiz
             return NodeAnswer::Nothing;
         };
         let first = (list.slot - (slot + 1)) as u16;
-        put_record(
-            tree,
-            slot,
-            Record::Group {
-                kind,
-                first,
-                multiplier: bits,
-            },
-        );
+        put_record(tree, slot, group_fields(kind, first, bits));
         NodeAnswer::Took(next, list.slot)
     } else {
         NodeAnswer::Nothing
@@ -187,15 +182,6 @@ fn binary_group(
     };
     let first = (a.slot - (slot + 1)) as u16;
     let second = (b.slot - a.slot) as u16;
-    put_record(
-        tree,
-        slot,
-        Record::BinaryGroup {
-            kind,
-            first,
-            second,
-            multiplier: bits,
-        },
-    );
+    put_record(tree, slot, binary_group_fields(kind, first, second, bits));
     NodeAnswer::Took(next, b.slot)
 }

@@ -1,7 +1,5 @@
 // The rules of the Rust's parse.rs that hold no list of nodes. Each function is handed the text and an offset, and hands back
 // what stands there and the offset after it, or nothing. No byte is read again where a choice can be told from those before.
-use crate::parts::Constraint;
-use crate::parts::ConstraintAnswer;
 use crate::parts::Constraints;
 use crate::parts::Element;
 use crate::parts::Group;
@@ -10,7 +8,6 @@ use crate::parts::LayerSetElementAnswer;
 use crate::parts::Layers;
 use crate::parts::LeafAnswer;
 use crate::parts::Multiplied;
-use crate::parts::Part;
 use crate::parts::Taken;
 use crate::parts::Tilde;
 use charsets::family_end;
@@ -23,26 +20,30 @@ use numbers::decimal::Unsigned;
 use numbers::decimal::sint;
 use numbers::decimal::uint;
 use numbers::signed::negate;
+use record::encode::megaminx_fields;
+use record::encode::move_fields;
+use record::encode::pair_fields;
+use record::encode::pause_fields;
+use record::encode::rotation_fields;
+use record::encode::slash_fields;
 use record::spanned::LayerPrefixContents;
 use record::spanned::Move;
-use record::spanned::Record;
 use record::spanned::Rotation;
 use record::spanned::Span;
 use record::spanned::SpanOption;
 ghost use mathlib.Core.Path.{_≡_};
-ghost use mathlib.Core.Bool.{true, _&&_};
+ghost use mathlib.Core.Bool.{true, _&&_, _||_};
 ghost use Prim.Native.Nat.{_-_, _+_, _≤_, _<_};
 ghost use lib.Dec.{eqb};
 ghost use lib.ListN.{length, drop};
 ghost use lib.IntN.{pos, negℤ};
 ghost use Rattle.notation.specs.Numbers.{fromBits};
-ghost use Rattle.notation.specs.Packed.{familyAt, leafHead};
+ghost use Rattle.notation.specs.Packed.{familyAt};
 ghost use Rattle.notation.specs.Tree as tree;
 ghost use Rattle.notation.specs.Utf8.{byteAt};
 ghost use Rattle.notation.specs.Grammar as rule;
 ghost use Rattle.numbers.specs.Decimal.{uintReading, sintReading};
 ghost use Rattle.record.specs.Meaning.{span};
-ghost use Rattle.record.specs.Range.{FitsFamily, FitsSpan};
 ghost use Rattle.parse.specs.Meaning as means;
 
 // The deepest layer.
@@ -79,8 +80,7 @@ fn has_two(text: &[u8], at: usize, first: u8, second: u8) -> bool
 // The part of the text from one offset to another.
 fn span_between(from: usize, to: usize) -> Span
     requires { ⌜ (from ≤ to) × (to ≤ 65535) ⌝ }
-    ensures means { λ r. ⌜ span r ≡ tree.span from (to - from) ⌝ }
-    ensures fits { λ r. ⌜ FitsSpan (span r) ⌝ }
+    ensures { λ r. ⌜ span r ≡ tree.span from (to - from) ⌝ }
 {
     Span {
         offset: from as u16,
@@ -91,8 +91,7 @@ fn span_between(from: usize, to: usize) -> Span
 // The same for a family: an empty one stands nowhere.
 fn family_span(from: usize, to: usize) -> Span
     requires { ⌜ (from ≤ to) × (to ≤ 65535) ⌝ }
-    ensures means { λ r. ⌜ span r ≡ familyAt from (to - from) ⌝ }
-    ensures fits { λ r. ⌜ FitsFamily (span r) ⌝ }
+    ensures { λ r. ⌜ span r ≡ familyAt from (to - from) ⌝ }
 {
     if from == to {
         Span { offset: 0, size: 0 }
@@ -104,44 +103,32 @@ fn family_span(from: usize, to: usize) -> Span
     }
 }
 
-// A family of at least one character.
-fn family(text: &[u8], at: usize) -> Taken
+// Whether the sign of a constraint stands at `at`: `->` or `<>`.
+fn is_sign(text: &[u8], at: usize) -> bool
     requires { ⌜ at ≤ length (now text) ⌝ }
-    ensures { λ r. ⌜ means.bytesTaken (now (text .entry)) at r ≡ rule.familyText at (drop at (now (text .entry))) ⌝ }
+    ensures { λ r. ⌜ r ≡ means.signAt (now (text .entry)) at ⌝ }
 {
-    let end = family_end(text, at);
-    if end == at {
-        Taken::Nothing
-    } else {
-        Taken::To(end)
-    }
+    has_two(text, at, b'-', b'>') || has_two(text, at, b'<', b'>')
 }
 
-// An element of a constraint set. Where no family follows a sign, the first family is an element by itself.
-pub fn constraint(text: &[u8], at: usize) -> ConstraintAnswer
+// An element of a constraint set: where it ends. Where no family follows a sign, the first family is an element by itself.
+fn constraint(text: &[u8], at: usize) -> Taken
     requires { ⌜ at ≤ length (now text) ⌝ }
-    ensures { λ r. ⌜ means.constraintReading (now (text .entry)) r ≡ rule.constraint at (drop at (now (text .entry))) ⌝ }
+    ensures { λ r. ⌜ means.told (now (text .entry)) r ≡ means.forget (rule.constraint at (drop at (now (text .entry)))) ⌝ }
 {
-    let Taken::To(to) = family(text, at) else {
-        return ConstraintAnswer::Nothing;
-    };
-    let a = Part { from: at, to };
+    let to = family_end(text, at);
+    if to == at {
+        return Taken::Nothing;
+    }
     let sign = whitespace_end(text, to);
-    if has_two(text, sign, b'-', b'>') {
+    if is_sign(text, sign) {
         let from = whitespace_end(text, sign + 2);
-        let Taken::To(end) = family(text, from) else {
-            return ConstraintAnswer::Took(Constraint::Fix(a), to);
-        };
-        return ConstraintAnswer::Took(Constraint::FromTo(a, Part { from, to: end }), end);
+        let end = family_end(text, from);
+        if from < end {
+            return Taken::To(end);
+        }
     }
-    if has_two(text, sign, b'<', b'>') {
-        let from = whitespace_end(text, sign + 2);
-        let Taken::To(end) = family(text, from) else {
-            return ConstraintAnswer::Took(Constraint::Fix(a), to);
-        };
-        return ConstraintAnswer::Took(Constraint::Swap(a, Part { from, to: end }), end);
-    }
-    ConstraintAnswer::Took(Constraint::Fix(a), to)
+    Taken::To(to)
 }
 
 // `..` and a layer.
@@ -206,12 +193,7 @@ fn element_end(text: &[u8], at: usize, element: Element) -> Taken
     ensures { λ r. ⌜ means.told (now (text .entry)) r ≡ means.elementOf element at (drop at (now (text .entry))) ⌝ }
 {
     match element {
-        Element::Constraint => {
-            let ConstraintAnswer::Took(_, next) = constraint(text, at) else {
-                return Taken::Nothing;
-            };
-            Taken::To(next)
-        }
+        Element::Constraint => constraint(text, at),
         Element::Layer(hsc1) => {
             let LayerSetElementAnswer::Took(_, next) = layer_set_element(text, at, hsc1) else {
                 return Taken::Nothing;
@@ -293,8 +275,7 @@ pub fn layer_set(text: &[u8], at: usize, hsc1: bool) -> Taken
 // The layer or the range of layers that stands at `at`.
 fn numbered_layers(text: &[u8], at: usize) -> Layers
     requires { ⌜ at ≤ length (now text) ⌝ }
-    ensures means { λ r. ⌜ means.layersReading (now (text .entry)) r ≡ means.numberedLayers at (drop at (now (text .entry))) ⌝ }
-    ensures fits { λ r. ⌜ means.LayersFit r ⌝ }
+    ensures { λ r. ⌜ means.layersReading (now (text .entry)) r ≡ means.numberedLayers at (drop at (now (text .entry))) ⌝ }
 {
     let Unsigned::Took(i, end) = uint(text, at, 1, MAX_LAYER) else {
         return Layers {
@@ -321,15 +302,17 @@ fn numbered_layers(text: &[u8], at: usize) -> Layers
     }
 }
 
-// The layers before a family; none is fine.
+// The layers before a family; none is fine. No number starts with a brace.
 pub fn layer_prefix_contents(text: &[u8], at: usize, features: Features) -> Layers
     requires { ⌜ (at ≤ length (now text)) × (length (now text) ≤ 65535) ⌝ }
-    ensures means { λ r. ⌜ means.layersReading (now (text .entry)) r ≡ rule.layerPrefixContents features at (drop at (now (text .entry))) ⌝ }
-    ensures fits { λ r. ⌜ means.LayersFit r ⌝ }
+    ensures { λ r. ⌜ means.layersReading (now (text .entry)) r ≡ rule.layerPrefixContents features at (drop at (now (text .entry))) ⌝ }
 {
-    if features.layers.layer_sets {
+    if features.layers.layer_sets && has(text, at, b'{') {
         let Taken::To(next) = layer_set(text, at, features.layers.hsc1_layer_ranges) else {
-            return numbered_layers(text, at);
+            return Layers {
+                contents: LayerPrefixContents::None,
+                next: at,
+            };
         };
         let part = span_between(at, next);
         return Layers {
@@ -366,10 +349,9 @@ fn tilde(text: &[u8], at: usize, features: Features) -> Tilde
 // The constraints after a family; none is fine.
 fn constraints(text: &[u8], at: usize, features: Features) -> Constraints
     requires { ⌜ (at ≤ length (now text)) × (length (now text) ≤ 65535) ⌝ }
-    ensures means { λ r. ⌜ means.constraintsReading (now (text .entry)) r ≡ rule.constraints features at (drop at (now (text .entry))) ⌝ }
-    ensures fits { λ r. ⌜ means.ConstraintsFit r ⌝ }
+    ensures { λ r. ⌜ means.constraintsReading (now (text .entry)) r ≡ rule.constraints features at (drop at (now (text .entry))) ⌝ }
 {
-    if features.transform_constraints {
+    if features.transform_constraints && has(text, at, b'{') {
         let Taken::To(next) = constraint_set(text, at) else {
             return Constraints {
                 part: SpanOption::None,
@@ -447,8 +429,7 @@ pub fn group_kind(text: &[u8], at: usize) -> Group
 fn rotation(text: &[u8], at: usize, features: Features) -> LeafAnswer
     requires { ⌜ (at < length (now text)) × (length (now text) ≤ 65535) ⌝ }
     requires { ⌜ eqb (byteAt (now text) at) 64 ≡ true ⌝ }
-    ensures means { λ r. ⌜ means.headReading (now (text .entry)) r ≡ means.repeated (rule.rotationNode features at (drop at (now (text .entry)))) ⌝ }
-    ensures fits { λ r. ⌜ means.RecordFits r ⌝ }
+    ensures { λ r. ⌜ means.recordReading (now (text .entry)) r ≡ means.repeated (rule.rotationNode features at (drop at (now (text .entry)))) ⌝ }
 {
     if features.generalized_rotations {
         let from = at + 1;
@@ -458,7 +439,7 @@ fn rotation(text: &[u8], at: usize, features: Features) -> LeafAnswer
         let part = set.part;
         let times = multiplier(text, set.next);
         return LeafAnswer::Took(
-            Record::Rotation(Rotation {
+            rotation_fields(Rotation {
                 family,
                 constraints: part,
                 multiplier: times.bits,
@@ -472,8 +453,7 @@ fn rotation(text: &[u8], at: usize, features: Features) -> LeafAnswer
 // A move: layers, a family of at least one character, constraints and a multiplier.
 fn move_(text: &[u8], at: usize, features: Features) -> LeafAnswer
     requires { ⌜ (at ≤ length (now text)) × (length (now text) ≤ 65535) ⌝ }
-    ensures means { λ r. ⌜ means.headReading (now (text .entry)) r ≡ means.repeated (rule.moveNode features at (drop at (now (text .entry)))) ⌝ }
-    ensures fits { λ r. ⌜ means.RecordFits r ⌝ }
+    ensures { λ r. ⌜ means.recordReading (now (text .entry)) r ≡ means.repeated (rule.moveNode features at (drop at (now (text .entry)))) ⌝ }
 {
     let sign = tilde(text, at, features);
     let prefix = layer_prefix_contents(text, sign.next, features);
@@ -488,7 +468,7 @@ fn move_(text: &[u8], at: usize, features: Features) -> LeafAnswer
     let part = set.part;
     let times = multiplier(text, set.next);
     LeafAnswer::Took(
-        Record::Move(Move {
+        move_fields(Move {
             inverted: sign.inverted,
             layers,
             family,
@@ -499,36 +479,57 @@ fn move_(text: &[u8], at: usize, features: Features) -> LeafAnswer
     )
 }
 
-// Whether a letter and twice a sign stand at `at`.
-fn has_scramble(text: &[u8], at: usize, letter: u8, sign: u8) -> bool
-    requires { ⌜ at < length (now text) ⌝ }
-    ensures { λ r. ⌜ r ≡ means.threeBytes (now (text .entry)) at letter sign ⌝ }
+// `&&` of two answers that are both known.
+fn both(a: bool, b: bool) -> bool
+    ensures { λ r. ⌜ r ≡ (a && b) ⌝ }
 {
-    if has(text, at, letter) {
-        has_two(text, at + 1, sign, sign)
+    if a { b } else { false }
+}
+
+// `||` of two such answers.
+fn either(a: bool, b: bool) -> bool
+    ensures { λ r. ⌜ r ≡ (a || b) ⌝ }
+{
+    if a { true } else { b }
+}
+
+// Whether a scramble move stands at `at`: R or D, then ++ or --. The tests are all made first and put together after, so that the
+// machine need not guess between them.
+fn is_scramble(text: &[u8], at: usize) -> bool
+    requires { ⌜ at < length (now text) ⌝ }
+    ensures { λ r. ⌜ r ≡ means.scrambleAt (now (text .entry)) at ⌝ }
+{
+    let r = has(text, at, b'R');
+    let d = has(text, at, b'D');
+    let plus = both(has(text, at + 1, b'+'), has(text, at + 2, b'+'));
+    let minus = both(has(text, at + 1, b'-'), has(text, at + 2, b'-'));
+    both(either(r, d), either(plus, minus))
+}
+
+// Which scramble move it is, by whether the letter is R and the sign +.
+fn scramble_kind(right: bool, plus: bool) -> MegaminxScrambleMove
+    ensures { λ r. ⌜ r ≡ means.scrambleKind right plus ⌝ }
+{
+    if right {
+        if plus {
+            MegaminxScrambleMove::Rpp
+        } else {
+            MegaminxScrambleMove::Rmm
+        }
+    } else if plus {
+        MegaminxScrambleMove::Dpp
     } else {
-        false
+        MegaminxScrambleMove::Dmm
     }
 }
 
+// A scramble move, which was seen.
 fn megaminx_scramble_move(text: &[u8], at: usize) -> LeafAnswer
-    requires { ⌜ at < length (now text) ⌝ }
-    ensures means { λ r. ⌜ means.headReading (now (text .entry)) r ≡ means.scrambleHead (rule.megaminxScrambleMove at (drop at (now (text .entry)))) ⌝ }
-    ensures fits { λ r. ⌜ means.RecordFits r ⌝ }
+    requires { ⌜ (at < length (now text)) × (means.scrambleAt (now text) at ≡ true) ⌝ }
+    ensures { λ r. ⌜ means.recordReading (now (text .entry)) r ≡ means.scrambleRead (rule.megaminxScrambleMove at (drop at (now (text .entry)))) ⌝ }
 {
-    if has_scramble(text, at, b'R', b'+') {
-        return LeafAnswer::Took(Record::Megaminx(MegaminxScrambleMove::Rpp), at + 3);
-    }
-    if has_scramble(text, at, b'R', b'-') {
-        return LeafAnswer::Took(Record::Megaminx(MegaminxScrambleMove::Rmm), at + 3);
-    }
-    if has_scramble(text, at, b'D', b'+') {
-        return LeafAnswer::Took(Record::Megaminx(MegaminxScrambleMove::Dpp), at + 3);
-    }
-    if has_scramble(text, at, b'D', b'-') {
-        return LeafAnswer::Took(Record::Megaminx(MegaminxScrambleMove::Dmm), at + 3);
-    }
-    LeafAnswer::Nothing
+    let kind = scramble_kind(has(text, at, b'R'), has(text, at + 1, b'+'));
+    LeafAnswer::Took(megaminx_fields(kind), at + 3)
 }
 
 // A number with white space around it.
@@ -546,8 +547,7 @@ fn padded_number(text: &[u8], at: usize) -> Signed
 // `(u, d)`, whose `(` stands before `at`.
 fn pair(text: &[u8], at: usize) -> LeafAnswer
     requires { ⌜ at ≤ length (now text) ⌝ }
-    ensures means { λ r. ⌜ means.headReading (now (text .entry)) r ≡ means.pairAfter at (drop at (now (text .entry))) ⌝ }
-    ensures fits { λ r. ⌜ means.RecordFits r ⌝ }
+    ensures { λ r. ⌜ means.recordReading (now (text .entry)) r ≡ means.pairAfter at (drop at (now (text .entry))) ⌝ }
 {
     let Signed::Took(u, comma) = padded_number(text, at) else {
         return LeafAnswer::Nothing;
@@ -557,7 +557,7 @@ fn pair(text: &[u8], at: usize) -> LeafAnswer
             return LeafAnswer::Nothing;
         };
         if has(text, end, b')') {
-            return LeafAnswer::Took(Record::UD { u, d }, end + 1);
+            return LeafAnswer::Took(pair_fields(u, d), end + 1);
         }
         return LeafAnswer::Nothing;
     }
@@ -566,11 +566,10 @@ fn pair(text: &[u8], at: usize) -> LeafAnswer
 
 fn sq1_move(text: &[u8], at: usize) -> LeafAnswer
     requires { ⌜ at < length (now text) ⌝ }
-    ensures means { λ r. ⌜ means.headReading (now (text .entry)) r ≡ means.leafHeadOf (rule.sq1Move at (drop at (now (text .entry)))) ⌝ }
-    ensures fits { λ r. ⌜ means.RecordFits r ⌝ }
+    ensures { λ r. ⌜ means.recordReading (now (text .entry)) r ≡ means.leafRead (rule.sq1Move at (drop at (now (text .entry)))) ⌝ }
 {
     if has(text, at, b'/') {
-        return LeafAnswer::Took(Record::Slash, at + 1);
+        return LeafAnswer::Took(slash_fields(), at + 1);
     }
     if has(text, at, b'(') {
         return pair(text, at + 1);
@@ -580,8 +579,7 @@ fn sq1_move(text: &[u8], at: usize) -> LeafAnswer
 
 fn admitted_sq1_move(text: &[u8], at: usize, features: Features) -> LeafAnswer
     requires { ⌜ at < length (now text) ⌝ }
-    ensures means { λ r. ⌜ means.headReading (now (text .entry)) r ≡ means.leafHeadOf (rule.when (features .sq1) rule.sq1Move at (drop at (now (text .entry)))) ⌝ }
-    ensures fits { λ r. ⌜ means.RecordFits r ⌝ }
+    ensures { λ r. ⌜ means.recordReading (now (text .entry)) r ≡ means.leafRead (rule.when (features .sq1) rule.sq1Move at (drop at (now (text .entry)))) ⌝ }
 {
     if features.sq1 {
         sq1_move(text, at)
@@ -593,37 +591,30 @@ fn admitted_sq1_move(text: &[u8], at: usize, features: Features) -> LeafAnswer
 // A scramble move, or else a move.
 fn scramble_or_move(text: &[u8], at: usize, features: Features) -> LeafAnswer
     requires { ⌜ (at < length (now text)) × (length (now text) ≤ 65535) ⌝ }
-    ensures means { λ r. ⌜ means.headReading (now (text .entry)) r ≡ means.scrambleOrMove features at (drop at (now (text .entry))) ⌝ }
-    ensures fits { λ r. ⌜ means.RecordFits r ⌝ }
+    ensures { λ r. ⌜ means.recordReading (now (text .entry)) r ≡ means.scrambleOrMove features at (drop at (now (text .entry))) ⌝ }
 {
-    if features.megaminx {
-        let LeafAnswer::Took(record, next) = megaminx_scramble_move(text, at) else {
-            return move_(text, at, features);
-        };
-        return LeafAnswer::Took(record, next);
+    if features.megaminx && is_scramble(text, at) {
+        megaminx_scramble_move(text, at)
+    } else {
+        move_(text, at, features)
     }
-    move_(text, at, features)
 }
 
 // A node that is no group. Its first byte tells which one it can be.
 pub fn leaf(text: &[u8], at: usize, features: Features) -> LeafAnswer
     requires { ⌜ (at ≤ length (now text)) × (length (now text) ≤ 65535) ⌝ }
-    ensures means { λ r. ⌜ means.headReading (now (text .entry)) r ≡ rule.andThen (rule.node features rule.fail at (drop at (now (text .entry)))) (λ n. rule.done (means.nodeHead n)) ⌝ }
-    ensures fits { λ r. ⌜ means.RecordFits r ⌝ }
+    ensures means { λ r. ⌜ means.recordReading (now (text .entry)) r ≡ rule.andThen (rule.node features rule.fail at (drop at (now (text .entry)))) (λ n. rule.done (means.nodeFields n)) ⌝ }
     ensures within { λ r. ⌜ means.Within at (length (now (text .entry))) r ⌝ }
 {
     if at < text.len() {
         let byte = text[at];
         if byte == b'.' {
-            return LeafAnswer::Took(Record::Pause, at + 1);
+            return LeafAnswer::Took(pause_fields(), at + 1);
         }
         if byte == b'@' {
             return rotation(text, at, features);
         }
-        if byte == b'(' {
-            return admitted_sq1_move(text, at, features);
-        }
-        if byte == b'/' {
+        if byte == b'(' || byte == b'/' {
             return admitted_sq1_move(text, at, features);
         }
         return scramble_or_move(text, at, features);

@@ -1,33 +1,12 @@
 // What the readers of parse.rt hand back: the parts of the notation with the offset after them.
 use notation::common::GroupKind;
+use record::encode::Fields;
 use record::spanned::LayerPrefixContents;
-use record::spanned::Record;
 use record::spanned::SpanOption;
 
 // Where a part ends whose meaning is not asked for.
 pub enum Taken {
     To(usize),
-    Nothing,
-}
-
-// A part of the text, by its two ends.
-pub struct Part {
-    pub from: usize,
-    pub to: usize,
-}
-
-// An element of a constraint set, with the families that it names.
-pub enum Constraint {
-    // `a->b`
-    FromTo(Part, Part),
-    // `a<>b`
-    Swap(Part, Part),
-    // `a`
-    Fix(Part),
-}
-
-pub enum ConstraintAnswer {
-    Took(Constraint, usize),
     Nothing,
 }
 
@@ -75,7 +54,8 @@ pub struct Group {
     pub next: usize,
 }
 
+// The fields of a leaf's record.
 pub enum LeafAnswer {
-    Took(Record, usize),
+    Took(Fields, usize),
     Nothing,
 }

@@ -1,10 +1,7 @@
 // Reading a whole text: `parse_notation` of the Rust's spanned.rs.
 ghost use mathlib.Core.Path.{_≡_};
-ghost use mathlib.Core.Bool.{_||_};
 ghost use Prim.Native.Nat.{_≤_};
-ghost use lib.Dec.{eqb};
 ghost use lib.ListN.{length};
-ghost use Rattle.notation.specs.Packed.{bit};
 ghost use Rattle.notation.specs.Entries as rule;
 use crate::nodes::node_list;
 use charsets::is_utf8;
@@ -16,19 +13,6 @@ const MAX_TEXT: usize = 65535;
 
 const MAX_NESTING: usize = 64;
 
-// 1 where b is one of the two.
-fn either(b: u8, round: u8, square: u8) -> usize
-    ensures { λ r. ⌜ (r ≡ bit (eqb b round || eqb b square)) × (r ≤ 1) ⌝ }
-{
-    if b == round {
-        return 1;
-    }
-    if b == square {
-        return 1;
-    }
-    0
-}
-
 // Whether no starting part of the text has over 64 more of `(` `[` than of `)` `]`.
 fn nesting_ok(text: &[u8]) -> bool
     requires { ⌜ length (now text) ≤ rule.MAX-TEXT ⌝ }
@@ -38,11 +22,17 @@ fn nesting_ok(text: &[u8]) -> bool
     let mut closed: usize = 0;
     let mut at = 0;
     while at < text.len() {
-        let b = text[at];
-        opened += either(b, b'(', b'[');
-        closed += either(b, b')', b']');
-        if closed + MAX_NESTING < opened {
-            return false;
+        match text[at] {
+            b'(' | b'[' => {
+                opened += 1;
+                if closed + MAX_NESTING < opened {
+                    return false;
+                }
+            }
+            b')' | b']' => {
+                closed += 1;
+            }
+            _ => {}
         }
         at += 1;
     }

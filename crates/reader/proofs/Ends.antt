@@ -8,10 +8,9 @@ use denote.Ref.{RefT, now}
 use Rattle.notation.specs.Chars.{whiteSpace}
 use Rattle.notation.specs.Utf8.{run}
 use Rattle.notation.specs.Grammar.{Reading, rejected, read, whitespace, multiplier, constraintSet}
-use Rattle.notation.specs.Packed.{Head}
 use Rattle.notation.specs.declared.features.Features.{Features}
 use Rattle.charsets.proofs.Runs.{run-length}
-use Rattle.parse.specs.Meaning.{forget, told, multiplierReading, headReading}
+use Rattle.parse.specs.Meaning.{forget, told, multiplierReading, recordReading}
 use Rattle.parse.specs.Meaning as means
 use Rattle.parse.specs.declared.parts.Multiplied.{Multiplied}
 use Rattle.parse.specs.declared.parts.LeafAnswer.{LeafAnswer}
@@ -30,7 +29,7 @@ pub multiplier-moves : (r : Reader) (m : Multiplied) → Inside r → multiplier
 multiplier-moves r m inside e = (ap (after r) e, within (text r) (r .at) takes-multiplier inside e .1)
 
 -- a leaf's answer says where its reading ends
-leaf-end : (s : List ℕ) (at : ℕ) (a : LeafAnswer) → afterLeaf at a ≡ endOf at (headReading s a)
+leaf-end : (s : List ℕ) (at : ℕ) (a : LeafAnswer) → afterLeaf at a ≡ endOf at (recordReading s a)
 leaf-end s at leafAnswer.Nothing = refl
 leaf-end s at (leafAnswer.Took rec next) = refl
 
@@ -38,7 +37,7 @@ leaf-inside : (s : List ℕ) (at : ℕ) (a : LeafAnswer) → at ≤ length s →
 leaf-inside s at leafAnswer.Nothing h w = h
 leaf-inside s at (leafAnswer.Took rec next) h w = w .1
 
-pub leaf-moves : (f : Features) (r : Reader) (a : LeafAnswer) (n : ℕ) → Inside r → headReading (text r) a ≡ reads (leaf f) r → means.Within (r .at) (length (text r)) a → n ≡ afterLeaf (r .at) a → Moves (leaf f) r (moved r n)
+pub leaf-moves : (f : Features) (r : Reader) (a : LeafAnswer) (n : ℕ) → Inside r → recordReading (text r) a ≡ reads (leaf f) r → means.Within (r .at) (length (text r)) a → n ≡ afterLeaf (r .at) a → Moves (leaf f) r (moved r n)
 leaf-moves f r a n inside e w c =
     (ap (moved r) (c ∙ (leaf-end (text r) (r .at) a ∙ ap (endOf (r .at)) e)), omega (arith, c, leaf-inside (text r) (r .at) a inside w))
 
@@ -63,11 +62,11 @@ set-moves r a n inside e c =
 abbrev pub start : RefT (List ℕ) → Reader
 start s = record { text = s; at = 0 }
 
-pub first-leaf-is : (f : Features) (s : RefT (List ℕ)) (y : Reader) (a : LeafAnswer) → y ≡ after (start s) (reads whitespace (start s)) → headReading (text y) a ≡ reads (leaf f) y → headReading (now s) a ≡ firstLeaf f 0 (now s)
+pub first-leaf-is : (f : Features) (s : RefT (List ℕ)) (y : Reader) (a : LeafAnswer) → y ≡ after (start s) (reads whitespace (start s)) → recordReading (text y) a ≡ reads (leaf f) y → recordReading (now s) a ≡ firstLeaf f 0 (now s)
 first-leaf-is f s y a p e =
     let n = run whiteSpace (now s) in
     let zero : 0 + n ≡ n = omega arith in
-    subst (λ (r : Reader). headReading (text r) a ≡ reads (leaf f) r) p e ∙ ap (λ (k : ℕ). leaf f (0 + n) (drop k (now s))) zero
+    subst (λ (r : Reader). recordReading (text r) a ≡ reads (leaf f) r) p e ∙ ap (λ (k : ℕ). leaf f (0 + n) (drop k (now s))) zero
 
 -- the text stays as long as it was
 pub still-short : (s : RefT (List ℕ)) (y : Reader) → length (now s) ≤ 65535 → y ≡ after (start s) (reads whitespace (start s)) → length (text y) ≤ 65535

@@ -6,9 +6,8 @@ use lib.ListN.{length, drop}
 use denote.Ref.{now}
 use Rattle.notation.specs.Grammar.{Reading, rejected, read, andThen, done, fail, node, whitespace}
 use Rattle.notation.specs.Grammar as rule
-use Rattle.notation.specs.Packed.{Head}
 use Rattle.notation.specs.declared.features.Features.{Features}
-use Rattle.parse.specs.Meaning.{nodeHead}
+use Rattle.parse.specs.Meaning.{nodeFields}
 use Rattle.parse.specs.declared.parts.LeafAnswer.{LeafAnswer}
 use Rattle.parse.specs.declared.parts.LeafAnswer.the-variants as leafAnswer
 use Rattle.parse.specs.declared.parts.Taken.{Taken}
@@ -43,12 +42,12 @@ after r x = moved r (endOf (r .at) x)
 abbrev pub Moves : {A : Type 0} → rule.Reader A → Reader → Reader → Type 0
 Moves p r r′ = (r′ ≡ after r (reads p r)) × Inside r′
 
--- a node that is no group, by what its record says
-abbrev pub leaf : Features → rule.Reader Head
-leaf f at s = andThen (node f fail at s) (λ n. done (nodeHead n))
+-- a node that is no group, by the fields of its record
+abbrev pub leaf : Features → rule.Reader (List ℕ)
+leaf f at s = andThen (node f fail at s) (λ n. done (nodeFields n))
 
 -- the same after white space
-abbrev pub firstLeaf : Features → rule.Reader Head
+abbrev pub firstLeaf : Features → rule.Reader (List ℕ)
 firstLeaf f at s = andThen (whitespace at s) (λ _. leaf f)
 
 -- Where an answer of `parse` leaves the cursor.

@@ -84,7 +84,7 @@ impl<'a> Reader<'a> {
     // A node that is no group.
     pub fn leaf(&mut self, features: Features) -> LeafAnswer
         requires { ⌜ cursor.Inside (now self) × (length (cursor.text (now self)) ≤ 65535) ⌝ }
-        ensures { λ r. ⌜ (means.headReading (cursor.text (now (self .entry))) r ≡ cursor.reads (cursor.leaf features) (now (self .entry))) × cursor.Moves (cursor.leaf features) (now (self .entry)) (now (self .exit)) ⌝ }
+        ensures { λ r. ⌜ (means.recordReading (cursor.text (now (self .entry))) r ≡ cursor.reads (cursor.leaf features) (now (self .entry))) × cursor.Moves (cursor.leaf features) (now (self .entry)) (now (self .exit)) ⌝ }
     {
         let answer = parse::leaf(self.text, self.at, features);
         self.at = after_leaf(answer, self.at);
@@ -95,7 +95,7 @@ impl<'a> Reader<'a> {
 // The leaf that a text begins with, after white space.
 pub fn first_leaf(text: &[u8], features: Features) -> LeafAnswer
     requires { ⌜ length (now text) ≤ 65535 ⌝ }
-    ensures { λ r. ⌜ means.headReading (now (text .entry)) r ≡ cursor.firstLeaf features 0 (now (text .entry)) ⌝ }
+    ensures { λ r. ⌜ means.recordReading (now (text .entry)) r ≡ cursor.firstLeaf features 0 (now (text .entry)) ⌝ }
 {
     let mut reader = Reader::new(text);
     reader.skip_whitespace();

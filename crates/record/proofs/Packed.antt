@@ -1,6 +1,6 @@
 -- The packed record: where its fields stand, and that reading undoes writing.
 use Prim.Native.Nat.{ℕ, zero, suc, _+_, _/_, _<_, _≤_, zero-le}
-use mathlib.Core.Path.{_≡_, refl, sym, _∙_, ap}
+use mathlib.Core.Path.{_≡_, refl, sym, _∙_, ap, subst}
 use mathlib.Core.Bool.{Bool, true, false}
 use mathlib.Core.Option.{Option, none, some}
 use mathlib.Core.List.{List, [], _∷_, _++_}
@@ -39,6 +39,23 @@ byKind bs =
 pub headAt-kind : (bs : List ℕ) (k : ℕ) → k ≡ field 0 bs / 16 → headAt bs ≡ getD (byKind bs) k (leafHead pause)
 unfolding headOf
 headAt-kind bs k e = rw e
+
+-- what holds of each element at its place, and of the default after the last, holds of what is chosen
+abbrev pub Numbered : {A : Type 0} → (ℕ → A → Type 0) → ℕ → List A → Type 0
+Numbered P k [] = Unit {0}
+Numbered P k (a ∷ l) = P k a × Numbered P (suc k) l
+
+numbered-from : {A : Type 0} (P : ℕ → A → Type 0) (l : List A) (d : A) (k : ℕ) → Numbered P k l → ((j : ℕ) → k + length l ≤ j → P j d) → (i j : ℕ) → j ≡ k + i → P j (getD l i d)
+numbered-from P [] d k all p i j e = p j (omega arith)
+numbered-from P (a ∷ l) d k all p zero j e = subst (λ (n : ℕ). P n a) (omega arith) (all .0)
+numbered-from P (a ∷ l) d k all p (suc i) j e = numbered-from P l d (suc k) (all .1) (λ n h. p n (omega arith)) i j (omega arith)
+
+pub numbered-at : {A : Type 0} (P : ℕ → A → Type 0) (l : List A) (d : A) → Numbered P 0 l → ((j : ℕ) → length l ≤ j → P j d) → (i : ℕ) → P i (getD l i d)
+numbered-at P l d all p i = numbered-from P l d 0 all (λ j h. p j (omega arith)) i i (omega arith)
+
+-- what holds of a record by its kind, and of a pause, for which a kind above 14 is taken
+pub by-kind : (P : ℕ → Head → Type 0) (bs : List ℕ) (k : ℕ) → k ≡ field 0 bs / 16 → Numbered P 0 (byKind bs) → ((j : ℕ) → 15 ≤ j → P j (leafHead pause)) → P k (headAt bs)
+by-kind P bs k e all p = subst (P k) (sym (headAt-kind bs k e)) (numbered-at P (byKind bs) (leafHead pause) all p k)
 
 -- a number that is none of those below n, as a `match` with an arm for each leaves it
 abbrev pub NoneBelow : ℕ → ℕ → Type 0

@@ -1,4 +1,4 @@
--- What the crate's types mean in the rules: a `Record` is a `Head`, and a field of a record is one of `cut widths`.
+-- What the crate's types mean in the rules, and a field of a record: one of `cut widths`.
 use Prim.Native.Nat.{ℕ, _+_, _/_, _%_}
 use mathlib.Core.List.{List, [], _∷_}
 use mathlib.Core.Option.{Option, none, some}
@@ -13,12 +13,9 @@ use Rattle.notation.specs.Tree.{
   singleLayer,
   layerRange,
   layerSet,
+  Leaf,
   rotation,
   move,
-  pause,
-  pair,
-  slash,
-  megaminx,
 }
 use Rattle.notation.specs.Packed.{widths, cut, RECORD, familyAt, Head, leafHead, groupHead, binaryHead}
 use Rattle.record.specs.declared.spanned.Span.{Span}
@@ -26,8 +23,8 @@ use Rattle.record.specs.declared.spanned.SpanOption.{SpanOption}
 use Rattle.record.specs.declared.spanned.SpanOption.the-variants as part
 use Rattle.record.specs.declared.spanned.LayerPrefixContents.{LayerPrefixContents}
 use Rattle.record.specs.declared.spanned.LayerPrefixContents.the-variants as prefix
-use Rattle.record.specs.declared.spanned.Record.{Record}
-use Rattle.record.specs.declared.spanned.Record.the-variants as node
+use Rattle.record.specs.declared.spanned.Rotation.{Rotation}
+use Rattle.record.specs.declared.spanned.Move.{Move}
 use Rattle.notation.specs.declared.common.GroupKind.{GroupKind}
 use Rattle.notation.specs.declared.common.BinaryGroupKind.{BinaryGroupKind}
 use Rattle.record.specs.declared.encode.Fields.{Fields}
@@ -45,17 +42,11 @@ layers (prefix.Single i) = singleLayer i
 layers (prefix.Range i j) = layerRange i j
 layers (prefix.Set p) = layerSet (span p)
 
-abbrev pub head : Record → Head
-head (node.Group k n m) = groupHead k n (fromBits 32 m)
-head (node.BinaryGroup k n n′ m) = binaryHead k n n′ (fromBits 32 m)
-head (node.Rotation x) = leafHead (rotation (span (x .family)) (spanOption (x .constraints)) (fromBits 32 (x .multiplier)))
-head (node.Move x) =
-    leafHead
-    (move (x .inverted) (layers (x .layers)) (span (x .family)) (spanOption (x .constraints)) (fromBits 32 (x .multiplier)))
-head node.Pause = leafHead pause
-head (node.UD u d) = leafHead (pair (fromBits 32 u) (fromBits 32 d))
-head node.Slash = leafHead slash
-head (node.Megaminx k) = leafHead (megaminx k)
+abbrev pub rotationLeaf : Rotation → Leaf
+rotationLeaf x = rotation (span (x .family)) (spanOption (x .constraints)) (fromBits 32 (x .multiplier))
+
+abbrev pub moveLeaf : Move → Leaf
+moveLeaf x = move (x .inverted) (layers (x .layers)) (span (x .family)) (spanOption (x .constraints)) (fromBits 32 (x .multiplier))
 
 -- field i of the first record, and the part of the text that fields i and i + 1 name
 abbrev pub field : ℕ → List ℕ → ℕ

@@ -1,17 +1,17 @@
-// A value written as a record.
+// Records by their fields: what each node packs into, written and compared.
 ghost use mathlib.Core.Path.{_≡_};
 ghost use mathlib.Core.List.{_++_};
 ghost use Prim.Native.Nat.{_+_, _<_, _≤_};
 ghost use lib.ListN.{length, take, drop};
 ghost use Rattle.notation.specs.Basics.{sameList};
 ghost use lib.Seq.{sets};
-ghost use Rattle.notation.specs.Numbers.{bigEndian};
+ghost use Rattle.notation.specs.Numbers.{bigEndian, fromBits};
+ghost use Rattle.notation.specs.Tree as tree;
 ghost use Rattle.notation.specs.Packed as packed;
 ghost use Rattle.record.specs.Meaning as meaning;
 use crate::fields;
 use crate::spanned::LayerPrefixContents;
 use crate::spanned::Move;
-use crate::spanned::Record;
 use crate::spanned::Rotation;
 use crate::spanned::Span;
 use crate::spanned::SpanOption;
@@ -26,35 +26,20 @@ use numbers::big_endian::write_u32;
 const NOWHERE: Span = Span { offset: 0, size: 0 };
 
 // The fields of a record in order.
-struct Fields {
-    small: u8,
-    first: u16,
-    second: u16,
-    number: u32,
-    other: u32,
-    family: Span,
-    constraints: Span,
-    layer_set: Span,
-}
-
-// Writes r over the first record of out.
-pub fn encode(r: Record, out: &mut [u8])
-    requires { ⌜ packed.RECORD ≤ length (now out) ⌝ }
-    ensures { λ _. ⌜ now (out .exit) ≡ packed.record25 (meaning.head r) ++ drop packed.RECORD (now (out .entry)) ⌝ }
-{
-    put(out, fields_of(r));
-}
-
-// Whether the first record of t has the fields of r.
-pub fn has_fields(r: Record, t: &[u8]) -> bool
-    requires { ⌜ packed.RECORD ≤ length (now t) ⌝ }
-    ensures { λ same. ⌜ same ≡ sameList (packed.headFields (meaning.head r)) (packed.cut packed.widths (take packed.RECORD (now (t .entry)))) ⌝ }
-{
-    same_fields(fields_of(r), fields_at(t))
+pub struct Fields {
+    // The kind, and of a move its tilde, layer form and whether it has constraints.
+    pub small: u8,
+    pub first: u16,
+    pub second: u16,
+    pub number: u32,
+    pub other: u32,
+    pub family: Span,
+    pub constraints: Span,
+    pub layer_set: Span,
 }
 
 // The fields of the first record of t as they stand.
-fn fields_at(t: &[u8]) -> Fields
+pub fn fields_at(t: &[u8]) -> Fields
     requires { ⌜ packed.RECORD ≤ length (now t) ⌝ }
     ensures { λ f. ⌜ meaning.listed f ≡ packed.cut packed.widths (take packed.RECORD (now (t .entry))) ⌝ }
 {
@@ -70,7 +55,8 @@ fn fields_at(t: &[u8]) -> Fields
     }
 }
 
-fn same_fields(a: Fields, b: Fields) -> bool
+// Whether two records have the same fields.
+pub fn same_fields(a: Fields, b: Fields) -> bool
     ensures { λ r. ⌜ r ≡ sameList (meaning.listed a) (meaning.listed b) ⌝ }
 {
     if a.small != b.small {
@@ -112,32 +98,44 @@ fn same_parts(a: Fields, b: Fields) -> bool
     a.layer_set.size == b.layer_set.size
 }
 
-fn fields_of(r: Record) -> Fields
-    ensures { λ f. ⌜ meaning.listed f ≡ packed.headFields (meaning.head r) ⌝ }
+pub fn group_fields(kind: GroupKind, first: u16, multiplier: u32) -> Fields
+    ensures { λ f. ⌜ meaning.listed f ≡ packed.headFields (packed.groupHead kind first (fromBits 32 multiplier)) ⌝ }
 {
-    match r {
-        Record::Group {
-            kind,
-            first,
-            multiplier,
-        } => without_parts(group_number(kind), first, 0, multiplier, 0),
-        Record::BinaryGroup {
-            kind,
-            first,
-            second,
-            multiplier,
-        } => without_parts(binary_number(kind), first, second, multiplier, 0),
-        Record::Rotation(x) => rotation_fields(x),
-        Record::Move(x) => move_fields(x),
-        Record::Pause => without_parts(8, 0, 0, 0, 0),
-        Record::UD { u, d } => without_parts(9, 0, 0, u, d),
-        Record::Slash => without_parts(10, 0, 0, 0, 0),
-        Record::Megaminx(k) => without_parts(megaminx_number(k), 0, 0, 0, 0),
-    }
+    without_parts(group_number(kind), first, 0, multiplier, 0)
+}
+
+pub fn binary_group_fields(kind: BinaryGroupKind, first: u16, second: u16, multiplier: u32) -> Fields
+    ensures { λ f. ⌜ meaning.listed f ≡ packed.headFields (packed.binaryHead kind first second (fromBits 32 multiplier)) ⌝ }
+{
+    without_parts(binary_number(kind), first, second, multiplier, 0)
+}
+
+pub fn pause_fields() -> Fields
+    ensures { λ f. ⌜ meaning.listed f ≡ packed.headFields (packed.leafHead tree.pause) ⌝ }
+{
+    without_parts(8, 0, 0, 0, 0)
+}
+
+pub fn pair_fields(u: u32, d: u32) -> Fields
+    ensures { λ f. ⌜ meaning.listed f ≡ packed.headFields (packed.leafHead (tree.pair (fromBits 32 u) (fromBits 32 d))) ⌝ }
+{
+    without_parts(9, 0, 0, u, d)
+}
+
+pub fn slash_fields() -> Fields
+    ensures { λ f. ⌜ meaning.listed f ≡ packed.headFields (packed.leafHead tree.slash) ⌝ }
+{
+    without_parts(10, 0, 0, 0, 0)
+}
+
+pub fn megaminx_fields(k: MegaminxScrambleMove) -> Fields
+    ensures { λ f. ⌜ meaning.listed f ≡ packed.headFields (packed.leafHead (tree.megaminx k)) ⌝ }
+{
+    without_parts(megaminx_number(k), 0, 0, 0, 0)
 }
 
 // The fields of a node that names no part of the text.
-fn without_parts(kind: u8, first: u16, second: u16, number: u32, other: u32) -> Fields
+pub fn without_parts(kind: u8, first: u16, second: u16, number: u32, other: u32) -> Fields
     requires { ⌜ kind < 16 ⌝ }
     ensures { λ f. ⌜ meaning.listed f ≡ packed.inOrder kind 0 0 0 first second number other packed.nowhere packed.nowhere packed.nowhere ⌝ }
 {
@@ -153,8 +151,8 @@ fn without_parts(kind: u8, first: u16, second: u16, number: u32, other: u32) -> 
     }
 }
 
-fn rotation_fields(x: Rotation) -> Fields
-    ensures { λ f. ⌜ meaning.listed f ≡ packed.headFields (meaning.head (Record.Rotation x)) ⌝ }
+pub fn rotation_fields(x: Rotation) -> Fields
+    ensures { λ f. ⌜ meaning.listed f ≡ packed.headFields (packed.leafHead (meaning.rotationLeaf x)) ⌝ }
 {
     let c = x.constraints;
     let family = x.family;
@@ -170,8 +168,8 @@ fn rotation_fields(x: Rotation) -> Fields
     }
 }
 
-fn move_fields(x: Move) -> Fields
-    ensures { λ f. ⌜ meaning.listed f ≡ packed.headFields (meaning.head (Record.Move x)) ⌝ }
+pub fn move_fields(x: Move) -> Fields
+    ensures { λ f. ⌜ meaning.listed f ≡ packed.headFields (packed.leafHead (meaning.moveLeaf x)) ⌝ }
 {
     let l = x.layers;
     let c = x.constraints;
@@ -272,7 +270,7 @@ fn set_part(l: LayerPrefixContents) -> Span
 }
 
 // Writes the fields over the first record of out.
-fn put(out: &mut [u8], f: Fields)
+pub fn put(out: &mut [u8], f: Fields)
     requires { ⌜ packed.RECORD ≤ length (now out) ⌝ }
     ensures { λ _. ⌜ now (out .exit) ≡ packed.layOut packed.widths (meaning.listed f) ++ drop packed.RECORD (now (out .entry)) ⌝ }
 {

@@ -1,5 +1,6 @@
 // Replays stored cases: each line of standard input is one case, and its answer is one line of standard output, which the gate
 // holds to the file stdout. tests/reference/vectors.py makes both files. A line's first byte tells which entry it is for.
+mod agreement;
 mod entries;
 mod hex;
 mod line;
@@ -35,10 +36,10 @@ fn answer(given: &[u8], text: &mut [u8], tree: &mut [u8], out: &mut [u8], line: 
     if given.len() == 0 {
         return Decoded::Damaged;
     }
-    if given[0] == b'r' {
-        reading::case(&given[1..], text, out, line)
-    } else {
-        entries::case(given, text, tree, out, line)
+    match given[0] {
+        b'r' => reading::case(&given[1..], text, out, line),
+        b'a' => agreement::case(&given[1..], text, line),
+        _ => entries::case(given, text, tree, out, line),
     }
 }
 

@@ -10,7 +10,7 @@ use crate::text;
 use notation::features;
 
 // All seven flags.
-const MAX_BITS: usize = 127;
+pub const MAX_BITS: usize = 127;
 
 // Puts the answer of the case `given` into `line`, and answers its length.
 pub fn case(given: &[u8], text: &mut [u8], tree: &mut [u8], line: &mut [u8]) -> Decoded

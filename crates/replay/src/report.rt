@@ -7,7 +7,7 @@ use crate::line;
 use notation::answer::Answer;
 
 // What a lent buffer holds before a call, so that a byte that was written without need shows.
-const UNTOUCHED: u8 = 0xaa;
+pub const UNTOUCHED: u8 = 0xaa;
 // Longer results are shown by their checksum.
 const SHOWN: usize = 500;
 
@@ -96,7 +96,7 @@ fn is_untouched(buffer: &[u8]) -> bool {
     true
 }
 
-fn checksum(bytes: &[u8]) -> u64 {
+pub fn checksum(bytes: &[u8]) -> u64 {
     let mut total: u64 = 0;
     let mut i = 0;
     while i < bytes.len() {

@@ -22,7 +22,7 @@ use Rattle.numbers.proofs.BigEndian.{fromBigEndian-lt}
 use Rattle.record.specs.Meaning.{field, spanAt, constraintsAt, layersAt}
 use Rattle.record.specs.Range.{FitsSpan, FitsFamily, FitsConstraints, FitsLayers, FitsNumber, FitsHead}
 use Rattle.record.proofs.Cut.{Fits, none as no-field, one as and-field}
-use Rattle.record.proofs.Packed.{byKind, headAt-kind}
+use Rattle.record.proofs.Packed.{Numbered, numbered-at, byKind, headAt-kind}
 use Rattle.laws.proofs.Packing.{FitsNode, FitsBody, FitsTree, opened, well-formed-packed, well-formed-ok, well-formed-depth}
 use Rattle.laws.proofs.Walking.{Packed}
 
@@ -53,15 +53,9 @@ fromBits-fits n h = go (ltb n 2147483648) refl
         let l : 2147483648 ≤ n = ltb-false n 2147483648 e in
         lt-ltb (4294967296 - suc n) 2147483648 (omega arith)
 
--- what holds of each element and of the default holds of what is chosen
-abbrev Every : {A : Type 0} → (A → Type 0) → List A → Type 0
-Every P [] = Unit {0}
-Every P (a ∷ l) = P a × Every P l
-
-every-at : {A : Type 0} (P : A → Type 0) (l : List A) (d : A) → Every P l → P d → (i : ℕ) → P (getD l i d)
-every-at P [] d all p i = p
-every-at P (a ∷ l) d all p zero = all .0
-every-at P (a ∷ l) d all p (suc i) = every-at P l d (all .1) p i
+-- what holds of every element and of the default holds of what is chosen
+every-at : {A : Type 0} (P : A → Type 0) (l : List A) (d : A) → Numbered (λ (n : ℕ). P) 0 l → P d → (i : ℕ) → P (getD l i d)
+every-at P l d all p i = numbered-at (λ (n : ℕ). P) l d all (λ j h. p) i
 
 -- whatever bytes a record has, its head fits
 module _ (bs : List ℕ) (h : Below 256 bs) where

@@ -1,11 +1,11 @@
 -- Well-formed lists inside a tree: as `wellFormed`, with the nesting that is left.
-use Prim.Native.Nat.{ℕ, _+_, _*_}
+use Prim.Native.Nat.{ℕ, _+_, _-_, _*_}
 use mathlib.Core.Bool.{Bool, _&&_}
 use mathlib.Core.List.{List}
 use lib.Dec.{leb, ltb}
 use lib.ListN.{take, drop}
 use Rattle.notation.specs.Basics.{sameList}
-use Rattle.notation.specs.Packed.{RECORD, pack, unpack, Head, leafHead, groupHead, binaryHead}
+use Rattle.notation.specs.Packed.{RECORD, record25, pack, headAt, unpack, Head, leafHead, groupHead, binaryHead}
 use Rattle.notation.specs.WellFormed.{treeOk, depth, leafOk, multiplierOk}
 
 unfoldable pub formed : List ℕ → ℕ → List ℕ → Bool
@@ -44,3 +44,9 @@ secondBytes h bs = take (RECORD * second h) (drop (RECORD + RECORD * first h) bs
 
 abbrev pub restBytes : Head → List ℕ → List ℕ
 restBytes h bs = drop (RECORD + RECORD * both h) bs
+
+-- Whether the first record is what packing writes, and its node with its lists is in bounds.
+abbrev pub firstOk : List ℕ → ℕ → List ℕ → Bool
+firstOk text d bs =
+    let h = headAt bs in
+    sameList (record25 h) (take RECORD bs) && (headOk text d h && (formed text (d - 1) (firstBytes h bs) && formed text (d - 1) (secondBytes h bs)))

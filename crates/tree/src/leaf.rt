@@ -16,7 +16,7 @@ ghost use Rattle.notation.specs.Numbers.{fromBits};
 ghost use Rattle.notation.specs.Tree as tree;
 ghost use Rattle.notation.specs.WellFormed as rule;
 ghost use Rattle.parse.specs.Meaning.{told};
-ghost use Rattle.record.specs.Meaning.{span, spanOption, layers};
+ghost use Rattle.record.specs.Meaning.{span, spanOption, layers, rotationLeaf, moveLeaf};
 
 // The deepest layer.
 const MAX_LAYER: u16 = 32767;
@@ -107,7 +107,7 @@ fn layers_ok(text: &[u8], l: LayerPrefixContents) -> bool
 }
 
 pub fn rotation_ok(text: &[u8], x: Rotation) -> bool
-    ensures { λ r. ⌜ r ≡ rule.leafOk (now (text .entry)) (tree.rotation (span (x .family)) (spanOption (x .constraints)) (fromBits 32 (x .multiplier))) ⌝ }
+    ensures { λ r. ⌜ r ≡ rule.leafOk (now (text .entry)) (rotationLeaf x) ⌝ }
 {
     let family = x.family;
     let constraints = x.constraints;
@@ -115,7 +115,7 @@ pub fn rotation_ok(text: &[u8], x: Rotation) -> bool
 }
 
 pub fn move_ok(text: &[u8], x: Move) -> bool
-    ensures { λ r. ⌜ r ≡ rule.leafOk (now (text .entry)) (tree.move (x .inverted) (layers (x .layers)) (span (x .family)) (spanOption (x .constraints)) (fromBits 32 (x .multiplier))) ⌝ }
+    ensures { λ r. ⌜ r ≡ rule.leafOk (now (text .entry)) (moveLeaf x) ⌝ }
 {
     let l = x.layers;
     let family = x.family;

@@ -4,20 +4,25 @@ use crate::leaf::move_ok;
 use crate::leaf::multiplier_ok;
 use crate::leaf::rotation_ok;
 use record::RECORD;
-use record::decode::decode;
-use record::encode::has_fields;
-use record::spanned::Record;
+use record::decode::layered_move;
+use record::decode::rotation;
+use record::encode::fields_at;
+use record::encode::move_fields;
+use record::encode::rotation_fields;
+use record::encode::same_fields;
+use record::encode::without_parts;
+use record::fields;
 ghost use mathlib.Core.Path.{_≡_};
-ghost use mathlib.Core.Bool.{_&&_};
-ghost use Prim.Native.Nat.{_+_, _-_, _*_, _≤_};
-ghost use lib.Dec.{leb, ltb};
+ghost use mathlib.Core.Bool.{_&&_, _||_};
+ghost use Prim.Native.Nat.{ℕ, _+_, _*_, _/_, _≤_, _<_};
+ghost use lib.Dec.{leb, eqb};
 ghost use lib.ListN.{length, take};
-ghost use Rattle.notation.specs.Basics.{sameList, pick};
+ghost use Rattle.notation.specs.Basics.{sameList};
 ghost use Rattle.notation.specs.Numbers.{fromBits};
 ghost use Rattle.notation.specs.Packed.{RECORD, record25, headAt};
 ghost use Rattle.notation.specs.WellFormed.{multiplierOk, wellFormed};
-ghost use Rattle.record.specs.Meaning.{head};
-ghost use Rattle.tree.specs.Formed.{formed, headOk, both, firstBytes, secondBytes};
+ghost use Rattle.record.specs.Meaning.{field};
+ghost use Rattle.tree.specs.Formed.{formed, firstOk};
 
 const MAX_NESTING: usize = 64;
 
@@ -36,114 +41,95 @@ fn list_ok(text: &[u8], list: &[u8], depth: usize) -> bool
         if t.len() < RECORD {
             return false;
         }
-        let r = decode(t);
-        let end = node_end(t, r);
-        if end == 0 {
-            return false;
-        }
-        if node_ok(text, t, r, depth) {
-            t = &t[end..];
+        if fields::kind(t) < 6 {
+            let end = RECORD + RECORD * (fields::first(t) as usize + fields::second(t) as usize);
+            if t.len() < end {
+                return false;
+            }
+            if group_ok(text, t, depth) {
+                t = &t[end..];
+            } else {
+                return false;
+            }
         } else {
-            return false;
+            if leaf_ok(text, t) {
+                t = &t[RECORD..];
+            } else {
+                return false;
+            }
         }
     }
     true
 }
 
-// Whether the first node, whose record says r, is in bounds, and its lists with one level less are well formed.
-fn node_ok(text: &[u8], t: &[u8], r: Record, depth: usize) -> bool
-    requires { ⌜ RECORD + RECORD * both (head r) ≤ length (now t) ⌝ }
-    ensures { λ ok. ⌜ ok ≡ (headOk (now (text .entry)) depth (head r) && (formed (now (text .entry)) (depth - 1) (firstBytes (head r) (now (t .entry))) && formed (now (text .entry)) (depth - 1) (secondBytes (head r) (now (t .entry))))) ⌝ }
+// Whether the first node, a group, is in bounds, and its lists with one level less are well formed.
+fn group_ok(text: &[u8], t: &[u8], depth: usize) -> bool
+    requires { ⌜ RECORD + RECORD * (field 1 (now t) + field 2 (now t)) ≤ length (now t) ⌝ }
+    requires { ⌜ field 0 (now t) / 16 < 6 ⌝ }
+    ensures { λ r. ⌜ r ≡ firstOk (now (text .entry)) depth (now (t .entry)) ⌝ }
 {
-    match r {
-        Record::Group {
-            kind: _,
-            first,
-            multiplier,
-        } => {
-            if group_ok(multiplier, depth) {
-                let end = RECORD + RECORD * first as usize;
-                list_ok(text, &t[RECORD..end], depth - 1)
-            } else {
-                false
-            }
-        }
-        Record::BinaryGroup {
-            kind: _,
-            first,
-            second,
-            multiplier,
-        } => {
-            if group_ok(multiplier, depth) {
-                let middle = RECORD + RECORD * first as usize;
-                let end = middle + RECORD * second as usize;
-                list_ok(text, &t[RECORD..middle], depth - 1)
-                    && list_ok(text, &t[middle..end], depth - 1)
-            } else {
-                false
-            }
-        }
-        Record::Rotation(x) => rotation_ok(text, x),
-        Record::Move(x) => move_ok(text, x),
-        Record::Pause => true,
-        Record::UD { u: _, d: _ } => true,
-        Record::Slash => true,
-        Record::Megaminx(_) => true,
+    if depth == 0 {
+        return false;
     }
-}
-
-// A group is a level of nesting.
-fn group_ok(multiplier: u32, depth: usize) -> bool
-    ensures { λ r. ⌜ r ≡ (ltb 0 depth && multiplierOk (fromBits 32 multiplier)) ⌝ }
-{
-    0 < depth && multiplier_ok(multiplier)
-}
-
-// Where the first node ends, whose record says r; 0 if the record is not what packing writes, or a list in it runs past the end.
-fn node_end(t: &[u8], r: Record) -> usize
-    requires { ⌜ RECORD ≤ length (now t) ⌝ }
-    requires { ⌜ head r ≡ headAt (now t) ⌝ }
-    ensures { λ end. ⌜ end ≡ pick (sameList (record25 (head r)) (take RECORD (now (t .entry))) && leb (RECORD + RECORD * both (head r)) (length (now (t .entry)))) (RECORD + RECORD * both (head r)) 0 ⌝ }
-{
-    if is_packed(t, r) {
-        let end = RECORD + RECORD * records_inside(r);
-        if end <= t.len() { end } else { 0 }
+    if group_record_ok(t) {
+        let first = fields::first(t);
+        let second = fields::second(t);
+        let middle = RECORD + RECORD * first as usize;
+        let end = middle + RECORD * second as usize;
+        list_ok(text, &t[RECORD..middle], depth - 1) && list_ok(text, &t[middle..end], depth - 1)
     } else {
-        0
+        false
     }
 }
 
-// The records in the lists of a group.
-fn records_inside(r: Record) -> usize
-    ensures means { λ n. ⌜ n ≡ both (head r) ⌝ }
-    ensures within { λ n. ⌜ n ≤ 131070 ⌝ }
-{
-    match r {
-        Record::Group {
-            kind: _,
-            first,
-            multiplier: _,
-        } => first as usize,
-        Record::BinaryGroup {
-            kind: _,
-            first,
-            second,
-            multiplier: _,
-        } => first as usize + second as usize,
-        Record::Rotation(_) => 0,
-        Record::Move(_) => 0,
-        Record::Pause => 0,
-        Record::UD { u: _, d: _ } => 0,
-        Record::Slash => 0,
-        Record::Megaminx(_) => 0,
-    }
-}
-
-// Whether the first record, which says r, is what packing writes of r: this rules out a kind above 14, and unused fields other than 0.
-fn is_packed(t: &[u8], r: Record) -> bool
+// Whether the first record, that of a group, is what packing writes, and its multiplier is in bounds.
+fn group_record_ok(t: &[u8]) -> bool
     requires { ⌜ RECORD ≤ length (now t) ⌝ }
-    requires { ⌜ head r ≡ headAt (now t) ⌝ }
-    ensures { λ same. ⌜ same ≡ sameList (record25 (head r)) (take RECORD (now (t .entry))) ⌝ }
+    requires { ⌜ field 0 (now t) / 16 < 6 ⌝ }
+    ensures { λ r. ⌜ r ≡ (sameList (record25 (headAt (now (t .entry)))) (take RECORD (now (t .entry))) && multiplierOk (fromBits 32 (field 3 (now (t .entry))))) ⌝ }
 {
-    has_fields(r, t)
+    let kind = fields::kind(t);
+    let second = fields::second(t);
+    let number = fields::number(t);
+    if second_ok(kind, second) {
+        multiplier_ok(number)
+            && same_fields(
+                without_parts(kind, fields::first(t), second, number, 0),
+                fields_at(t),
+            )
+    } else {
+        false
+    }
+}
+
+// Only a binary group has a second list.
+fn second_ok(kind: u8, second: u16) -> bool
+    ensures { λ r. ⌜ r ≡ (leb 4 kind || eqb second 0) ⌝ }
+{
+    4 <= kind || second == 0
+}
+
+// Whether the first node, which is no group, is what packing writes and in bounds. Packing writes no kind above 14.
+fn leaf_ok(text: &[u8], t: &[u8]) -> bool
+    requires { ⌜ RECORD ≤ length (now t) ⌝ }
+    requires { ⌜ 6 ≤ field 0 (now t) / 16 ⌝ }
+    ensures { λ r. ⌜ ((depth : ℕ) → r ≡ firstOk (now (text .entry)) depth (now (t .entry))) ⌝ }
+{
+    let kind = fields::kind(t);
+    match kind {
+        7 => {
+            let x = layered_move(t);
+            same_fields(move_fields(x), fields_at(t)) && move_ok(text, x)
+        }
+        6 => {
+            let x = rotation(t);
+            same_fields(rotation_fields(x), fields_at(t)) && rotation_ok(text, x)
+        }
+        9 => same_fields(
+            without_parts(9, 0, 0, fields::number(t), fields::other(t)),
+            fields_at(t),
+        ),
+        15 => false,
+        _ => same_fields(without_parts(kind, 0, 0, 0, 0), fields_at(t)),
+    }
 }

@@ -210,7 +210,7 @@ abbrev noFamily : ℕ → Bool
 noFamily c = not (isFamilyChar c)
 
 -- White space is no part of a family.
-white-no-family : (c : ℕ) → whiteSpace c ≡ true → noFamily c ≡ true
+pub white-no-family : (c : ℕ) → whiteSpace c ≡ true → noFamily c ≡ true
 unfolding whiteSpace every oneOf upTo classify
 white-no-family c h = go (between 0x9 0xd c) (between 0x2000 0x200a c) refl refl h
   where

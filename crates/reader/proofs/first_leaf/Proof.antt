@@ -191,9 +191,9 @@ module _ {M : Type 1} (𝓤 : URA M) (H : Heap 𝓤) (A : Atoms 𝓤) (W : Given
         nothing ! $ owned ! F.the-row (Is F.the-row) (LL.makes F.the-type F′.the-plain 𝓤 H A) f _ set $ fjoin ! $ move ! (1 ∷ 0 ∷ []) $ fjoin ! $ done !
 
     abbrev Read : Reader → LeafAnswer → Reader → Type 0
-    Read h a y = (means.headReading (text h) a ≡ reads (cursor.leaf f) h) × ((y ≡ after h (reads (cursor.leaf f) h)) × Inside y)
+    Read h a y = (means.recordReading (text h) a ≡ reads (cursor.leaf f) h) × ((y ≡ after h (reads (cursor.leaf f) h)) × Inside y)
 
-  exits : Is F.the-row f (mf ∷ []) → (a : LeafAnswer) (u : Val) → means.headReading (now s) a ≡ cursor.firstLeaf f 0 (now s) → ent 𝓤 (⋆ 𝓤 H A (‵ (flft κ q) ∷ ‵ (S.the-row .own a (u ∷ [])) ∷ ‵ OwnS ∷ [])) (Post u)
+  exits : Is F.the-row f (mf ∷ []) → (a : LeafAnswer) (u : Val) → means.recordReading (now s) a ≡ cursor.firstLeaf f 0 (now s) → ent 𝓤 (⋆ 𝓤 H A (‵ (flft κ q) ∷ ‵ (S.the-row .own a (u ∷ [])) ∷ ‵ OwnS ∷ [])) (Post u)
   exits set a u e =
       qed W (‵ (flft κ q) ∷ ‵ (S.the-row .own a (u ∷ [])) ∷ ‵ OwnS ∷ []) ∵
       suffices ! _ (ends-at 𝓤 H A first-leaf.ended stayed (first-leaf.clauses 𝓤 H A at-mem run) W (((κ, tt), (q, tt), tt, (s, (f, tt)), at), tt) u a (tt, (tt, tt)) (tt, (tt, tt))) $ says ! e $
@@ -206,7 +206,7 @@ module _ {M : Type 1} (𝓤 : URA M) (H : Heap 𝓤) (A : Atoms 𝓤) (W : Given
       E = (τS, l₀) ∷ (τV, l₁) ∷ (τF, l₂) ∷ (RE, l₃) ∷ (RE, l₄) ∷ (tyUnit, l₅) ∷ (τP, l₆) ∷ (τP, l₇) ∷ []
 
       -- the last reading, with the reader h in the local
-      module _ (h : Reader) (inside : Inside h) (small : length (text h) ≤ 65535) (w₀ : Val) (last : (a : LeafAnswer) (u : Val) → means.headReading (text h) a ≡ reads (cursor.leaf f) h → ent 𝓤 (⋆ 𝓤 H A (‵ (flft κ q) ∷ ‵ (S.the-row .own a (u ∷ [])) ∷ ‵ OwnS ∷ [])) (Kf u)) where
+      module _ (h : Reader) (inside : Inside h) (small : length (text h) ≤ 65535) (w₀ : Val) (last : (a : LeafAnswer) (u : Val) → means.recordReading (text h) a ≡ reads (cursor.leaf f) h → ent 𝓤 (⋆ 𝓤 H A (‵ (flft κ q) ∷ ‵ (S.the-row .own a (u ∷ [])) ∷ ‵ OwnS ∷ [])) (Kf u)) where
         reads-leaf : (z : Val) → Sq W (‵ (mem R .lies h l₃ 0) ∷ ‵ (flft κ q) ∷ ‵ OwnS ∷ ‵ (froom τP l₇ 0) ∷ ‵ (fdies τP l₇) ∷ ‵ (fat fullShare τP l₆ 0 (vptr l₃ 0)) ∷ ‵ (fdies τP l₆) ∷ ‵ (fat fullShare tyUnit l₅ 0 z) ∷ ‵ (fdies tyUnit l₅)
             ∷ ‵ (fat fullShare RE l₄ 0 w₀) ∷ ‵ (fdies RE l₄) ∷ ‵ (fdies RE l₃) ∷ ‵ (fat fullShare τF l₂ 0 mf) ∷ ‵ (fdies τF l₂) ∷ ‵ (fat fullShare τV l₁ 0 v) ∷ ‵ (fdies τV l₁) ∷ ‵ (froom τS l₀ 0) ∷ ‵ (fdies τS l₀) ∷ [])
             (runs C Λ E body-5 (atRet E Kf))
@@ -232,7 +232,7 @@ module _ {M : Type 1} (𝓤 : URA M) (H : Heap 𝓤) (A : Atoms 𝓤) (W : Given
             keep ! (1 ∷ 2 ∷ 3 ∷ []) $ by ! (last a u (e .0)))))))))
 
       -- from the new reader on
-      module _ (last : (a : LeafAnswer) (u : Val) → means.headReading (now s) a ≡ cursor.firstLeaf f 0 (now s) → ent 𝓤 (⋆ 𝓤 H A (‵ (flft κ q) ∷ ‵ (S.the-row .own a (u ∷ [])) ∷ ‵ OwnS ∷ [])) (Kf u)) where
+      module _ (last : (a : LeafAnswer) (u : Val) → means.recordReading (now s) a ≡ cursor.firstLeaf f 0 (now s) → ent 𝓤 (⋆ 𝓤 H A (‵ (flft κ q) ∷ ‵ (S.the-row .own a (u ∷ [])) ∷ ‵ OwnS ∷ [])) (Kf u)) where
         skips : (w₀ : Val) → Holds (hasTy RE w₀) × WT w₀ → Sq W (‵ (R .own (start s) (w₀ ∷ [])) ∷ (‵ (flft κ q) ⊛ ‵ ftrue) ∷ ‵ OwnS ∷ ‵ (froom τP l₇ 0) ∷ ‵ (fdies τP l₇) ∷ ‵ (froom τP l₆ 0) ∷ ‵ (fdies τP l₆) ∷ ‵ (froom tyUnit l₅ 0) ∷ ‵ (fdies tyUnit l₅)
             ∷ ‵ (fat fullShare RE l₄ 0 w₀) ∷ ‵ (fdies RE l₄) ∷ ‵ (froom RE l₃ 0) ∷ ‵ (fdies RE l₃) ∷ ‵ (fat fullShare τF l₂ 0 mf) ∷ ‵ (fdies τF l₂) ∷ ‵ (fat fullShare τV l₁ 0 v) ∷ ‵ (fdies τV l₁) ∷ ‵ (froom τS l₀ 0) ∷ ‵ (fdies τS l₀) ∷ [])
             (runs C Λ E body-2 (atRet E Kf))

@@ -1,52 +1,36 @@
--- `charsets::utf8::whitespace_end` meets its contract: the end of the run stays the same from each place that the loop comes to.
-use Prim.Native.Nat.{_+_, _-_, _≤_}
-use mathlib.Core.Path.{_≡_, _∙_, refl, sym}
+-- `charsets::utf8::whitespace_end` meets its contract: by the laws of a walk along a run.
+use Prim.Native.Nat.{_-_}
 use native.Mathlib.Omega.{arith}
 use borrow.Author.Needs.{needs}
-use lib.ListN.{length, drop}
-use Rattle.notation.specs.Utf8.{run}
+use lib.ListN.{length}
 use Rattle.notation.specs.Chars.{whiteSpace}
-use Rattle.charsets.proofs.Runs.{next-fits, end-step, end-stop}
+use Rattle.charsets.proofs.Runs.{Reached, set-out, fits, goes-on, arrived}
 use Rattle.charsets.proofs.utf8.whitespace_end.Statement.{statement}
 use Rattle.charsets.proofs.utf8.whitespace_end.Tie as tie
 
 abbrev Inv-loop : tie.InvT-loop
-Inv-loop s at end₀ end = (end ≤ length s) × (end + run whiteSpace (drop end s) ≡ at + run whiteSpace (drop at s))
+Inv-loop s at end₀ end = Reached whiteSpace s at end
 
 abbrev μ-loop : tie.MeasureT-loop
 μ-loop s at end₀ end = length s - end
 
 loop-holds : tie.Need-loop-holds Inv-loop μ-loop
-loop-holds c = (c .before .pre, refl)
+loop-holds c = set-out whiteSpace (c .before .pre)
 
 whitespace-width-requires : tie.Need-whitespace-width-requires Inv-loop μ-loop
 whitespace-width-requires c κs = search needs
 
 returns : tie.Need-returns Inv-loop μ-loop
-returns c =
-    let l = c .before .before in
-    let s = l .before .before .args .s .now in
-    sym (end-stop whiteSpace s (l .loop .end) (l .loop .inv .0) (sym (c .before .whitespace-width .ensures) ∙ c .if1 .taken)) ∙ l .loop .inv .1
+returns c = arrived whiteSpace (c .before .before .loop .inv) (c .before .whitespace-width .ensures) (c .if1 .taken)
 
 add-end : tie.Need-add-end Inv-loop μ-loop
-add-end c =
-    let l = c .before .before in
-    let s = l .before .before .args .s .now in
-    omega (arith, next-fits whiteSpace s (l .loop .end) (l .loop .inv .0) _ (c .before .whitespace-width .ensures))
+add-end c = omega (arith, fits whiteSpace (c .before .before .loop .inv) (c .before .whitespace-width .ensures))
 
 loop-less : tie.Need-loop-less Inv-loop μ-loop
-loop-less c =
-    let l = c .before .before in
-    let s = l .before .before .args .s .now in
-    omega (arith, next-fits whiteSpace s (l .loop .end) (l .loop .inv .0) _ (c .before .whitespace-width .ensures))
+loop-less c = omega (arith, fits whiteSpace (c .before .before .loop .inv) (c .before .whitespace-width .ensures))
 
 loop-again : tie.Need-loop-again Inv-loop μ-loop
-loop-again c =
-    let l = c .before .before in
-    let s = l .before .before .args .s .now in (
-      next-fits whiteSpace s (l .loop .end) (l .loop .inv .0) _ (c .before .whitespace-width .ensures),
-      end-step whiteSpace s (l .loop .end) (l .loop .inv .0) _ (c .before .whitespace-width .ensures) (omega arith) ∙ l .loop .inv .1,
-    )
+loop-again c = goes-on whiteSpace (c .before .before .loop .inv) (c .before .whitespace-width .ensures) (omega arith)
 
 pub whitespace-end-spec : {M : Type 1} → statement M
 whitespace-end-spec =

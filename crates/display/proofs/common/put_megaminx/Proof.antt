@@ -1,97 +1,35 @@
--- Each arm. Assumes nothing.
+-- A letter and a sign, twice. Assumes nothing.
+use mathlib.Core.Logic.{⊎-elim, inl, inr}
+use Rattle.display.proofs.Writing.{wrote-then}
+use Rattle.display.proofs.ByKind.{letter-is, sign-is, scrambled}
 use borrow.Author.Needs.{needs}
 use Rattle.display.proofs.common.put_megaminx.Statement.{statement}
 use Rattle.display.proofs.common.put_megaminx.Tie as tie
 
-enum-told : tie.Need-enum-told
-enum-told c = search needs
+put-requires : tie.Need-put-requires
+put-requires c κs = search needs
 
-slice-aggregate-put-bytes : tie.Need-slice-aggregate-put-bytes
-slice-aggregate-put-bytes c = search needs
+put-requires-2 : tie.Need-put-requires-2
+put-requires-2 c κs = search needs
 
-put-bytes-requires : tie.Need-put-bytes-requires
-put-bytes-requires c κs = search needs
-
-enum-told-2 : tie.Need-enum-told-2
-enum-told-2 c = search needs
-
-slice-aggregate-put-bytes-2 : tie.Need-slice-aggregate-put-bytes-2
-slice-aggregate-put-bytes-2 c = search needs
-
-put-bytes-requires-2 : tie.Need-put-bytes-requires-2
-put-bytes-requires-2 c κs = search needs
-
-enum-told-3 : tie.Need-enum-told-3
-enum-told-3 c = search needs
-
-slice-aggregate-put-bytes-3 : tie.Need-slice-aggregate-put-bytes-3
-slice-aggregate-put-bytes-3 c = search needs
-
-put-bytes-requires-3 : tie.Need-put-bytes-requires-3
-put-bytes-requires-3 c κs = search needs
-
-enum-told-4 : tie.Need-enum-told-4
-enum-told-4 c = search needs
-
-slice-aggregate-put-bytes-4 : tie.Need-slice-aggregate-put-bytes-4
-slice-aggregate-put-bytes-4 c = search needs
-
-put-bytes-requires-4 : tie.Need-put-bytes-requires-4
-put-bytes-requires-4 c κs = search needs
+put-requires-3 : tie.Need-put-requires-3
+put-requires-3 c κs = search needs
 
 same-length : tie.Need-same-length
 same-length c = search needs
 
 returns : tie.Need-returns
 returns c =
-    let p = c .before .before in
-    rw (p .before .before .before .enum-told .given .1) (p .put-bytes .ensures)
-
-same-length-2 : tie.Need-same-length-2
-same-length-2 c = search needs
-
-returns-2 : tie.Need-returns-2
-returns-2 c =
-    let p = c .before .before in
-    rw (p .before .before .before .enum-told2 .given .1) (p .put-bytes2 .ensures)
-
-same-length-3 : tie.Need-same-length-3
-same-length-3 c = search needs
-
-returns-3 : tie.Need-returns-3
-returns-3 c =
-    let p = c .before .before in
-    rw (p .before .before .before .enum-told3 .given .1) (p .put-bytes3 .ensures)
-
-same-length-4 : tie.Need-same-length-4
-same-length-4 c = search needs
-
-returns-4 : tie.Need-returns-4
-returns-4 c =
-    let p = c .before .before in
-    rw (p .before .before .before .enum-told4 .given .1) (p .put-bytes4 .ensures)
+    let p₃ = c .before .before in
+    let p₂ = p₃ .before .before .before .before in
+    let p₁ = p₂ .before .before .before .before in
+    let i₂ = p₁ .before .before in
+    let i₁ = i₂ .before in
+    scrambled
+    (letter-is (i₁ .before .before .args .kind) (i₁ .if1 .letter) (⊎-elim (λ w. inl (w .0 .taken, w .1)) (λ w. inr (w .0 .left, w .1)) (i₁ .if1 .came)))
+    (sign-is (i₁ .before .before .args .kind) (i₂ .if2 .sign) (⊎-elim (λ w. inl (w .0 .taken, w .1)) (λ w. inr (w .0 .left, w .1)) (i₂ .if2 .came)))
+    (wrote-then (p₁ .put .ensures) (wrote-then (p₂ .put2 .ensures) (p₃ .put3 .ensures)))
 
 pub put-megaminx-spec : {M : Type 1} → statement M
 put-megaminx-spec =
-    tie.close
-    (tie.spec
-    enum-told
-    slice-aggregate-put-bytes
-    put-bytes-requires
-    enum-told-2
-    slice-aggregate-put-bytes-2
-    put-bytes-requires-2
-    enum-told-3
-    slice-aggregate-put-bytes-3
-    put-bytes-requires-3
-    enum-told-4
-    slice-aggregate-put-bytes-4
-    put-bytes-requires-4
-    same-length
-    returns
-    same-length-2
-    returns-2
-    same-length-3
-    returns-3
-    same-length-4
-    returns-4)
+    tie.close (tie.spec put-requires put-requires-2 put-requires-3 same-length returns)

@@ -1,88 +1,53 @@
 -- Each arm. Assumes nothing.
+use Rattle.display.proofs.ByKind.{simple-opened, macro-opened, simultaneous-opened, niss-opened}
 use borrow.Author.Needs.{needs}
 use Rattle.display.proofs.common.put_opening.Statement.{statement}
 use Rattle.display.proofs.common.put_opening.Tie as tie
 
-enum-told : tie.Need-enum-told
-enum-told c = search needs
-
 put-requires : tie.Need-put-requires
 put-requires c κs = search needs
 
-enum-told-2 : tie.Need-enum-told-2
-enum-told-2 c = search needs
+put-two-requires : tie.Need-put-two-requires
+put-two-requires c κs = search needs
 
-slice-aggregate-put-bytes : tie.Need-slice-aggregate-put-bytes
-slice-aggregate-put-bytes c = search needs
+put-two-requires-2 : tie.Need-put-two-requires-2
+put-two-requires-2 c κs = search needs
 
-put-bytes-requires : tie.Need-put-bytes-requires
-put-bytes-requires c κs = search needs
-
-enum-told-3 : tie.Need-enum-told-3
-enum-told-3 c = search needs
-
-slice-aggregate-put-bytes-2 : tie.Need-slice-aggregate-put-bytes-2
-slice-aggregate-put-bytes-2 c = search needs
-
-put-bytes-requires-2 : tie.Need-put-bytes-requires-2
-put-bytes-requires-2 c κs = search needs
-
-enum-told-4 : tie.Need-enum-told-4
-enum-told-4 c = search needs
-
-slice-aggregate-put-bytes-3 : tie.Need-slice-aggregate-put-bytes-3
-slice-aggregate-put-bytes-3 c = search needs
-
-put-bytes-requires-3 : tie.Need-put-bytes-requires-3
-put-bytes-requires-3 c κs = search needs
+put-two-requires-3 : tie.Need-put-two-requires-3
+put-two-requires-3 c κs = search needs
 
 same-length : tie.Need-same-length
 same-length c = search needs
 
 returns : tie.Need-returns
-returns c =
-    let p = c .before .before in
-    rw (p .before .before .enum-told .given .1) (p .put .ensures)
+returns c = let p = c .before .before in simple-opened (p .before .before .match .keys1) (p .put .ensures)
 
 same-length-2 : tie.Need-same-length-2
 same-length-2 c = search needs
 
 returns-2 : tie.Need-returns-2
-returns-2 c =
-    let p = c .before .before in
-    rw (p .before .before .before .enum-told2 .given .1) (p .put-bytes .ensures)
+returns-2 c = let p = c .before .before in macro-opened (p .before .before .match .keys2) (p .put-two .ensures)
 
 same-length-3 : tie.Need-same-length-3
 same-length-3 c = search needs
 
 returns-3 : tie.Need-returns-3
-returns-3 c =
-    let p = c .before .before in
-    rw (p .before .before .before .enum-told3 .given .1) (p .put-bytes2 .ensures)
+returns-3 c = let p = c .before .before in simultaneous-opened (p .before .before .match .keys3) (p .put-two2 .ensures)
 
 same-length-4 : tie.Need-same-length-4
 same-length-4 c = search needs
 
 returns-4 : tie.Need-returns-4
-returns-4 c =
-    let p = c .before .before in
-    rw (p .before .before .before .enum-told4 .given .1) (p .put-bytes3 .ensures)
+returns-4 c = let p = c .before .before in niss-opened (p .before .before .match .rest) (p .put-two3 .ensures)
 
 pub put-opening-spec : {M : Type 1} → statement M
 put-opening-spec =
     tie.close
     (tie.spec
-    enum-told
     put-requires
-    enum-told-2
-    slice-aggregate-put-bytes
-    put-bytes-requires
-    enum-told-3
-    slice-aggregate-put-bytes-2
-    put-bytes-requires-2
-    enum-told-4
-    slice-aggregate-put-bytes-3
-    put-bytes-requires-3
+    put-two-requires
+    put-two-requires-2
+    put-two-requires-3
     same-length
     returns
     same-length-2

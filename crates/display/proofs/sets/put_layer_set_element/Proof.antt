@@ -16,11 +16,11 @@ enum-known-e-2 c = search needs
 put-signed-requires-2 : tie.Need-put-signed-requires-2
 put-signed-requires-2 c κs = search needs
 
-slice-aggregate-put-bytes : tie.Need-slice-aggregate-put-bytes
-slice-aggregate-put-bytes c = search needs
+put-requires : tie.Need-put-requires
+put-requires c κs = search needs
 
-put-bytes-requires : tie.Need-put-bytes-requires
-put-bytes-requires c κs = search needs
+put-requires-2 : tie.Need-put-requires-2
+put-requires-2 c κs = search needs
 
 put-signed-requires-3 : tie.Need-put-signed-requires-3
 put-signed-requires-3 c κs = search needs
@@ -39,9 +39,11 @@ same-length-2 c = search needs
 returns-2 : tie.Need-returns-2
 returns-2 c =
     let j = c .before .before in
-    let d = j .before .before .before .before in
-    let i = d .before .before .before .before .before in
-    rw (i .before .before .before .e2 .given .1) (wrote-then (i .put-signed2 .ensures) (wrote-then (d .put-bytes .ensures) (j .put-signed3 .ensures)))
+    let d₂ = j .before .before .before .before in
+    let d₁ = d₂ .before .before .before .before in
+    let i = d₁ .before .before .before .before in
+    rw (i .before .before .before .e2 .given .1)
+    (wrote-then (i .put-signed2 .ensures) (wrote-then (d₁ .put .ensures) (wrote-then (d₂ .put2 .ensures) (j .put-signed3 .ensures))))
 
 pub put-layer-set-element-spec : {M : Type 1} → statement M
 put-layer-set-element-spec =
@@ -51,8 +53,8 @@ put-layer-set-element-spec =
     put-signed-requires
     enum-known-e-2
     put-signed-requires-2
-    slice-aggregate-put-bytes
-    put-bytes-requires
+    put-requires
+    put-requires-2
     put-signed-requires-3
     same-length
     returns

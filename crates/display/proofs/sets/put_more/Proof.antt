@@ -10,21 +10,23 @@ use lib.ListN.{length}
 use denote.Ref.{now}
 use Rattle.notation.specs.Chars.{whiteSpace}
 use Rattle.notation.specs.Utf8.{byteAt}
+use Rattle.notation.specs.Layers.{LayerSetElement}
+use Rattle.notation.specs.Grammar.{layerSetElement}
 use Rattle.charsets.proofs.Runs.{end-length}
 use Rattle.parse.proofs.Bytes.{seen}
 use Rattle.display.specs.Written.{MOST}
-use Rattle.display.specs.Sets.{Item, item, Following}
+use Rattle.display.specs.Sets.{Following}
 use Rattle.display.proofs.Elements.{Sofar, sofar-none, sofar-all, sofar-never, sofar-more, item-end, put-item, not-put}
 use Rattle.display.proofs.sets.put_more.Statement.{statement}
 use Rattle.display.proofs.sets.put_more.Tie as tie
 
 abbrev Inv-loop : tie.InvT-loop
-Inv-loop out₀ at part from kind end₀ next₀ out end next =
+Inv-loop out₀ at part from end₀ next₀ out end next =
     (end ≤ length part) × (next ≤ MOST) × (length out ≡ length out₀)
-    × ((l : List (Item kind)) → Following (item kind) part from l → Sofar kind part end out₀ out at next l)
+    × ((l : List LayerSetElement) → Following (layerSetElement true) part from l → Sofar part end out₀ out at next l)
 
 abbrev μ-loop : tie.MeasureT-loop
-μ-loop out₀ at part from kind end₀ next₀ out end next = length part - end
+μ-loop out₀ at part from end₀ next₀ out end next = length part - end
 
 loop-holds : tie.Need-loop-holds Inv-loop μ-loop
 loop-holds c =
@@ -80,7 +82,7 @@ returns c =
     let t = w .before in
     let e = t .before .before in
     let a = t .before .before .before .before .before .before .args in
-    let q = not-put (a .kind) (now (a .part)) (w .whitespace-end2 .result) (p .before .before .before .before .put .result) (c .enum-told .given .1) (p .put-element .ensures) in
+    let q = not-put (now (a .part)) (w .whitespace-end2 .result) (p .before .before .before .before .put .result) (c .enum-told .given .1) (p .put-element .ensures) in
     λ l f. absurd (sofar-never (e .before .loop .inv .3 l f) (e .whitespace-end .result) (e .whitespace-end .ensures) (comma-is t) (w .whitespace-end2 .result) (w .whitespace-end2 .ensures) (q .0))
 
 loop-less : tie.Need-loop-less Inv-loop μ-loop
@@ -90,8 +92,8 @@ loop-less c =
     let t = w .before in
     let e = t .before .before in
     let a = t .before .before .before .before .before .before .args in
-    let x = put-item (a .kind) (now (a .part)) (w .whitespace-end2 .result) (p .before .before .before .before .put .result) (c .before .place .given .1) (p .put-element .ensures) in
-    let b = item-end (a .kind) (now (a .part)) (w .whitespace-end2 .result) (c .before .place .given .0 .1 .0) (first-in w) (x .reads) in
+    let x = put-item (now (a .part)) (w .whitespace-end2 .result) (p .before .before .before .before .put .result) (c .before .place .given .1) (p .put-element .ensures) in
+    let b = item-end (now (a .part)) (w .whitespace-end2 .result) (c .before .place .given .0 .1 .0) (first-in w) (x .reads) in
     omega (arith, b .0, b .1, w .whitespace-end2 .ensures, e .whitespace-end .ensures)
 
 loop-again : tie.Need-loop-again Inv-loop μ-loop
@@ -101,8 +103,8 @@ loop-again c =
     let t = w .before in
     let e = t .before .before in
     let a = t .before .before .before .before .before .before .args in
-    let x = put-item (a .kind) (now (a .part)) (w .whitespace-end2 .result) (p .before .before .before .before .put .result) (c .before .place .given .1) (p .put-element .ensures) in
-    let b = item-end (a .kind) (now (a .part)) (w .whitespace-end2 .result) (c .before .place .given .0 .1 .0) (first-in w) (x .reads) in (
+    let x = put-item (now (a .part)) (w .whitespace-end2 .result) (p .before .before .before .before .put .result) (c .before .place .given .1) (p .put-element .ensures) in
+    let b = item-end (now (a .part)) (w .whitespace-end2 .result) (c .before .place .given .0 .1 .0) (first-in w) (x .reads) in (
       b .1,
       omega (arith, x .wrote .counts),
       p .put-element .kept .0 ∙ p .before .before .before .before .put .kept .0 ∙ e .before .loop .inv .2,

@@ -1,21 +1,17 @@
 -- None, or the set that the part is. Assumes nothing.
+use native.Mathlib.Omega.{arith}
 use denote.Ref.{now}
 use Rattle.display.proofs.Writing.{wrote-none}
-use Rattle.display.proofs.Leaves.{constraints-within, constraints-set, constraints-print}
+use Rattle.display.proofs.Leaves.{no-constraints, some-constraints, constraints-within, constraints-print}
 use borrow.Author.Needs.{needs}
 use Rattle.display.proofs.unspanned.put_constraints.Statement.{statement}
 use Rattle.display.proofs.unspanned.put_constraints.Tie as tie
 
-enum-known-constraints : tie.Need-enum-known-constraints
-enum-known-constraints c = search needs
+constraints-present-requires : tie.Need-constraints-present-requires
+constraints-present-requires c κs = search needs
 
-enum-told : tie.Need-enum-told
-enum-told c = search needs
-
-returns : tie.Need-returns
-returns c =
-    let start = c .before .before .before .before in
-    rw (c .enum-told .given .1) (wrote-none (now (start .args .out)) (start .pre .0))
+constraints-requires : tie.Need-constraints-requires
+constraints-requires c κs = search needs
 
 cast-from : tie.Need-cast-from
 cast-from c = search needs
@@ -26,47 +22,46 @@ cast-to c = search needs
 add-to : tie.Need-add-to
 add-to c = search needs
 
-sub-put-set : tie.Need-sub-put-set
-sub-put-set c = search needs
-
-part-put-set-start : tie.Need-part-put-set-start
-part-put-set-start c = search needs
-
-part-put-set-end : tie.Need-part-put-set-end
-part-put-set-end c =
-    let k = c .before .before .before .before in
-    let start = k .before .before .before .before in
-    constraints-within (now (start .args .text)) (start .args .constraints) _ (k .constraints .given .1) (start .pre .1)
-
-put-set-requires : tie.Need-put-set-requires
-put-set-requires c κs =
-    let k = c .before .before .before .before .before in
-    let start = k .before .before .before .before in
-    (start .pre .0, constraints-set (now (start .args .text)) (start .args .constraints) _ (k .constraints .given .1) (start .pre .1))
+put-squeezed-requires : tie.Need-put-squeezed-requires
+put-squeezed-requires c κs =
+    let p = c .before .before .before in
+    let i = p .before in
+    let start = i .before .before .before .before .before in (
+      start .pre .0,
+      (
+        omega arith,
+        constraints-within (now (start .args .text)) (p .constraints .result)
+            (some-constraints (now (start .args .t)) (p .constraints .result) (i .before .constraints-present .ensures) (i .if1 .taken) (p .constraints .ensures)) (start .pre .1 .1),
+      ),
+    )
 
 same-length : tie.Need-same-length
 same-length c = search needs
 
+returns : tie.Need-returns
+returns c =
+    let s = c .before .before in
+    let p = s .before .before .before .before in
+    let i = p .before in
+    let start = i .before .before .before .before .before in
+    constraints-print (now (start .args .text)) (p .constraints .result)
+    (some-constraints (now (start .args .t)) (p .constraints .result) (i .before .constraints-present .ensures) (i .if1 .taken) (p .constraints .ensures)) (start .pre .1 .1) (s .put-squeezed .ensures)
+
 returns-2 : tie.Need-returns-2
 returns-2 c =
-    let p = c .before .before in
-    let k = p .before .before .before .before .before .before in
-    let start = k .before .before .before .before in
-    constraints-print (now (start .args .text)) (start .args .constraints) _ (k .constraints .given .1) (p .put-set .ensures)
+    let start = c .before .before .before .before .before in
+    rw (no-constraints (now (start .args .t)) (c .before .constraints-present .ensures) (c .if1 .left)) (wrote-none (now (start .args .out)) (start .pre .0))
 
 pub put-constraints-spec : {M : Type 1} → statement M
 put-constraints-spec =
     tie.close
     (tie.spec
-    enum-known-constraints
-    enum-told
-    returns
+    constraints-present-requires
+    constraints-requires
     cast-from
     cast-to
     add-to
-    sub-put-set
-    part-put-set-start
-    part-put-set-end
-    put-set-requires
+    put-squeezed-requires
     same-length
+    returns
     returns-2)

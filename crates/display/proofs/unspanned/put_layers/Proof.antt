@@ -48,20 +48,20 @@ cast-to c = search needs
 add-to : tie.Need-add-to
 add-to c = search needs
 
-sub-put-set : tie.Need-sub-put-set
-sub-put-set c = search needs
+sub-put-layer-set : tie.Need-sub-put-layer-set
+sub-put-layer-set c = search needs
 
-part-put-set-start : tie.Need-part-put-set-start
-part-put-set-start c = search needs
+part-put-layer-set-start : tie.Need-part-put-layer-set-start
+part-put-layer-set-start c = search needs
 
-part-put-set-end : tie.Need-part-put-set-end
-part-put-set-end c =
+part-put-layer-set-end : tie.Need-part-put-layer-set-end
+part-put-layer-set-end c =
     let k = c .before .before .before .before in
     let start = k .before .before .before .before in
     layers-within (now (start .args .text)) (start .args .layers) _ (k .layers3 .given .1) (start .pre .1)
 
-put-set-requires : tie.Need-put-set-requires
-put-set-requires c κs =
+put-layer-set-requires : tie.Need-put-layer-set-requires
+put-layer-set-requires c κs =
     let k = c .before .before .before .before .before in
     let start = k .before .before .before .before in
     (start .pre .0, layers-set (now (start .args .text)) (start .args .layers) _ (k .layers3 .given .1) (start .pre .1))
@@ -97,7 +97,7 @@ returns-4 c =
     let p = c .before .before in
     let k = p .before .before .before .before .before .before in
     let start = k .before .before .before .before in
-    layers-print (now (start .args .text)) (start .args .layers) _ (k .layers3 .given .1) (p .put-set .ensures)
+    layers-print (now (start .args .text)) (start .args .layers) _ (k .layers3 .given .1) (p .put-layer-set .ensures)
 
 pub put-layers-spec : {M : Type 1} → statement M
 put-layers-spec =
@@ -117,10 +117,10 @@ put-layers-spec =
     cast-from
     cast-to
     add-to
-    sub-put-set
-    part-put-set-start
-    part-put-set-end
-    put-set-requires
+    sub-put-layer-set
+    part-put-layer-set-start
+    part-put-layer-set-end
+    put-layer-set-requires
     returns
     same-length
     returns-2

@@ -3,7 +3,8 @@ use Prim.Native.Nat.{ℕ, _+_, _-_}
 use mathlib.Core.Path.{_≡_, ap}
 use mathlib.Core.List.{_++_}
 use native.Mathlib.Omega.{arith}
-use lib.ListN.{take, drop}
+use borrow.Author.Tests.{leb-true}
+use lib.ListN.{length, take, drop}
 use denote.Ref.{now}
 use Rattle.display.proofs.Writing.{wrote-as}
 use borrow.Author.Needs.{needs}
@@ -19,17 +20,11 @@ cast-to c = search needs
 add-to : tie.Need-add-to
 add-to c = search needs
 
-sub-put-bytes : tie.Need-sub-put-bytes
-sub-put-bytes c = search needs
-
-part-put-bytes-start : tie.Need-part-put-bytes-start
-part-put-bytes-start c = search needs
-
-part-put-bytes-end : tie.Need-part-put-bytes-end
-part-put-bytes-end c = search needs
-
-put-bytes-requires : tie.Need-put-bytes-requires
-put-bytes-requires c κs = search needs
+put-between-requires : tie.Need-put-between-requires
+put-between-requires c κs =
+    let start = c .before .before .before .before .before in
+    let a = start .args in
+    (start .pre .0, (omega arith, leb-true (a .p .offset + a .p .size) (length (now (a .text))) (start .pre .1)))
 
 same-length : tie.Need-same-length
 same-length c = search needs
@@ -37,21 +32,11 @@ same-length c = search needs
 returns : tie.Need-returns
 returns c =
     let p = c .before .before in
-    let a = p .before .before .before .before .before .before .before .args in
+    let a = p .before .before .before .before .before .before .args in
     let e : a .p .offset + a .p .size - a .p .offset ≡ a .p .size = omega arith in
     wrote-as (λ rest. take (a .p .size) (drop (a .p .offset) (now (a .text))) ++ rest)
-    (λ rest. ap (λ (k : ℕ). take k (drop (a .p .offset) (now (a .text))) ++ rest) e) (p .put-bytes .ensures)
+    (λ rest. ap (λ (k : ℕ). take k (drop (a .p .offset) (now (a .text))) ++ rest) e) (p .put-between .ensures)
 
 pub put-part-spec : {M : Type 1} → statement M
 put-part-spec =
-    tie.close
-    (tie.spec
-    cast-from
-    cast-to
-    add-to
-    sub-put-bytes
-    part-put-bytes-start
-    part-put-bytes-end
-    put-bytes-requires
-    same-length
-    returns)
+    tie.close (tie.spec cast-from cast-to add-to put-between-requires same-length returns)

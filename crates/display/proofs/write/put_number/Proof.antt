@@ -1,99 +1,49 @@
--- The digits fill an array from its end, and the part that they fill is copied. Assumes nothing.
-use borrow.Author.Needs.{needs}
-use Prim.Native.Nat.{ℕ, _+_, _-_}
-use native.Mathlib.Omega.{arith}
-use mathlib.Core.Path.{refl, ap, _∙_}
-use mathlib.Core.List.{List, [], _++_}
-use lib.ListN.{length-set}
+-- One digit, or more. Assumes nothing.
+use mathlib.Core.Path.{sym}
 use Rattle.notation.specs.Numbers.{show}
 use Rattle.display.proofs.Writing.{wrote-as}
-use Rattle.display.proofs.Decimals.{Left, all-left, more-left, one-less, none-left, show-adds}
+use Rattle.display.proofs.Decimals.{show-digit}
+use borrow.Author.Needs.{needs}
 use Rattle.display.proofs.write.put_number.Statement.{statement}
 use Rattle.display.proofs.write.put_number.Tie as tie
 
-abbrev Inv-loop : tie.InvT-loop
-Inv-loop out at n digits₀ rest₀ i₀ digits rest i = Left digits rest i (show n [])
+cast-put : tie.Need-cast-put
+cast-put c = search needs
 
-abbrev μ-loop : tie.MeasureT-loop
-μ-loop out at n digits₀ rest₀ i₀ digits rest i = rest
+add-put : tie.Need-add-put
+add-put c = search needs
 
-loop-holds : tie.Need-loop-holds Inv-loop μ-loop
-loop-holds c = all-left _ (c .before .args .n) refl (omega (arith, c .before .fits .n))
+put-requires : tie.Need-put-requires
+put-requires c κs = search needs
 
-digit-requires : tie.Need-digit-requires Inv-loop μ-loop
-digit-requires c κs = search needs
-
-add-digits : tie.Need-add-digits Inv-loop μ-loop
-add-digits c = search needs
-
-array-write-digits : tie.Need-array-write-digits Inv-loop μ-loop
-array-write-digits c = search needs
-
-sub-i : tie.Need-sub-i Inv-loop μ-loop
-sub-i c = more-left (c .before .before .loop .inv) (c .before .loop-test .taken)
-
-loop-less : tie.Need-loop-less Inv-loop μ-loop
-loop-less c = search needs
-
-loop-again : tie.Need-loop-again Inv-loop μ-loop
-loop-again c = one-less (c .before .before .loop .inv) (c .digit .result) (c .digit .ensures) (c .before .loop-test .taken)
-
-digit-requires-2 : tie.Need-digit-requires-2 Inv-loop μ-loop
-digit-requires-2 c κs = search needs
-
-add-digits-2 : tie.Need-add-digits-2 Inv-loop μ-loop
-add-digits-2 c = search needs
-
-array-write-digits-2 : tie.Need-array-write-digits-2 Inv-loop μ-loop
-array-write-digits-2 c = search needs
-
-sub-put-bytes : tie.Need-sub-put-bytes Inv-loop μ-loop
-sub-put-bytes c = search needs
-
-part-put-bytes-start : tie.Need-part-put-bytes-start Inv-loop μ-loop
-part-put-bytes-start c = search needs
-
-part-put-bytes-end : tie.Need-part-put-bytes-end Inv-loop μ-loop
-part-put-bytes-end c =
-    let d = c .before .before in
-    let l = d .before .before .loop in
-    omega (arith, length-set (l .digits) (l .i) (48 + d .digit2 .result), l .inv .long)
-
-put-bytes-requires : tie.Need-put-bytes-requires Inv-loop μ-loop
-put-bytes-requires c κs = search needs
-
-same-length : tie.Need-same-length Inv-loop μ-loop
+same-length : tie.Need-same-length
 same-length c = search needs
 
-returns : tie.Need-returns Inv-loop μ-loop
+returns : tie.Need-returns
 returns c =
     let p = c .before .before in
-    let d = p .before .before .before .before in
-    let l = d .before .before .loop in
-    let n = d .before .before .before .before .args .n in
-    wrote-as (show n) (λ rest.
-    ap (λ (s : List ℕ). s ++ rest) (none-left (l .inv) (d .digit2 .result) (d .digit2 .ensures) (d .before .loop-test .left)) ∙ show-adds n rest)
-    (p .put-bytes .ensures)
+    let i = p .before .before in
+    let n = i .before .before .args .n in
+    wrote-as (show n) (λ rest. sym (show-digit n rest (i .if1 .taken))) (p .put .ensures)
+
+put-long-number-requires : tie.Need-put-long-number-requires
+put-long-number-requires c κs = search needs
+
+same-length-2 : tie.Need-same-length-2
+same-length-2 c = search needs
+
+returns-2 : tie.Need-returns-2
+returns-2 c = search needs
 
 pub put-number-spec : {M : Type 1} → statement M
 put-number-spec =
     tie.close
     (tie.spec
-    Inv-loop
-    μ-loop
-    loop-holds
-    digit-requires
-    add-digits
-    array-write-digits
-    sub-i
-    loop-less
-    loop-again
-    digit-requires-2
-    add-digits-2
-    array-write-digits-2
-    sub-put-bytes
-    part-put-bytes-start
-    part-put-bytes-end
-    put-bytes-requires
+    cast-put
+    add-put
+    put-requires
     same-length
-    returns)
+    returns
+    put-long-number-requires
+    same-length-2
+    returns-2)

@@ -1,14 +1,11 @@
 -- `parts::family_part` meets its contract: each way out is one case of the rule. Assumes nothing.
-use mathlib.Core.Path.{_∙_, sym, ap, subst}
-use mathlib.Core.List.{[], _∷_}
+use mathlib.Core.Path.{_∙_, ap, sym}
 use borrow.Author.Needs.{needs}
-use Rattle.notation.specs.Entries.{familyOf}
-use Rattle.record.specs.Meaning.{head}
-use Rattle.record.specs.declared.spanned.Record.{Record}
-use Rattle.charsets.proofs.Among.{among}
+use Rattle.notation.specs.Refusals.{result}
+use Rattle.notation.specs.Tree.{Span}
+use Rattle.notation.specs.WellFormed.{inside}
 use Rattle.hypuz_notation.proofs.Outcomes.{refused}
-use Rattle.hypuz_notation.proofs.Records.{HeadOk}
-use Rattle.hypuz_notation.proofs.Naming.{no-family, family-unsound, family-none, sound-record, family-is, move-inside, rotation-inside}
+use Rattle.hypuz_notation.proofs.Naming.{found, family-low, family-high, family-named, family-inside, family-unsound, family-none, sound-record, family-is}
 use Rattle.hypuz_notation.proofs.parts.family_part.Statement.{statement}
 use Rattle.hypuz_notation.proofs.parts.family_part.Tie as tie
 
@@ -30,54 +27,52 @@ returns-2 c =
 mul-from : tie.Need-mul-from
 mul-from c = search needs
 
-sub-decode : tie.Need-sub-decode
-sub-decode c = search needs
+sub-found : tie.Need-sub-found
+sub-found c = search needs
 
-part-decode-start : tie.Need-part-decode-start
-part-decode-start c = search needs
+part-found-start : tie.Need-part-found-start
+part-found-start c = search needs
 
-part-decode-end : tie.Need-part-decode-end
-part-decode-end c = search needs
+part-found-end : tie.Need-part-found-end
+part-found-end c = search needs
 
-decode-requires : tie.Need-decode-requires
-decode-requires c κs = search needs
-
-enum-known-m : tie.Need-enum-known-m
-enum-known-m c = search needs
-
-enum-known-x : tie.Need-enum-known-x
-enum-known-x c = search needs
+kind-requires : tie.Need-kind-requires
+kind-requires c κs = search needs
 
 returns-3 : tie.Need-returns-3
 returns-3 c =
-    let found = c .before .before .before .before in
-    let check = found .before .before .before .before in
+    let kind = c .before in
+    let few = kind .before .before in
+    let check = few .before .before in
     let a = check .before .before .before .args in
-    let sound = check .check .ensures .1 (found .before .before .before .if1 .left) in
-    let m = c .before .before .m .given in
-    let is = family-is (a .text .now) (a .tree .now) (a .«record») sound (found .before .before .if2 .left) (found .decode .result) (found .decode .ensures) in
-    let ok = sound-record (a .text .now) (a .tree .now) (a .«record») sound (found .before .before .if2 .left) (found .decode .result) (found .decode .ensures) in
-    (ap (λ (r : Record). familyOf (head r)) (sym (m .1)) ∙ is, move-inside (a .text .now) (m .0 .0) (subst (λ (r : Record). HeadOk (a .text .now) (head r)) (m .1) ok))
+    let sound = check .check .ensures .1 (few .before .if1 .left) in
+    (family-low (found (a .tree .now) (a .«record»)) (kind .kind .result) (kind .kind .ensures) (c .if3 .taken) ∙ family-is (a .text .now) (a .tree .now) (a .«record») sound (few .if2 .left), tt)
 
 returns-4 : tie.Need-returns-4
 returns-4 c =
-    let found = c .before .before .before .before in
-    let check = found .before .before .before .before in
+    let kind = c .before .before in
+    let few = kind .before .before in
+    let check = few .before .before in
     let a = check .before .before .before .args in
-    let sound = check .check .ensures .1 (found .before .before .before .if1 .left) in
-    let x = c .before .before .x .given in
-    let is = family-is (a .text .now) (a .tree .now) (a .«record») sound (found .before .before .if2 .left) (found .decode .result) (found .decode .ensures) in
-    let ok = sound-record (a .text .now) (a .tree .now) (a .«record») sound (found .before .before .if2 .left) (found .decode .result) (found .decode .ensures) in
-    (ap (λ (r : Record). familyOf (head r)) (sym (x .1)) ∙ is, rotation-inside (a .text .now) (x .0 .0) (subst (λ (r : Record). HeadOk (a .text .now) (head r)) (x .1) ok))
+    let sound = check .check .ensures .1 (few .before .if1 .left) in
+    (family-high (found (a .tree .now) (a .«record»)) (kind .kind .result) (kind .kind .ensures) (c .if4 .taken) ∙ family-is (a .text .now) (a .tree .now) (a .«record») sound (few .if2 .left), tt)
+
+family-of-requires : tie.Need-family-of-requires
+family-of-requires c κs = search needs
 
 returns-5 : tie.Need-returns-5
 returns-5 c =
-    let found = c .before in
-    let check = found .before .before .before .before in
+    let high = c .before in
+    let kind = high .before .before in
+    let few = kind .before .before in
+    let check = few .before .before in
     let a = check .before .before .before .args in
-    let sound = check .check .ensures .1 (found .before .before .before .if1 .left) in
-    let is = family-is (a .text .now) (a .tree .now) (a .«record») sound (found .before .before .if2 .left) (found .decode .result) (found .decode .ensures) in
-    (sym (no-family (found .decode .result) (among 0 (1 ∷ 4 ∷ 5 ∷ 6 ∷ 7 ∷ []) _ (c .match .keys3))) ∙ is, tt)
+    let sound = check .check .ensures .1 (few .before .if1 .left) in
+    let k = kind .kind in
+    let low = high .before .if3 .left in
+    (ap result (c .family-of .ensures) ∙ family-named (found (a .tree .now) (a .«record»)) (k .result) (k .ensures) low (high .if4 .left) ∙ family-is (a .text .now) (a .tree .now) (a .«record») sound (few .if2 .left),
+      ap (λ (p : Span). inside (a .text .now) p) (c .family-of .ensures)
+      ∙ family-inside (found (a .tree .now) (a .«record»)) (k .result) (k .ensures) (a .text .now) low (high .if4 .left) (sound-record (a .text .now) (a .tree .now) (a .«record») sound (few .if2 .left)))
 
 pub family-part-spec : {M : Type 1} → statement M
 family-part-spec =
@@ -87,12 +82,11 @@ family-part-spec =
     returns
     returns-2
     mul-from
-    sub-decode
-    part-decode-start
-    part-decode-end
-    decode-requires
-    enum-known-m
-    enum-known-x
+    sub-found
+    part-found-start
+    part-found-end
+    kind-requires
     returns-3
     returns-4
+    family-of-requires
     returns-5)

@@ -1,15 +1,13 @@
 -- `parts::simplify` meets its contract: each way out is one case of the rule. Assumes nothing.
-use mathlib.Core.Path.{subst}
-use mathlib.Core.List.{[], _∷_}
+use mathlib.Core.Path.{_∙_, ap, sym}
 use native.Mathlib.Omega.{arith}
 use borrow.Author.Needs.{needs}
-use Rattle.record.specs.Meaning.{head}
-use Rattle.record.specs.declared.spanned.Record.{Record}
-use Rattle.charsets.proofs.Among.{among}
+use Rattle.notation.specs.Refusals.{result}
+use Rattle.notation.specs.Tree.{Span, Layers}
+use Rattle.notation.specs.WellFormed.{layersOk}
 use Rattle.hypuz_notation.proofs.Outcomes.{refused}
-use Rattle.hypuz_notation.proofs.Records.{HeadOk}
 use Rattle.hypuz_notation.proofs.Naming.{
-  sound-record, move-layers, simplify-unsound, simplify-no-layers, simplify-many-layers, simplify-none, simplify-no-move, simplify-move
+  found, sound-record, no-layers, some-layers, layers-inside, simplify-unsound, simplify-no-layers, simplify-many-layers, simplify-none, simplify-no-move, simplify-move
 }
 use Rattle.hypuz_notation.proofs.parts.simplify.Statement.{statement}
 use Rattle.hypuz_notation.proofs.parts.simplify.Tie as tie
@@ -44,44 +42,45 @@ returns-4 c =
 mul-from : tie.Need-mul-from
 mul-from c = search needs
 
-sub-decode : tie.Need-sub-decode
-sub-decode c = search needs
+sub-found : tie.Need-sub-found
+sub-found c = search needs
 
-part-decode-start : tie.Need-part-decode-start
-part-decode-start c = search needs
+part-found-start : tie.Need-part-found-start
+part-found-start c = search needs
 
-part-decode-end : tie.Need-part-decode-end
-part-decode-end c = search needs
+part-found-end : tie.Need-part-found-end
+part-found-end c = search needs
 
-decode-requires : tie.Need-decode-requires
-decode-requires c κs = search needs
-
-enum-known-m : tie.Need-enum-known-m
-enum-known-m c = search needs
+kind-requires : tie.Need-kind-requires
+kind-requires c κs = search needs
 
 returns-5 : tie.Need-returns-5
 returns-5 c =
-    let found = c .before in
-    let few = found .before .before in
+    let kind = c .before in
+    let few = kind .before .before in
     let check = few .before .before .before .before in
     let a = check .before .before .before .before .args in
     simplify-no-move (a .text .now) (a .tree .now) (a .«record») (a .max-layer) (a .allow-negatives) (a .out .now) (check .check .ensures .1 (few .before .before .before .if1 .left)) (few .before .before .if2 .left) (few .before .if3 .left) (few .if4 .left)
-    (found .decode .result) (found .decode .ensures) (among 0 (1 ∷ 2 ∷ 4 ∷ 5 ∷ 6 ∷ 7 ∷ []) _ (c .match .keys2))
+    (no-layers (found (a .tree .now) (a .«record»)) (kind .kind .result) (kind .kind .ensures) (c .if5 .taken))
+
+layers-requires : tie.Need-layers-requires
+layers-requires c κs = search needs
 
 cast-simplify : tie.Need-cast-simplify
 cast-simplify c = search needs
 
 simplify-requires : tie.Need-simplify-requires
 simplify-requires c κs =
-    let found = c .before .before .before .before in
-    let few = found .before .before in
+    let named = c .before in
+    let kind = named .before .before in
+    let few = kind .before .before in
     let check = few .before .before .before .before in
     let a = check .before .before .before .before .args in
     let sound = check .check .ensures .1 (few .before .before .before .if1 .left) in
-    let m = c .before .before .m .given in
-    let ok = sound-record (a .text .now) (a .tree .now) (a .«record») sound (few .if4 .left) (found .decode .result) (found .decode .ensures) in
+    let ok = sound-record (a .text .now) (a .tree .now) (a .«record») sound (few .if4 .left) in
     (record { low = omega (arith, few .before .before .if2 .left); high = few .before .if3 .left },
-      (sound .short, move-layers (a .text .now) (m .0 .0) (subst (λ (r : Record). HeadOk (a .text .now) (head r)) (m .1) ok)))
+      (sound .short, ap (λ (l : Layers Span). layersOk (a .text .now) l) (named .layers .ensures)
+          ∙ layers-inside (found (a .tree .now) (a .«record»)) (kind .kind .result) (kind .kind .ensures) (a .text .now) (named .before .if5 .left) ok))
 
 same-length : tie.Need-same-length
 same-length c = search needs
@@ -89,12 +88,13 @@ same-length c = search needs
 returns-6 : tie.Need-returns-6
 returns-6 c =
     let call = c .before .before in
-    let found = call .before .before .before .before .before in
-    let few = found .before .before in
+    let named = call .before .before in
+    let kind = named .before .before in
+    let few = kind .before .before in
     let check = few .before .before .before .before in
     let a = check .before .before .before .before .args in
     simplify-move (a .text .now) (a .tree .now) (a .«record») (a .max-layer) (a .allow-negatives) (a .out .now) (check .check .ensures .1 (few .before .before .before .if1 .left)) (few .before .before .if2 .left) (few .before .if3 .left) (few .if4 .left)
-    (found .decode .result) (found .decode .ensures) _ (call .before .before .before .m .given .1) _ (call .simplify .ensures)
+    _ (some-layers (found (a .tree .now) (a .«record»)) (kind .kind .result) (kind .kind .ensures) (named .before .if5 .left) ∙ ap result (sym (named .layers .ensures))) _ (call .simplify .ensures)
 
 pub simplify-spec : {M : Type 1} → statement M
 simplify-spec =
@@ -106,12 +106,12 @@ simplify-spec =
     returns-3
     returns-4
     mul-from
-    sub-decode
-    part-decode-start
-    part-decode-end
-    decode-requires
-    enum-known-m
+    sub-found
+    part-found-start
+    part-found-end
+    kind-requires
     returns-5
+    layers-requires
     cast-simplify
     simplify-requires
     same-length

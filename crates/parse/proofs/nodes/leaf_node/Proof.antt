@@ -1,55 +1,48 @@
+-- `nodes::leaf_node` meets its contract: what `leaf` reads is a leaf, and its record is written. Assumes nothing.
 use borrow.Author.Needs.{needs}
-use Rattle.record.specs.Meaning.{head}
+use Rattle.record.specs.Meaning.{listed}
 use Rattle.parse.proofs.LeafNodes.{leaf-rejected, leaf-read}
 use Rattle.parse.proofs.nodes.leaf_node.Statement.{statement}
 use Rattle.parse.proofs.nodes.leaf_node.Tie as tie
 
--- src/nodes.rt:93:37
 leaf-requires : tie.Need-leaf-requires
 leaf-requires c κs = search needs
 
--- src/nodes.rt:93:26
-enum-known-r : tie.Need-enum-known-r
-enum-known-r c = search needs
+enum-known-f : tie.Need-enum-known-f
+enum-known-f c = search needs
 
--- src/nodes.rt:94:9
 enum-told : tie.Need-enum-told
 enum-told c = search needs
 
--- src/nodes.rt:94:9
 returns : tie.Need-returns
 returns c =
     let a = c .before .before .before .before .before .args in
     leaf-rejected (a .features) (a .text .now) (a .at) (a .slot) (a .tree .now) (rw (c .enum-told .given .1) at (c .before .before .leaf .ensures .0))
 
--- src/nodes.rt:96:5
 put-record-requires : tie.Need-put-record-requires
 put-record-requires c κs = search needs
 
--- src/nodes.rt:97:28
 add-t12 : tie.Need-add-t12
 add-t12 c = search needs
 
--- src/nodes.rt:89:1
 same-length : tie.Need-same-length
 same-length c = search needs
 
--- src/nodes.rt:89:1
 returns-2 : tie.Need-returns-2
 returns-2 c =
     let a = c .before .before .before .before .before .before .before .before .before .before .args in
-    let took = c .before .before .before .before .before .r .given in
+    let took = c .before .before .before .before .before .f .given in
     let leaf = c .before .before .before .before .before .before .before .leaf in
-    let ends = rw (took .1) at (leaf .ensures .1 .1) in
+    let ends = rw (took .1) at (leaf .ensures .1) in
     rw (c .before .before .put-record .ensures)
-    (leaf-read (a .features) (a .text .now) (a .at) (a .slot) (a .tree .now) (head (took .0 .0)) (took .0 .1 .0) (rw (took .1) at (leaf .ensures .0)) (ends .0) (ends .1))
+    (leaf-read (a .features) (a .text .now) (a .at) (a .slot) (a .tree .now) (listed (took .0 .0)) (took .0 .1 .0) (rw (took .1) at (leaf .ensures .0)) (ends .0) (ends .1))
 
 pub leaf-node-spec : {M : Type 1} → statement M
 leaf-node-spec =
     tie.close
     (tie.spec
     leaf-requires
-    enum-known-r
+    enum-known-f
     enum-told
     returns
     put-record-requires

@@ -1,5 +1,5 @@
 -- `family_span` meets its contract. Assumes nothing.
-use mathlib.Core.Path.{_≡_, refl}
+use mathlib.Core.Path.{_≡_}
 use native.Mathlib.Omega.{arith}
 use Prim.Native.Nat.{_-_}
 use borrow.Author.Tests.{ne-eqb}
@@ -19,13 +19,10 @@ cast-t7 c = search needs
 returns : tie.Need-returns
 returns c =
     let z : c .before .args .to - c .before .args .from ≡ 0 = omega arith in
-    (rw z, record { span = record { offset = omega arith; size = omega arith }; empty = λ _. refl })
+    rw z
 
 returns-2 : tie.Need-returns-2
-returns-2 c = (
-  rw (ne-eqb (c .before .args .to - c .before .args .from) 0 (λ h. c .if1 .left (omega (arith, h)))),
-  record { span = record { offset = omega arith; size = omega arith }; empty = λ h. absurd (c .if1 .left (omega (arith, h))) },
-)
+returns-2 c = rw (ne-eqb (c .before .args .to - c .before .args .from) 0 (λ h. c .if1 .left (omega (arith, h))))
 
 pub family-span-spec : {M : Type 1} → statement M
 family-span-spec = tie.close (tie.spec cast-t5 sub-t6 cast-t7 returns returns-2)

@@ -1,63 +1,55 @@
--- `megaminx_scramble_move` meets its contract: the choices before reject. Assumes nothing.
-use mathlib.Core.Path.{sym, _∙_}
-use Rattle.parse.proofs.Leaves.{rpp, rmm, dpp, dmm, no-scramble-move}
+-- `megaminx_scramble_move` meets its contract: the letter and the sign tell which one stands there. Assumes nothing.
+use mathlib.Core.Path.{ap, ap₂, _∙_}
+use mathlib.Core.List.{List}
+use Prim.Native.Nat.{ℕ, _+_}
+use lib.ListN.{drop}
+use Rattle.notation.specs.Tree.{megaminx}
+use Rattle.notation.specs.Packed.{leafFields}
+use Rattle.notation.specs.Grammar.{read}
+use Rattle.notation.specs.declared.common.MegaminxScrambleMove.{MegaminxScrambleMove}
+use Rattle.parse.specs.Meaning.{scrambleKind}
+use Rattle.parse.proofs.Leaves.{scramble-stands}
 use borrow.Author.Needs.{needs}
 use Rattle.parse.proofs.parse.megaminx_scramble_move.Statement.{statement}
 use Rattle.parse.proofs.parse.megaminx_scramble_move.Tie as tie
 
-has-scramble-requires : tie.Need-has-scramble-requires
-has-scramble-requires c κs = search needs
+has-requires : tie.Need-has-requires
+has-requires c κs = search needs
+
+add-has : tie.Need-add-has
+add-has c = search needs
+
+has-requires-2 : tie.Need-has-requires-2
+has-requires-2 c κs = search needs
+
+scramble-kind-requires : tie.Need-scramble-kind-requires
+scramble-kind-requires c κs = search needs
+
+megaminx-fields-requires : tie.Need-megaminx-fields-requires
+megaminx-fields-requires c κs = search needs
 
 add-t6 : tie.Need-add-t6
 add-t6 c = search needs
 
 returns : tie.Need-returns
-returns c = (rpp (c .before .before .before .args .text .now) (c .before .before .before .args .at) (sym (c .before .has-scramble .ensures) ∙ c .if1 .taken), tt)
-
-has-scramble-requires-2 : tie.Need-has-scramble-requires-2
-has-scramble-requires-2 c κs = search needs
-
-add-t10 : tie.Need-add-t10
-add-t10 c = search needs
-
-returns-2 : tie.Need-returns-2
-returns-2 c = (rmm (c .before .before .before .before .before .args .text .now) (c .before .before .before .before .before .args .at) (sym (c .before .before .before .has-scramble .ensures) ∙ c .before .before .if1 .left) (sym (c .before .has-scramble2 .ensures) ∙ c .if2 .taken), tt)
-
-has-scramble-requires-3 : tie.Need-has-scramble-requires-3
-has-scramble-requires-3 c κs = search needs
-
-add-t14 : tie.Need-add-t14
-add-t14 c = search needs
-
-returns-3 : tie.Need-returns-3
-returns-3 c = (dpp (c .before .before .before .before .before .before .before .args .text .now) (c .before .before .before .before .before .before .before .args .at) (sym (c .before .before .before .before .before .has-scramble .ensures) ∙ c .before .before .before .before .if1 .left) (sym (c .before .before .before .has-scramble2 .ensures) ∙ c .before .before .if2 .left) (sym (c .before .has-scramble3 .ensures) ∙ c .if3 .taken), tt)
-
-has-scramble-requires-4 : tie.Need-has-scramble-requires-4
-has-scramble-requires-4 c κs = search needs
-
-add-t18 : tie.Need-add-t18
-add-t18 c = search needs
-
-returns-4 : tie.Need-returns-4
-returns-4 c = (dmm (c .before .before .before .before .before .before .before .before .before .args .text .now) (c .before .before .before .before .before .before .before .before .before .args .at) (sym (c .before .before .before .before .before .before .before .has-scramble .ensures) ∙ c .before .before .before .before .before .before .if1 .left) (sym (c .before .before .before .before .before .has-scramble2 .ensures) ∙ c .before .before .before .before .if2 .left) (sym (c .before .before .before .has-scramble3 .ensures) ∙ c .before .before .if3 .left) (sym (c .before .has-scramble4 .ensures) ∙ c .if4 .taken), tt)
-
-returns-5 : tie.Need-returns-5
-returns-5 c = (no-scramble-move (c .before .before .before .before .before .before .before .before .before .args .text .now) (c .before .before .before .before .before .before .before .before .before .args .at) (sym (c .before .before .before .before .before .before .before .has-scramble .ensures) ∙ c .before .before .before .before .before .before .if1 .left) (sym (c .before .before .before .before .before .has-scramble2 .ensures) ∙ c .before .before .before .before .if2 .left) (sym (c .before .before .before .has-scramble3 .ensures) ∙ c .before .before .if3 .left) (sym (c .before .has-scramble4 .ensures) ∙ c .if4 .left), tt)
+returns c =
+    let b = c .before in
+    let s = b .before .before .before .before in
+    let text = s .args .text .now in
+    let last = s .args .at + 3 in
+    ap (λ (l : List ℕ). read l last (drop last text)) (c .megaminx-fields .ensures)
+    ∙ ap (λ (k : MegaminxScrambleMove). read (leafFields (megaminx k)) last (drop last text))
+    (b .scramble-kind .ensures ∙ ap₂ scrambleKind (b .before .before .has .ensures) (b .before .has2 .ensures))
+    ∙ scramble-stands text (s .args .at) (s .pre .1)
 
 pub megaminx-scramble-move-spec : {M : Type 1} → statement M
 megaminx-scramble-move-spec =
     tie.close
     (tie.spec
-    has-scramble-requires
+    has-requires
+    add-has
+    has-requires-2
+    scramble-kind-requires
+    megaminx-fields-requires
     add-t6
-    returns
-    has-scramble-requires-2
-    add-t10
-    returns-2
-    has-scramble-requires-3
-    add-t14
-    returns-3
-    has-scramble-requires-4
-    add-t18
-    returns-4
-    returns-5)
+    returns)

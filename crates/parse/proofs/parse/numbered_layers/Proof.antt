@@ -19,7 +19,7 @@ enum-told : tie.Need-enum-told
 enum-told c = search needs
 
 returns : tie.Need-returns
-returns c = (no-layers (c .before .before .before .before .args .at) (drop (c .before .before .before .before .args .at) (c .before .before .before .before .args .text .now)) (rw (c .enum-told .given .1) at (c .before .before .uint .ensures)), tt)
+returns c = no-layers (c .before .before .before .before .args .at) (drop (c .before .before .before .before .args .at) (c .before .before .before .before .args .text .now)) (rw (c .enum-told .given .1) at (c .before .before .uint .ensures))
 
 layer-after-hyphen-requires : tie.Need-layer-after-hyphen-requires
 layer-after-hyphen-requires c κs = within (c .before .before .before .before .before .args .text .now) (c .before .before .before .before .before .args .at) (takes-uint 1 32767) (c .before .before .before .before .before .pre) (rw (c .before .i .given .1) at (c .before .before .before .uint .ensures)) .1
@@ -34,7 +34,7 @@ cast-t10 : tie.Need-cast-t10
 cast-t10 c = omega (arith, number 1 32767 (c .before .before .before .before .before .before .before .before .args .at) (drop (c .before .before .before .before .before .before .before .before .args .at) (c .before .before .before .before .before .before .before .before .args .text .now)) (c .before .before .before .before .i .given .0 .0) (c .before .before .before .before .i .given .0 .1 .0) (drop (c .before .before .before .before .i .given .0 .1 .0) (c .before .before .before .before .before .before .before .before .args .text .now)) (sym (rw (c .before .before .before .before .i .given .1) at (c .before .before .before .before .before .before .uint .ensures))) .most)
 
 returns-2 : tie.Need-returns-2
-returns-2 c = (one-layer (c .before .before .before .before .before .before .before .before .args .at) (drop (c .before .before .before .before .before .before .before .before .args .at) (c .before .before .before .before .before .before .before .before .args .text .now)) (c .before .before .before .before .i .given .0 .0) (c .before .before .before .before .i .given .0 .1 .0) (drop (c .before .before .before .before .i .given .0 .1 .0) (c .before .before .before .before .before .before .before .before .args .text .now)) (rw (c .before .before .before .before .i .given .1) at (c .before .before .before .before .before .before .uint .ensures)) (rw (c .enum-told2 .given .1) at (c .before .before .layer-after-hyphen .ensures)), omega (arith, number 1 32767 (c .before .before .before .before .before .before .before .before .args .at) (drop (c .before .before .before .before .before .before .before .before .args .at) (c .before .before .before .before .before .before .before .before .args .text .now)) (c .before .before .before .before .i .given .0 .0) (c .before .before .before .before .i .given .0 .1 .0) (drop (c .before .before .before .before .i .given .0 .1 .0) (c .before .before .before .before .before .before .before .before .args .text .now)) (sym (rw (c .before .before .before .before .i .given .1) at (c .before .before .before .before .before .before .uint .ensures))) .most))
+returns-2 c = one-layer (c .before .before .before .before .before .before .before .before .args .at) (drop (c .before .before .before .before .before .before .before .before .args .at) (c .before .before .before .before .before .before .before .before .args .text .now)) (c .before .before .before .before .i .given .0 .0) (c .before .before .before .before .i .given .0 .1 .0) (drop (c .before .before .before .before .i .given .0 .1 .0) (c .before .before .before .before .before .before .before .before .args .text .now)) (rw (c .before .before .before .before .i .given .1) at (c .before .before .before .before .before .before .uint .ensures)) (rw (c .enum-told2 .given .1) at (c .before .before .layer-after-hyphen .ensures))
 
 cast-t14 : tie.Need-cast-t14
 cast-t14 c = omega (arith, number 1 32767 (c .before .before .before .before .before .before .before .before .before .before .args .at) (drop (c .before .before .before .before .before .before .before .before .before .before .args .at) (c .before .before .before .before .before .before .before .before .before .before .args .text .now)) (c .before .before .before .before .before .before .i .given .0 .0) (c .before .before .before .before .before .before .i .given .0 .1 .0) (drop (c .before .before .before .before .before .before .i .given .0 .1 .0) (c .before .before .before .before .before .before .before .before .before .before .args .text .now)) (sym (rw (c .before .before .before .before .before .before .i .given .1) at (c .before .before .before .before .before .before .before .before .uint .ensures))) .most)
@@ -49,10 +49,10 @@ cast-t18 : tie.Need-cast-t18
 cast-t18 c = omega (arith, number 1 32767 (c .before .before .before .before .before .before .before .before .before .before .args .at) (drop (c .before .before .before .before .before .before .before .before .before .before .args .at) (c .before .before .before .before .before .before .before .before .before .before .args .text .now)) (c .before .before .before .before .before .before .i .given .0 .0) (c .before .before .before .before .before .before .i .given .0 .1 .0) (drop (c .before .before .before .before .before .before .i .given .0 .1 .0) (c .before .before .before .before .before .before .before .before .before .before .args .text .now)) (sym (rw (c .before .before .before .before .before .before .i .given .1) at (c .before .before .before .before .before .before .before .before .uint .ensures))) .most)
 
 returns-3 : tie.Need-returns-3
-returns-3 c = (upward (c .before .before .before .before .before .before .before .before .before .before .args .at) (drop (c .before .before .before .before .before .before .before .before .before .before .args .at) (c .before .before .before .before .before .before .before .before .before .before .args .text .now)) (c .before .before .before .before .before .before .i .given .0 .0) (c .before .before .before .before .before .before .i .given .0 .1 .0) (drop (c .before .before .before .before .before .before .i .given .0 .1 .0) (c .before .before .before .before .before .before .before .before .before .before .args .text .now)) (rw (c .before .before .before .before .before .before .i .given .1) at (c .before .before .before .before .before .before .before .before .uint .ensures)) (c .before .before .j .given .0 .0) (c .before .before .j .given .0 .1 .0) (drop (c .before .before .j .given .0 .1 .0) (c .before .before .before .before .before .before .before .before .before .before .args .text .now)) (c .if1 .taken) (rw (c .before .before .j .given .1) at (c .before .before .before .before .layer-after-hyphen .ensures)), (omega (arith, number 1 32767 (c .before .before .before .before .before .before .before .before .before .before .args .at) (drop (c .before .before .before .before .before .before .before .before .before .before .args .at) (c .before .before .before .before .before .before .before .before .before .before .args .text .now)) (c .before .before .before .before .before .before .i .given .0 .0) (c .before .before .before .before .before .before .i .given .0 .1 .0) (drop (c .before .before .before .before .before .before .i .given .0 .1 .0) (c .before .before .before .before .before .before .before .before .before .before .args .text .now)) (sym (rw (c .before .before .before .before .before .before .i .given .1) at (c .before .before .before .before .before .before .before .before .uint .ensures))) .most), omega (arith, after-hyphen (c .before .before .before .before .before .before .i .given .0 .1 .0) (drop (c .before .before .before .before .before .before .i .given .0 .1 .0) (c .before .before .before .before .before .before .before .before .before .before .args .text .now)) (c .before .before .j .given .0 .0) (c .before .before .j .given .0 .1 .0) (drop (c .before .before .j .given .0 .1 .0) (c .before .before .before .before .before .before .before .before .before .before .args .text .now)) (rw (c .before .before .j .given .1) at (c .before .before .before .before .layer-after-hyphen .ensures)))))
+returns-3 c = upward (c .before .before .before .before .before .before .before .before .before .before .args .at) (drop (c .before .before .before .before .before .before .before .before .before .before .args .at) (c .before .before .before .before .before .before .before .before .before .before .args .text .now)) (c .before .before .before .before .before .before .i .given .0 .0) (c .before .before .before .before .before .before .i .given .0 .1 .0) (drop (c .before .before .before .before .before .before .i .given .0 .1 .0) (c .before .before .before .before .before .before .before .before .before .before .args .text .now)) (rw (c .before .before .before .before .before .before .i .given .1) at (c .before .before .before .before .before .before .before .before .uint .ensures)) (c .before .before .j .given .0 .0) (c .before .before .j .given .0 .1 .0) (drop (c .before .before .j .given .0 .1 .0) (c .before .before .before .before .before .before .before .before .before .before .args .text .now)) (c .if1 .taken) (rw (c .before .before .j .given .1) at (c .before .before .before .before .layer-after-hyphen .ensures))
 
 returns-4 : tie.Need-returns-4
-returns-4 c = (downward (c .before .before .before .before .before .before .before .before .before .before .args .at) (drop (c .before .before .before .before .before .before .before .before .before .before .args .at) (c .before .before .before .before .before .before .before .before .before .before .args .text .now)) (c .before .before .before .before .before .before .i .given .0 .0) (c .before .before .before .before .before .before .i .given .0 .1 .0) (drop (c .before .before .before .before .before .before .i .given .0 .1 .0) (c .before .before .before .before .before .before .before .before .before .before .args .text .now)) (rw (c .before .before .before .before .before .before .i .given .1) at (c .before .before .before .before .before .before .before .before .uint .ensures)) (c .before .before .j .given .0 .0) (c .before .before .j .given .0 .1 .0) (drop (c .before .before .j .given .0 .1 .0) (c .before .before .before .before .before .before .before .before .before .before .args .text .now)) (c .if1 .left) (rw (c .before .before .j .given .1) at (c .before .before .before .before .layer-after-hyphen .ensures)), (omega (arith, after-hyphen (c .before .before .before .before .before .before .i .given .0 .1 .0) (drop (c .before .before .before .before .before .before .i .given .0 .1 .0) (c .before .before .before .before .before .before .before .before .before .before .args .text .now)) (c .before .before .j .given .0 .0) (c .before .before .j .given .0 .1 .0) (drop (c .before .before .j .given .0 .1 .0) (c .before .before .before .before .before .before .before .before .before .before .args .text .now)) (rw (c .before .before .j .given .1) at (c .before .before .before .before .layer-after-hyphen .ensures))), omega (arith, number 1 32767 (c .before .before .before .before .before .before .before .before .before .before .args .at) (drop (c .before .before .before .before .before .before .before .before .before .before .args .at) (c .before .before .before .before .before .before .before .before .before .before .args .text .now)) (c .before .before .before .before .before .before .i .given .0 .0) (c .before .before .before .before .before .before .i .given .0 .1 .0) (drop (c .before .before .before .before .before .before .i .given .0 .1 .0) (c .before .before .before .before .before .before .before .before .before .before .args .text .now)) (sym (rw (c .before .before .before .before .before .before .i .given .1) at (c .before .before .before .before .before .before .before .before .uint .ensures))) .most)))
+returns-4 c = downward (c .before .before .before .before .before .before .before .before .before .before .args .at) (drop (c .before .before .before .before .before .before .before .before .before .before .args .at) (c .before .before .before .before .before .before .before .before .before .before .args .text .now)) (c .before .before .before .before .before .before .i .given .0 .0) (c .before .before .before .before .before .before .i .given .0 .1 .0) (drop (c .before .before .before .before .before .before .i .given .0 .1 .0) (c .before .before .before .before .before .before .before .before .before .before .args .text .now)) (rw (c .before .before .before .before .before .before .i .given .1) at (c .before .before .before .before .before .before .before .before .uint .ensures)) (c .before .before .j .given .0 .0) (c .before .before .j .given .0 .1 .0) (drop (c .before .before .j .given .0 .1 .0) (c .before .before .before .before .before .before .before .before .before .before .args .text .now)) (c .if1 .left) (rw (c .before .before .j .given .1) at (c .before .before .before .before .layer-after-hyphen .ensures))
 
 pub numbered-layers-spec : {M : Type 1} → statement M
 numbered-layers-spec =

@@ -1,43 +1,39 @@
 -- `scramble_or_move` meets its contract. Assumes nothing.
-use lib.ListN.{drop}
-use Rattle.parse.proofs.Leaves.{scramble-off, no-scramble, a-scramble}
+use mathlib.Core.Path.{sym, ap₂, _∙_}
+use mathlib.Core.Bool.{_&&_}
+use mathlib.Core.Logic.{⊎-elim}
+use Rattle.parse.proofs.Leaves.{a-scramble, no-scramble}
 use borrow.Author.Needs.{needs}
 use Rattle.parse.proofs.parse.scramble_or_move.Statement.{statement}
 use Rattle.parse.proofs.parse.scramble_or_move.Tie as tie
 
+is-scramble-requires : tie.Need-is-scramble-requires
+is-scramble-requires c κs = search needs
+
 megaminx-scramble-move-requires : tie.Need-megaminx-scramble-move-requires
-megaminx-scramble-move-requires c κs = search needs
-
-enum-known-record : tie.Need-enum-known-record
-enum-known-record c = search needs
-
-enum-told : tie.Need-enum-told
-enum-told c = search needs
+megaminx-scramble-move-requires c κs = (c .before .before .before .before .pre .0, sym (c .before .is-scramble .ensures) ∙ c .if2 .taken)
 
 move--requires : tie.Need-move--requires
 move--requires c κs = search needs
 
 returns : tie.Need-returns
-returns c = (no-scramble (c .before .before .before .before .before .before .args .features) (c .before .before .before .before .before .before .args .at) (drop (c .before .before .before .before .before .before .args .at) (c .before .before .before .before .before .before .args .text .now)) (c .before .before .before .before .if1 .taken) (rw (c .before .enum-told .given .1) at (c .before .before .before .megaminx-scramble-move .ensures .0)) (c .move- .ensures .0), c .move- .ensures .1)
+returns c =
+    let b = c .before in
+    let a = b .before .before .before .before .args in
+    a-scramble (a .features) (a .text .now) (a .at) (b .before .before .if1 .taken) (sym (b .before .is-scramble .ensures) ∙ b .if2 .taken) (c .megaminx-scramble-move .ensures)
 
 returns-2 : tie.Need-returns-2
-returns-2 c = (a-scramble (c .before .before .before .before .before .before .args .features) (c .before .before .before .before .before .before .args .at) (drop (c .before .before .before .before .before .before .args .at) (c .before .before .before .before .before .before .args .text .now)) _ _ _ (c .before .before .before .before .if1 .taken) (rw (c .before .record .given .1) at (c .before .before .before .megaminx-scramble-move .ensures .0)), rw (c .before .record .given .1) at (c .before .before .before .megaminx-scramble-move .ensures .1))
-
-move--requires-2 : tie.Need-move--requires-2
-move--requires-2 c κs = search needs
-
-returns-3 : tie.Need-returns-3
-returns-3 c = (scramble-off (c .before .before .before .args .features) (c .before .before .before .args .at) (drop (c .before .before .before .args .at) (c .before .before .before .args .text .now)) (c .before .if1 .left) (c .move-2 .ensures .0), c .move-2 .ensures .1)
+returns-2 c =
+    let a = c .before .before .before .args in
+    no-scramble (a .features) (a .text .now) (a .at) (⊎-elim (λ w. ap₂ _&&_ (w .0 .taken) (sym (w .1 .ensures) ∙ w .2 .left)) (λ w. rw (w .left)) (c .before .if1 .came))
+    (c .move- .ensures)
 
 pub scramble-or-move-spec : {M : Type 1} → statement M
 scramble-or-move-spec =
     tie.close
     (tie.spec
+    is-scramble-requires
     megaminx-scramble-move-requires
-    enum-known-record
-    enum-told
     move--requires
     returns
-    returns-2
-    move--requires-2
-    returns-3)
+    returns-2)

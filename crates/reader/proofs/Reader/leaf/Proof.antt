@@ -148,7 +148,7 @@ module _ {M : Type 1} (𝓤 : URA M) (H : Heap 𝓤) (A : Atoms 𝓤) (W : Given
 
   -- the call of `parse::leaf`: what it is passed, what it asks, and what it says of its answer
   abbrev Means : LeafAnswer → Type 0
-  Means a = means.headReading (text h) a ≡ reads (cursor.leaf f) h
+  Means a = means.recordReading (text h) a ≡ reads (cursor.leaf f) h
 
   abbrev Ends : LeafAnswer → Type 0
   Ends a = means.Within (h .at) (length (text h)) a
@@ -164,8 +164,8 @@ module _ {M : Type 1} (𝓤 : URA M) (H : Heap 𝓤) (A : Atoms 𝓤) (W : Given
       qed W ((‵ (flft κ′ q′) ⊛ ‵ ftrue) ∷ ‵ (ShrSlice (named 0) κ′ u8 .own (h .text) (v ∷ [])) ∷ []) ∵ says ! (inside, short) $ frame ! $
       nothing ! $ owned ! F.the-row (Is F.the-row) (LL.makes F.the-type F′.the-plain 𝓤 H A) f _ set $ fjoin ! $ owned ! usize (Is usize) (uint-makes 𝓤 H A W w64) (h .at) _ (refl, fits) $ fjoin ! $ move ! (1 ∷ 0 ∷ []) $ fjoin ! $ done !
 
-  said : (a : LeafAnswer) → ent 𝓤 (ensured 𝓤 H A parsed.ended (parsed.clauses 𝓤 H A at-mem run) (κ′, tt) passed tt a) (sep 𝓤 (fact 𝓤 (Means a)) (sep 𝓤 (fact 𝓤 (means.RecordFits a)) (fact 𝓤 (Ends a))))
-  said a = exE 𝓤 _ (λ ws. snd∗ 𝓤 (sem 𝓤 H A (lasts parsed.ended (κ′, tt) passed ws)) (sep 𝓤 (fact 𝓤 (Means a)) (sep 𝓤 (fact 𝓤 (means.RecordFits a)) (fact 𝓤 (Ends a)))))
+  said : (a : LeafAnswer) → ent 𝓤 (ensured 𝓤 H A parsed.ended (parsed.clauses 𝓤 H A at-mem run) (κ′, tt) passed tt a) (sep 𝓤 (fact 𝓤 (Means a)) (fact 𝓤 (Ends a)))
+  said a = exE 𝓤 _ (λ ws. snd∗ 𝓤 (sem 𝓤 H A (lasts parsed.ended (κ′, tt) passed ws)) (sep 𝓤 (fact 𝓤 (Means a)) (fact 𝓤 (Ends a))))
 
   -- the call of `after_leaf`, on the answer a with the machine value u
   abbrev to-after : LeafAnswer → Val → AfterLeaf 𝓤 H A at-mem run .Ghost
@@ -249,7 +249,7 @@ module _ {M : Type 1} (𝓤 : URA M) (H : Heap 𝓤) (A : Atoms 𝓤) (W : Given
             move ! (6 ∷ 0 ∷ []) $ use2 W (raw (Parsed 𝓤 H A at-mem run .pre to)) (goes (typed was .1 .1 .0 .fits) set) $
             calls-at ! fm (Parsed 𝓤 H A at-mem run) known to (and-then ! (load ! (from ! (stop !)) (look ! 10 refl)) (and-then ! (load ! (from ! (stop !)) (look ! 8 refl)) (and-then ! (load ! (from ! (stop !)) (look ! 14 refl)) (no-more !)))) (λ u.
             use1 W (later (some (λ (a : LeafAnswer). ((‵ (flft κ′ q′) ⊛ ‵ ftrue) ⊛ ‵ (S.the-row .own a (u ∷ []))) ⊛ raw (ensured 𝓤 H A parsed.ended (parsed.clauses 𝓤 H A at-mem run) (κ′, tt) passed tt a)))) (id⊢ 𝓤 _) $ await ! tt $ pick ! (λ a.
-            split ! $ move ! (1 ∷ []) $ use1 W (raw (fact 𝓤 (Means a)) ⊛ (raw (fact 𝓤 (means.RecordFits a)) ⊛ raw (fact 𝓤 (Ends a)))) (said a) $ split ! $ heard ! (Means a) (λ e. split ! $ drop ! $ heard ! (Ends a) (λ w. split ! $ move ! (1 ∷ []) $
+            split ! $ move ! (1 ∷ []) $ use1 W (raw (fact 𝓤 (Means a)) ⊛ raw (fact 𝓤 (Ends a))) (said a) $ split ! $ heard ! (Means a) (λ e. heard ! (Ends a) (λ w. split ! $ move ! (1 ∷ []) $
             peeks ! S.the-row (Is S.the-row) (shows 𝓤 H A S.the-row) a (u ∷ []) (λ is. land ! (from ! (stop !)) (init ! 13 refl (okS a u is)) $
             goes-on (typed was .1 .1 .0 .fits) a u (okS a u is) (λ n c. last a u is n e w c)))))))))
 

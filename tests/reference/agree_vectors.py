@@ -1,0 +1,183 @@
+"""Stored vectors for `agree`: a text, its inverse printed and read back, both counted, and the step at a place sought in both.
+
+A case is a line: `a`, features (2 hex digits), length of each of the four buffers for trees and texts (6 hex digits), place (16 hex digits), length of each
+of the two for a step (2 hex digits), then the text's segments. The answer is what each entry answers (reading, inverse, printing, reading back, both
+counts, both steps): a value, or a refusal behind a minus; then the two buffers for a step in hex, and the checksums of the other four (tree, inverse,
+printed, read back). Of every buffer the whole is shown, filled with aa before the call.
+
+Where demand 3 holds of a case, it is asserted here, on the reference's answers.
+"""
+import random
+
+import notation as n
+from entry_vectors import LARGE, NISS, PAIRS, TEXTS, TOP, random_texts
+from lines import ROOM, checksum, spelled
+from reading_vectors import MAX, MIN, WCA
+
+MOST, MOST_STEP = 3000, 50  # the longest buffers that the program can lend
+UNROLLED = 20000  # longer lists are not made
+STEP = n.RECORD + 2
+MORE_PLACES = (TOP, TOP + 1, 1 << 63, (1 << 64) - 1)
+
+
+class Entry:
+    """What an entry answered, what it wrote, and its buffer afterwards. A refused one wrote nothing."""
+
+    def __init__(self, written, room):
+        try:
+            self.written = n.lend(written(), room)
+            self.answer = len(self.written)
+        except n.Refused as r:
+            self.written, self.answer = b"", -r.number
+        self.buffer = self.written + b"\xaa" * (room - len(self.written))
+
+
+def counted(text, tree):
+    try:
+        return n.count_steps(text, tree)
+    except n.Refused as r:
+        return -r.number
+
+
+class Agreement:
+    """Every entry runs: after one that refused, with an empty tree or text."""
+
+    def __init__(self, text, features, place, room, step_room):
+        self.read = Entry(lambda: n.pack(n.read(text, features)), room)
+        tree = self.read.written
+        self.inverse = Entry(lambda: n.inv(text, tree), room)
+        self.printed = Entry(lambda: n.display(text, self.inverse.written), room)
+        shown = self.printed.written
+        self.back = Entry(lambda: n.pack(n.read(shown, features)), room)
+        self.count = counted(text, tree)
+        self.recount = counted(shown, self.back.written)
+        self.step = Entry(lambda: n.seek_step(text, tree, place), step_room)
+        self.undone = Entry(lambda: n.seek_step(shown, self.back.written, max(self.count - 1 - place, 0)), step_room)
+
+    def line(self):
+        entries = (self.read, self.inverse, self.printed, self.back)
+        answers = [*(e.answer for e in entries), self.count, self.recount, self.step.answer, self.undone.answer]
+        steps = [self.step.buffer.hex(), self.undone.buffer.hex()]
+        return " ".join([*map(str, answers), *steps, *(f"{checksum(e.buffer):06x}" for e in entries)])
+
+
+def meaning(node):
+    """What makes two records the same step, wherever their texts stand."""
+    layers = ("set", node.layers[2]) if node.layers and node.layers[0] == "set" else node.layers
+    return node.kind, node.tilde, node.number, node.d, layers, node.name, node.constraints and node.constraints[1]
+
+
+def unrollable(text, features):
+    """The nodes of a text of which demand 3 speaks: it is accepted, and its steps can be counted and undone. Else None."""
+    try:
+        nodes = n.read(text, features)
+        n.unroll_check(nodes)
+        n.unroll_check(nodes, True)
+    except n.Refused:
+        return None
+    return nodes if n.count(nodes) <= TOP else None
+
+
+def demand(text, features, place):
+    """Demand 3 at a place, in buffers that suffice; says whether it speaks of the text."""
+    nodes = unrollable(text, features)
+    if nodes is None:
+        return False
+    found = Agreement(text, features, place, 1 << 20, n.RECORD)
+    total = n.count(nodes)
+    unrolled = n.unroll(nodes) if total <= UNROLLED else None
+    assert unrolled is None or len(unrolled) == total, text
+    assert found.count == found.recount == total, text
+    assert min(found.read.answer, found.inverse.answer, found.printed.answer, found.back.answer) >= 0, text
+    if place < total:
+        step = n.step_at(nodes, place) if unrolled is None else unrolled[place]
+        assert found.step.written == n.record(step), text
+        undone, = n.opened(found.printed.written, found.undone.written)
+        assert meaning(undone) == meaning(n.undo(step)), text
+    else:
+        assert found.step.answer == -10, text
+    return True
+
+
+def needed(text, features):
+    """The bytes that each of the four entries writes."""
+    found = Agreement(text, features, 0, 1 << 20, n.RECORD)
+    return {len(e.written) for e in (found.read, found.inverse, found.printed, found.back)}
+
+
+def case(text, place=0, bits=MAX, room=ROOM, step_room=STEP):
+    text = text.encode() if isinstance(text, str) else text
+    room = max(needed(text, n.features_of(bits))) + 3 if room is None else room
+    assert room <= MOST and step_room <= MOST_STEP, text
+    return text, place, bits, room, step_room
+
+
+def total_of(text, bits=MAX):
+    nodes = unrollable(text.encode(), n.features_of(bits))
+    return 0 if nodes is None else n.count(nodes)
+
+
+def places():
+    """Every place of short lists, and about the ends of long ones."""
+    for text in ("R U' F2", "[R, U]'", "[R: U2 F]'", "((R U)2' F)3'", "[[R, U]': F . /]2'", "((1,-2) D--)' ~{1-3,-2}R{A->B}"):
+        total = total_of(text)
+        for place in (*range(min(total, 6)), total - 1, total, total + 1, random.choice(MORE_PLACES)):
+            yield case(text, place)
+    for text in LARGE:
+        total = total_of(text)
+        for place in sorted({random.randrange(total + 1), max(total - 1, 0)}):
+            yield case(text, place)
+
+
+def settings():
+    """Each flag alone, each flag off, and the named settings: most probes are refused under some."""
+    probes = ("~R {1-2,-1}U", "@U{A<>B}' R{}", "R-- D++ R", "(1,-2) / (R)2'", "2-1R [U, F]'")
+    for bits in [1 << i for i in range(7)] + [MAX ^ 1 << i for i in range(7)] + [WCA, MIN]:
+        for text in random.sample(probes, 2):
+            yield case(text, random.randrange(3), bits)
+
+
+def rooms():
+    """Buffers: none, one byte short, exact, with bytes to spare. The long name prints to more bytes than its tree has."""
+    for text in ("", "R", "(R U)2 [F, .]'", "AVeryLongNameOfAMoveThatIsPrinted"):
+        sizes = needed(text.encode(), n.MAXIMAL)
+        for room in sorted({0, *sizes, *(size - 1 for size in sizes), max(sizes) + 60} - {-1}):
+            yield case(text, 0, room=room)
+    for step_room in (0, 1, n.RECORD - 1, n.RECORD, n.RECORD + 1, MOST_STEP):
+        for text, place in (("R U2'", 1), ("R", 1), ("^(R)", 0), ("((-2147483648,0))", 0)):
+            yield case(text, place, step_room=step_room)
+    yield case("R " * 120, 119, room=MOST)
+    yield case("R " * 121, 120, room=MOST)
+
+
+def refused():
+    """Texts that reading refuses: every later entry has an empty tree over them."""
+    for text in (b" " * 65536, b"\xff", b"R\xce", b"(" * 65, b"R)", b"R2147483648'", b"(1,0)2", b"{0}R", "α".encode()):
+        yield case(text, 0, room=40)
+    yield case(b"(" * 64 + b"R" + b")'" * 64, 0)
+    yield case(b" " * 65535, 0, room=40)
+
+
+def cases():
+    random.seed(13)
+    for text in TEXTS:
+        total = total_of(text)
+        yield case(text, random.choice((0, max(total - 1, 0), random.randrange(total + 2))))
+    for text in NISS + PAIRS:
+        yield case(text, random.choice((0, 0, 1)))
+    for group in (places, settings, rooms, refused):
+        yield from group()
+    for text in random_texts(60):
+        bits = random.choice((MAX, MAX, random.randrange(128)))
+        yield case(text, random.randrange(total_of(text, bits) + 1), bits)
+
+
+def lines():
+    """Each case with its answer. Demand 3 speaks of most of them."""
+    held = 0
+    for text, place, bits, room, step_room in cases():
+        features = n.features_of(bits)
+        held += demand(text, features, place)
+        found = Agreement(text, features, place, room, step_room)
+        yield f"a{bits:02x}{room:06x}{place:016x}{step_room:02x}{spelled(text)}", found.line()
+    assert held > 200, held
