@@ -1,16 +1,18 @@
 -- The scan of brackets, byte by byte. Assumes nothing.
 use Prim.Native.Nat.{ℕ, _+_, _<_, _≤_}
-use mathlib.Core.Path.{_≡_, refl, sym, _∙_}
+use mathlib.Core.Path.{_≡_, refl, sym, ap, _∙_}
 use mathlib.Core.Bool.{true, false}
 use mathlib.Core.List.{List, [], _∷_}
 use mathlib.Core.Logic.{⊎-elim, inl, inr}
 use types.Run.{OneOf}
 use native.Mathlib.Omega.{arith}
+use native.Mathlib.Nat.{zero-add}
 use native.Mathlib.Numerals.{add-one}
 use borrow.Author.Tests.{le-leb, lt-leb, ne-eqb}
 use lib.ListN.{length, getD, drop, drop-of-length-le}
 use lib.Seq.{drop-cons}
 use Rattle.notation.specs.Entries.{opens, closes, nestingOk}
+use Rattle.parse.specs.Nesting.{openings}
 
 -- what each byte adds to the two counts
 pub record Counts (b o c : ℕ) : Type 0 where
@@ -28,6 +30,45 @@ neither b h k = record {
   opened = rw (ne-eqb b 40 (λ e. h (inl e)), ne-eqb b 91 (λ e. h (inr e)));
   closed = rw (ne-eqb b 41 (λ e. k (inl e)), ne-eqb b 93 (λ e. k (inr e)));
 }
+
+-- a byte that opens a bracket, or does not
+pub opens-round : (b : ℕ) → b ≡ 40 → 1 ≡ opens b
+opens-round b e = rw e
+
+pub opens-square : (b : ℕ) → b ≡ 91 → 1 ≡ opens b
+opens-square b e = rw e
+
+pub opens-none : (b : ℕ) → (b ≡ 40 → ⊥) → (b ≡ 91 → ⊥) → 0 ≡ opens b
+opens-none b h k = rw (ne-eqb b 40 h, ne-eqb b 91 k)
+
+-- What the count of brackets keeps.
+pub record Opened (text : List ℕ) (n at : ℕ) : Type 0 where
+  pub inside : at ≤ length text
+  pub few : n ≤ at
+  pub same : n + openings (drop at text) ≡ openings text
+
+pub opened-start : (text : List ℕ) → Opened text 0 0
+opened-start text = record { inside = omega arith; few = omega arith; same = zero-add (openings text) }
+
+module _ (text : List ℕ) (n at : ℕ) (s : Opened text n at) where
+  pub opened-on : at < length text → (o : ℕ) → (o ≡ opens (getD text at 0)) × (o ≤ 1) → Opened text (n + o) (at + 1)
+  unfolding openings
+  opened-on h o k =
+      let e : openings (drop at text) ≡ opens (getD text at 0) + openings (drop (at + 1) text) = ap openings (drop-cons text at 0 h) ∙ rw add-one in
+      record { inside = omega arith; few = omega (arith, s .few, k .1); same = omega (arith, s .same, e, k .0) }
+
+  pub opened-end : length text ≤ at → n ≡ openings text
+  unfolding openings
+  opened-end h = let e : openings (drop at text) ≡ 0 = ap openings (drop-of-length-le text h) in omega (arith, s .same, e)
+
+-- a text that opens few brackets never nests them too deep
+few-openings : (o c : ℕ) (l : List ℕ) → o + openings l ≤ c + 64 → true ≡ nestingOk o c l
+unfolding nestingOk openings
+few-openings o c [] h = rw (le-leb o (c + 64) (omega arith))
+few-openings o c (b ∷ l) h = rw (le-leb o (c + 64) (omega arith)) (few-openings (o + opens b) (c + closes b) l (omega arith))
+
+pub nests-little : (l : List ℕ) (n : ℕ) → n ≡ openings l → n ≤ 64 → true ≡ nestingOk 0 0 l
+nests-little l n e h = few-openings 0 0 l (omega (arith, e))
 
 over : (o c : ℕ) (l : List ℕ) → c + 64 < o → nestingOk o c l ≡ false
 unfolding nestingOk

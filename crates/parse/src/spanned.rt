@@ -3,6 +3,7 @@ ghost use mathlib.Core.Path.{_≡_};
 ghost use Prim.Native.Nat.{_≤_};
 ghost use lib.ListN.{length};
 ghost use Rattle.notation.specs.Entries as rule;
+ghost use Rattle.parse.specs.Nesting as nesting;
 use crate::nodes::node_list;
 use charsets::is_utf8;
 use notation::answer::Answer;
@@ -13,8 +14,47 @@ const MAX_TEXT: usize = 65535;
 
 const MAX_NESTING: usize = 64;
 
-// Whether no starting part of the text has over 64 more of `(` `[` than of `)` `]`.
+// 1 where the byte opens a bracket.
+fn opens(b: u8) -> usize
+    ensures { λ r. ⌜ (r ≡ rule.opens b) × (r ≤ 1) ⌝ }
+{
+    if b == b'(' {
+        return 1;
+    }
+    if b == b'[' {
+        return 1;
+    }
+    0
+}
+
+// How many brackets the text opens.
+fn openings(text: &[u8]) -> usize
+    requires { ⌜ length (now text) ≤ rule.MAX-TEXT ⌝ }
+    ensures { λ r. ⌜ r ≡ nesting.openings (now (text .entry)) ⌝ }
+{
+    let mut n: usize = 0;
+    let mut at = 0;
+    while at < text.len() {
+        n += opens(text[at]);
+        at += 1;
+    }
+    n
+}
+
+// Whether no starting part of the text has over 64 more of `(` `[` than of `)` `]`. A text that opens few brackets, as most do, need not be
+// asked at each byte.
 fn nesting_ok(text: &[u8]) -> bool
+    requires { ⌜ length (now text) ≤ rule.MAX-TEXT ⌝ }
+    ensures { λ r. ⌜ r ≡ rule.nestingOk 0 0 (now (text .entry)) ⌝ }
+{
+    if openings(text) <= MAX_NESTING {
+        return true;
+    }
+    scan_ok(text)
+}
+
+// The same, found byte by byte.
+fn scan_ok(text: &[u8]) -> bool
     requires { ⌜ length (now text) ≤ rule.MAX-TEXT ⌝ }
     ensures { λ r. ⌜ r ≡ rule.nestingOk 0 0 (now (text .entry)) ⌝ }
 {
