@@ -1,13 +1,13 @@
 -- What the answers of parse.rt say: a reading of the text, or a rejection; and names for the parts of rules that a function of
 -- its own reads.
-use Prim.Native.Nat.{ℕ, _+_, _-_, _≤_, _<_, min, max}
+use Prim.Native.Nat.{ℕ, _+_, _≤_, _<_, min, max}
 use mathlib.Core.Path.{_≡_}
 use mathlib.Core.Bool.{Bool, true, false, _&&_, _||_}
 use mathlib.Core.List.{List, [], _∷_}
 use mathlib.Core.Option.{Option}
 use lib.Dec.{eqb}
 use lib.IntN.{ℤ, pos, negℤ}
-use lib.ListN.{length, drop}
+use lib.ListN.{drop}
 use Rattle.notation.specs.Numbers.{fromBits}
 use Rattle.notation.specs.Utf8.{byteAt}
 use Rattle.notation.specs.Layers.{single, range}
@@ -83,9 +83,6 @@ more item fuel = moreOf _∷_ [] item (padded (just ",")) fuel
 
 abbrev pub ending : {A : Type 0} → Reader A → ℕ → Reader (Unit {0})
 ending item fuel = do more item fuel; whitespace; brace
-
-abbrev pub MoreElements : List ℕ → ℕ → Element → Taken → Type 0
-MoreElements text at k r = (fuel : ℕ) → length text - at ≤ fuel → told text r ≡ ending (elementOf k) fuel at (drop at text)
 
 -- Parts of a move.
 abbrev pub tildeReading : List ℕ → Tilde → Reading Bool

@@ -215,27 +215,7 @@ fn closing(text: &[u8], at: usize) -> Taken
     }
 }
 
-// What follows an element: commas and further elements, then the brace.
-fn more_elements(text: &[u8], at: usize, element: Element) -> Taken
-    requires { ⌜ at ≤ length (now text) ⌝ }
-    ensures { λ r. ⌜ means.MoreElements (now (text .entry)) at element r ⌝ }
-{
-    let mut end = at;
-    loop {
-        let comma = whitespace_end(text, end);
-        if has(text, comma, b',') {
-            let from = whitespace_end(text, comma + 1);
-            let Taken::To(next) = element_end(text, from, element) else {
-                return Taken::Nothing;
-            };
-            end = next;
-        } else {
-            return closing(text, comma);
-        }
-    }
-}
-
-// A set in braces, with commas between its elements. After a comma only an element can follow.
+// A set in braces, with commas between its elements.
 fn braces(text: &[u8], at: usize, element: Element) -> Taken
     requires { ⌜ at ≤ length (now text) ⌝ }
     ensures { λ r. ⌜ means.told (now (text .entry)) r ≡ means.forget (rule.braces (means.elementOf element) at (drop at (now (text .entry)))) ⌝ }
@@ -247,15 +227,29 @@ fn braces(text: &[u8], at: usize, element: Element) -> Taken
 }
 
 // The same where a brace is known to stand. Apart, because most nodes have none: the test alone is small enough to stand in its callers.
+// After a comma only an element can follow. One loop for the first element and the others, so that `element_end` has one caller.
 fn in_braces(text: &[u8], at: usize, element: Element) -> Taken
     requires { ⌜ (at ≤ length (now text)) × (byteAt (now text) at ≡ 123) ⌝ }
     ensures { λ r. ⌜ means.told (now (text .entry)) r ≡ means.forget (rule.braces (means.elementOf element) at (drop at (now (text .entry)))) ⌝ }
 {
-    let first = whitespace_end(text, at + 1);
-    let Taken::To(next) = element_end(text, first, element) else {
-        return closing(text, first);
-    };
-    more_elements(text, next, element)
+    // The brace or comma that stands before an element.
+    let mut mark = at;
+    loop {
+        let from = whitespace_end(text, mark + 1);
+        let Taken::To(next) = element_end(text, from, element) else {
+            // Only a set without elements lacks one.
+            if mark == at {
+                return closing(text, from);
+            }
+            return Taken::Nothing;
+        };
+        let comma = whitespace_end(text, next);
+        if has(text, comma, b',') {
+            mark = comma;
+        } else {
+            return closing(text, comma);
+        }
+    }
 }
 
 pub fn constraint_set(text: &[u8], at: usize) -> Taken
