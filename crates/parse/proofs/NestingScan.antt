@@ -1,18 +1,20 @@
 -- The scan of brackets, byte by byte. Assumes nothing.
-use Prim.Native.Nat.{ℕ, _+_, _<_, _≤_}
-use mathlib.Core.Path.{_≡_, refl, sym, ap, _∙_}
-use mathlib.Core.Bool.{true, false}
-use mathlib.Core.List.{List, [], _∷_}
+use Prim.Native.Nat.{ℕ, _+_, _-_, _<_, _≤_}
+use mathlib.Core.Path.{_≡_, refl, sym, ap, ap₂, _∙_}
+use mathlib.Core.Bool.{Bool, true, false, _||_}
+use mathlib.Core.List.{List, [], _∷_, _++_}
 use mathlib.Core.Logic.{⊎-elim, inl, inr}
 use types.Run.{OneOf}
 use native.Mathlib.Omega.{arith}
 use native.Mathlib.Nat.{zero-add}
 use native.Mathlib.Numerals.{add-one}
-use borrow.Author.Tests.{le-leb, lt-leb, ne-eqb}
-use lib.ListN.{length, getD, drop, drop-of-length-le}
-use lib.Seq.{drop-cons}
+use borrow.Author.Tests.{le-leb, lt-leb, eq-eqb, ne-eqb}
+use lib.Dec.{eqb}
+use lib.ListN.{length, getD, take, drop, length-take, length-drop, take-append-drop, drop-of-length-le}
+use lib.Seq.{drop-cons, take-all}
 use Rattle.notation.specs.Entries.{opens, closes, nestingOk}
-use Rattle.parse.specs.Nesting.{openings}
+use Rattle.notation.specs.Packed.{bit}
+use Rattle.parse.specs.Nesting.{among}
 
 -- what each byte adds to the two counts
 pub record Counts (b o c : ℕ) : Type 0 where
@@ -31,44 +33,84 @@ neither b h k = record {
   closed = rw (ne-eqb b 41 (λ e. k (inl e)), ne-eqb b 93 (λ e. k (inr e)));
 }
 
--- a byte that opens a bracket, or does not
-pub opens-round : (b : ℕ) → b ≡ 40 → 1 ≡ opens b
-opens-round b e = rw e
+bit-le : (t : Bool) → bit t ≤ 1
+bit-le true = omega arith
+bit-le false = omega arith
 
-pub opens-square : (b : ℕ) → b ≡ 91 → 1 ≡ opens b
-opens-square b e = rw e
+-- a byte that is one of two, or neither
+pub first-of : (b x y : ℕ) → b ≡ x → 1 ≡ bit (eqb b x || eqb b y)
+first-of b x y e = rw (eq-eqb b x e)
 
-pub opens-none : (b : ℕ) → (b ≡ 40 → ⊥) → (b ≡ 91 → ⊥) → 0 ≡ opens b
-opens-none b h k = rw (ne-eqb b 40 h, ne-eqb b 91 k)
+pub second-of : (b x y : ℕ) → (b ≡ x → ⊥) → b ≡ y → 1 ≡ bit (eqb b x || eqb b y)
+second-of b x y h e = rw (ne-eqb b x h, eq-eqb b y e)
 
--- What the count of brackets keeps.
-pub record Opened (text : List ℕ) (n at : ℕ) : Type 0 where
-  pub inside : at ≤ length text
+pub neither-of : (b x y : ℕ) → (b ≡ x → ⊥) → (b ≡ y → ⊥) → 0 ≡ bit (eqb b x || eqb b y)
+neither-of b x y h k = rw (ne-eqb b x h, ne-eqb b y k)
+
+-- What counting keeps.
+pub record Counted (x y : ℕ) (s : List ℕ) (n at : ℕ) : Type 0 where
+  pub inside : at ≤ length s
   pub few : n ≤ at
-  pub same : n + openings (drop at text) ≡ openings text
+  pub same : n + among x y (drop at s) ≡ among x y s
 
-pub opened-start : (text : List ℕ) → Opened text 0 0
-opened-start text = record { inside = omega arith; few = omega arith; same = zero-add (openings text) }
+pub count-start : (x y : ℕ) (s : List ℕ) → Counted x y s 0 0
+count-start x y s = record { inside = omega arith; few = omega arith; same = zero-add (among x y s) }
 
-module _ (text : List ℕ) (n at : ℕ) (s : Opened text n at) where
-  pub opened-on : at < length text → (o : ℕ) → (o ≡ opens (getD text at 0)) × (o ≤ 1) → Opened text (n + o) (at + 1)
-  unfolding openings
-  opened-on h o k =
-      let e : openings (drop at text) ≡ opens (getD text at 0) + openings (drop (at + 1) text) = ap openings (drop-cons text at 0 h) ∙ rw add-one in
-      record { inside = omega arith; few = omega (arith, s .few, k .1); same = omega (arith, s .same, e, k .0) }
+module _ (x y : ℕ) (s : List ℕ) (n at : ℕ) (c : Counted x y s n at) where
+  pub count-on : at < length s → (o : ℕ) → (o ≡ bit (eqb (getD s at 0) x || eqb (getD s at 0) y)) × (o ≤ 1) → Counted x y s (n + o) (at + 1)
+  unfolding among
+  count-on h o k =
+      let e : among x y (drop at s) ≡ bit (eqb (getD s at 0) x || eqb (getD s at 0) y) + among x y (drop (at + 1) s) = ap (among x y) (drop-cons s at 0 h) ∙ rw add-one in
+      record { inside = omega arith; few = omega (arith, c .few, k .1); same = omega (arith, c .same, e, k .0) }
 
-  pub opened-end : length text ≤ at → n ≡ openings text
-  unfolding openings
-  opened-end h = let e : openings (drop at text) ≡ 0 = ap openings (drop-of-length-le text h) in omega (arith, s .same, e)
+  pub count-end : length s ≤ at → (n ≡ among x y s) × (n ≤ length s)
+  unfolding among
+  count-end h =
+      let e : among x y (drop at s) ≡ 0 = ap (among x y) (drop-of-length-le s h) in
+      (omega (arith, c .same, e), omega (arith, c .few, c .inside))
 
--- a text that opens few brackets never nests them too deep
-few-openings : (o c : ℕ) (l : List ℕ) → o + openings l ≤ c + 64 → true ≡ nestingOk o c l
-unfolding nestingOk openings
-few-openings o c [] h = rw (le-leb o (c + 64) (omega arith))
-few-openings o c (b ∷ l) h = rw (le-leb o (c + 64) (omega arith)) (few-openings (o + opens b) (c + closes b) l (omega arith))
+-- Within a block that opens few brackets no part is nested too deep, so only the rest decides.
+past-block : (o c : ℕ) (block rest : List ℕ) → o + among 40 91 block ≤ c + 64 → nestingOk o c (block ++ rest) ≡ nestingOk (o + among 40 91 block) (c + among 41 93 block) rest
+unfolding nestingOk among
+past-block o c [] rest h = ap₂ (λ (a b : ℕ). nestingOk a b rest) (omega arith) (omega arith)
+past-block o c (b ∷ s) rest h =
+    let one : o + opens b + among 40 91 s ≡ o + (opens b + among 40 91 s) = omega arith in
+    let two : c + closes b + among 41 93 s ≡ c + (closes b + among 41 93 s) = omega arith in
+    let on : nestingOk (o + opens b) (c + closes b) (s ++ rest) ≡ nestingOk (o + opens b + among 40 91 s) (c + closes b + among 41 93 s) rest =
+        past-block (o + opens b) (c + closes b) s rest (omega arith) in
+    rw (le-leb o (c + 64) (omega arith)) (on ∙ ap₂ (λ (a b : ℕ). nestingOk a b rest) one two)
 
-pub nests-little : (l : List ℕ) (n : ℕ) → n ≡ openings l → n ≤ 64 → true ≡ nestingOk 0 0 l
-nests-little l n e h = few-openings 0 0 l (omega (arith, e))
+little : (o c : ℕ) (l : List ℕ) → o + length l ≤ c + 64 → true ≡ nestingOk o c l
+unfolding nestingOk
+little o c [] h = rw (le-leb o (c + 64) (omega arith))
+little o c (b ∷ l) h = rw (le-leb o (c + 64) (omega arith)) (little (o + opens b) (c + closes b) l (omega (arith, bit-le (eqb b 40 || eqb b 91))))
+
+pub block-length : (t : List ℕ) → length (take 32 t) ≤ 32
+block-length t = simp length-take (omega arith)
+
+-- What the walk over blocks keeps.
+pub record Blocks (text t : List ℕ) (opened closed : ℕ) : Type 0 where
+  pub few : (opened + length t ≤ length text) × (closed + length t ≤ length text)
+  pub same : nestingOk opened closed t ≡ nestingOk 0 0 text
+
+pub blocks-start : (text : List ℕ) → Blocks text text 0 0
+blocks-start text = record { few = (omega arith, omega arith); same = refl }
+
+module _ (text t : List ℕ) (opened closed : ℕ) (b : Blocks text t opened closed) where
+  pub blocks-on : 32 ≤ length t → (more less : ℕ) → (more ≡ among 40 91 (take 32 t)) × (more ≤ length (take 32 t)) → (less ≡ among 41 93 (take 32 t)) × (less ≤ length (take 32 t)) →
+      opened + more ≤ closed + 64 → Blocks text (take (length t - 32) (drop 32 t)) (opened + more) (closed + less)
+  blocks-on h more less p q k =
+      let l : length (drop 32 t) ≡ length t - 32 = length-drop 32 t in
+      let rest : take (length t - 32) (drop 32 t) ≡ drop 32 t = take-all (length t - 32) (drop 32 t) (omega (arith, l)) in
+      rw rest (record {
+        few = (omega (arith, b .few .0, p .1, l, block-length t), omega (arith, b .few .1, q .1, l, block-length t));
+        same = ap₂ (λ (a b : ℕ). nestingOk (opened + a) (closed + b) (drop 32 t)) (p .0) (q .0)
+            ∙ sym (past-block opened closed (take 32 t) (drop 32 t) (omega (arith, p .0, k)))
+            ∙ ap (nestingOk opened closed) (take-append-drop 32 t) ∙ b .same;
+      })
+
+  pub blocks-end : opened + length t ≤ closed + 64 → true ≡ nestingOk 0 0 text
+  blocks-end h = little opened closed t h ∙ b .same
 
 over : (o c : ℕ) (l : List ℕ) → c + 64 < o → nestingOk o c l ≡ false
 unfolding nestingOk

@@ -1,8 +1,10 @@
--- How many brackets a text opens.
+-- How many bytes are one of two.
 use Prim.Native.Nat.{ℕ, _+_}
+use mathlib.Core.Bool.{_||_}
 use mathlib.Core.List.{List, [], _∷_}
-use Rattle.notation.specs.Entries.{opens}
+use lib.Dec.{eqb}
+use Rattle.notation.specs.Packed.{bit}
 
-unfoldable pub openings : List ℕ → ℕ
-openings [] = 0
-openings (b ∷ s) = opens b + openings s
+unfoldable pub among : ℕ → ℕ → List ℕ → ℕ
+among x y [] = 0
+among x y (b ∷ s) = bit (eqb b x || eqb b y) + among x y s

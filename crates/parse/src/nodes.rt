@@ -2,10 +2,7 @@
 // from the start of the tree. A record is written only where the buffer has its slot: over an empty buffer a run only measures.
 ghost use mathlib.Core.Path.{_≡_};
 ghost use Prim.Native.Nat.{_+_, _*_, _≤_, _<_};
-ghost use lib.Dec.{eqb};
 ghost use lib.ListN.{length, drop, getD};
-ghost use Rattle.notation.specs.Basics.{pick};
-ghost use Rattle.notation.specs.Utf8.{byteAt};
 ghost use Rattle.notation.specs.Grammar as rule;
 ghost use Rattle.notation.specs.Packed as packed;
 ghost use Rattle.record.specs.Meaning.{listed};

@@ -1,7 +1,10 @@
 // Reading a whole text: `parse_notation` of the Rust's spanned.rs.
 ghost use mathlib.Core.Path.{_≡_};
+ghost use mathlib.Core.Bool.{_||_};
 ghost use Prim.Native.Nat.{_≤_};
+ghost use lib.Dec.{eqb};
 ghost use lib.ListN.{length};
+ghost use Rattle.notation.specs.Packed.{bit};
 ghost use Rattle.notation.specs.Entries as rule;
 ghost use Rattle.parse.specs.Nesting as nesting;
 use crate::nodes::node_list;
@@ -14,43 +17,58 @@ const MAX_TEXT: usize = 65535;
 
 const MAX_NESTING: usize = 64;
 
-// 1 where the byte opens a bracket.
-fn opens(b: u8) -> usize
-    ensures { λ r. ⌜ (r ≡ rule.opens b) × (r ≤ 1) ⌝ }
+// So many bytes are counted at once.
+const BLOCK: usize = 32;
+
+// 1 where b is one of the two.
+fn either(b: u8, round: u8, square: u8) -> usize
+    ensures { λ r. ⌜ (r ≡ bit (eqb b round || eqb b square)) × (r ≤ 1) ⌝ }
 {
-    if b == b'(' {
+    if b == round {
         return 1;
     }
-    if b == b'[' {
+    if b == square {
         return 1;
     }
     0
 }
 
-// How many brackets the text opens.
-fn openings(text: &[u8]) -> usize
-    requires { ⌜ length (now text) ≤ rule.MAX-TEXT ⌝ }
-    ensures { λ r. ⌜ r ≡ nesting.openings (now (text .entry)) ⌝ }
+// How many bytes are one of the two.
+fn count(bytes: &[u8], round: u8, square: u8) -> usize
+    requires { ⌜ length (now bytes) ≤ rule.MAX-TEXT ⌝ }
+    ensures { λ r. ⌜ (r ≡ nesting.among round square (now (bytes .entry))) × (r ≤ length (now (bytes .entry))) ⌝ }
 {
     let mut n: usize = 0;
     let mut at = 0;
-    while at < text.len() {
-        n += opens(text[at]);
+    while at < bytes.len() {
+        n += either(bytes[at], round, square);
         at += 1;
     }
     n
 }
 
-// Whether no starting part of the text has over 64 more of `(` `[` than of `)` `]`. A text that opens few brackets, as most do, need not be
-// asked at each byte.
+// Whether no starting part of the text has over 64 more of `(` `[` than of `)` `]`. Brackets are counted by blocks, in which the machine
+// need not guess; only where a block opens so many that 64 could be passed is the text asked at each byte.
 fn nesting_ok(text: &[u8]) -> bool
     requires { ⌜ length (now text) ≤ rule.MAX-TEXT ⌝ }
     ensures { λ r. ⌜ r ≡ rule.nestingOk 0 0 (now (text .entry)) ⌝ }
 {
-    if openings(text) <= MAX_NESTING {
-        return true;
+    let mut opened: usize = 0;
+    let mut closed: usize = 0;
+    let mut t = text;
+    while BLOCK <= t.len() {
+        let more = count(&t[0..BLOCK], b'(', b'[');
+        if closed + MAX_NESTING < opened + more {
+            return scan_ok(text);
+        }
+        opened += more;
+        closed += count(&t[0..BLOCK], b')', b']');
+        t = &t[BLOCK..];
     }
-    scan_ok(text)
+    if closed + MAX_NESTING < opened + t.len() {
+        return scan_ok(text);
+    }
+    true
 }
 
 // The same, found byte by byte.

@@ -1,4 +1,4 @@
-// The packed record: one node of a tree in 25 bytes. Its fields are read one by one, or all at once as a `Record`.
+// The packed record: one node of a tree in 25 bytes. Its fields are read one by one, by its kind, or all at once as `Fields`.
 
 pub mod decode;
 pub mod encode;
