@@ -1,0 +1,131 @@
+#!/usr/bin/env bash
+# Runs the two forms after the core, `Reader` and `ranges::simplify`, on inputs: a small program over the proved sources, on the kit's interpreter
+# and compiled three ways, without a proof of the program itself. Expected lines are worked out by hand from document 01.
+set -euo pipefail
+root=$(cd "$(dirname "$0")/../.." && pwd)
+kit=$(dirname "$(dirname "$(readlink -f "$(command -v rt)")")")
+own=$kit/on/$(uname -m)
+out=$root/target/forms
+crates="notation charsets numbers layer record laws parse tree display simplify invert expand hypuz_notation reader ranges"
+rm -rf "$out" && mkdir -p "$out/main/src"
+for c in $crates; do mkdir -p "$out/$c" && cp -r "$root/crates/$c/src" "$out/$c/src"; done
+# Handed over as sources, a library may not have a module with another library's name: notation's `charsets` gets another one here.
+mv "$out/notation/src/charsets.rt" "$out/notation/src/character_sets.rt"
+sed -i 's/mod charsets;/mod character_sets;/' "$out/notation/src/lib.rt"
+find "$out" -name '*.rt' -exec sed -i 's/notation::charsets/notation::character_sets/' {} +
+cat >"$out/main/src/main.rt" <<'PROGRAM'
+use layer::Layer;
+use layer::LayerRange;
+use libc::STDOUT_FILENO;
+use notation::answer::Answer;
+use notation::features;
+use parse::parse_notation;
+use parse::parts::LeafAnswer;
+use parse::parts::Taken;
+use reader::Reader;
+
+fn number(n: u64) {
+    let mut digits = [0u8; 20];
+    let k = io::decimal(n, &mut digits);
+    io::write_all(STDOUT_FILENO, &digits[..k]);
+    io::write_all(STDOUT_FILENO, b" ");
+}
+
+fn line() {
+    io::write_all(STDOUT_FILENO, b"\n");
+}
+
+fn answer(a: Answer) {
+    match a {
+        Answer::Value(n) => number(n),
+        Answer::Refused(n) => {
+            io::write_all(STDOUT_FILENO, b"refused ");
+            number(n as u64);
+        }
+    }
+}
+
+fn ranges_of(text: &[u8], record: u64, max_layer: u32, negatives: bool) {
+    let mut tree = [0u8; 250];
+    let Answer::Value(size) = parse_notation(text, features::maximal(), &mut tree) else {
+        return;
+    };
+    let end = size as usize;
+    let mut run = [LayerRange { min: Layer(7), max: Layer(77) }; 3];
+    answer(ranges::simplify(text, &tree[0..end], record, max_layer, negatives, &mut run));
+    let mut i = 0;
+    while i < 3 {
+        number(run[i].min.0 as u64);
+        number(run[i].max.0 as u64);
+        i += 1;
+    }
+    line();
+}
+
+fn leaf(a: LeafAnswer) {
+    match a {
+        LeafAnswer::Took(f, next) => {
+            number(f.small as u64);
+            number(f.number as u64);
+            number(f.family.offset as u64);
+            number(f.family.size as u64);
+            number(next as u64);
+        }
+        LeafAnswer::Nothing => {
+            io::write_all(STDOUT_FILENO, b"nothing ");
+        }
+    }
+}
+
+fn walked(text: &[u8]) {
+    let mut r = Reader::new(text);
+    r.skip_whitespace();
+    leaf(r.leaf(features::maximal()));
+    match r.constraint_set() {
+        Taken::To(next) => number(next as u64),
+        Taken::Nothing => {
+            io::write_all(STDOUT_FILENO, b"none ");
+        }
+    }
+    number(r.multiplier() as u64);
+    if r.at_end() {
+        io::write_all(STDOUT_FILENO, b"end");
+    }
+    line();
+}
+
+fn main() {
+    ranges_of(b"{1,3..5,-2}R2'", 0, 9, true);
+    ranges_of(b"{1,3..5,-2}R2'", 0, 9, false);
+    ranges_of(b"{1,3,5,7}R", 0, 9, true);
+    ranges_of(b"U R", 1, 0, true);
+    ranges_of(b"(U)2 R", 0, 9, true);
+    ranges_of(b"(U)2 2-4R", 2, 3, true);
+    walked(b"  Rw2'");
+    walked(b" ({a->b, c}3'");
+    walked(b"@ ");
+    leaf(reader::first_leaf(b"\n(1, -2)x", features::maximal()));
+    leaf(reader::first_leaf(b")", features::maximal()));
+    line();
+}
+PROGRAM
+# {1,3..5,-2} on 9 layers: 1, 3 to 5, 8; without negatives −2 names none. Four ranges do not fit into three (5). No layer count 0 (11), a group has
+# no layers (12), what is refused leaves the run. 2-4 on 3 layers is 2 to 3.
+# Rw2': kind 7, multiplier −2, family at 2 of size 2, then nothing more. `(` with no pair: nothing, the cursor stays before it. `@`: kind 6, once, no family.
+# (1, -2): kind 9, u = 1, no family, ends at 8.
+cat >"$out/stdout" <<'LINES'
+3 1 1 3 5 8 8 
+2 1 1 3 5 7 77 
+refused 5 7 77 7 77 7 77 
+refused 11 7 77 7 77 7 77 
+refused 12 7 77 7 77 7 77 
+1 2 3 7 77 7 77 
+112 4294967294 2 2 6 none 1 end
+nothing none 1 
+96 1 0 0 1 none 1 
+144 1 0 0 8 nothing 
+LINES
+words=(--lib "std=$kit/libs/std/src/lib.rt")
+for c in bytes libc io; do words+=(--lib "$c=$kit/libs/$c/src/lib.rt"); done
+for c in $crates; do words+=(--lib "$c=$out/$c/src/lib.rt"); done
+"$own/bin/rattle-cases" --toolchain "$own/toolchain" --stdout "$out/stdout" "$out/main/src/main.rt" --crate-name main "${words[@]}"
