@@ -134,6 +134,10 @@ module _ (p : ℕ → Bool) where
   pub set-out : {s : List ℕ} {at : ℕ} → at ≤ length s → Reached s at at
   set-out h = record { inside = h; same = refl; }
 
+  -- a walk that comes to the end of the text is at the end of the run
+  pub at-the-end : {s : List ℕ} {at end : ℕ} → Reached s at end → length s ≤ end → end ≡ at + run p (drop at s)
+  at-the-end {s} {at} {end} h l = omega (arith, h .same, run-length 0 (drop end s), length-drop end s)
+
   module _ {s : List ℕ} {at end w : ℕ} (h : Reached s at end) (e : w ≡ widthIf p (drop end s)) where
     pub fits : end + w ≤ length s
     fits = omega (arith, h .inside, widthIf-length (drop end s), length-drop end s)

@@ -1,5 +1,5 @@
 -- White_Space: what is left to test of an ASCII character, and of any other.
-use mathlib.Core.Path.{_≡_, refl, sym}
+use mathlib.Core.Path.{_≡_, refl, sym, _∙_}
 use mathlib.Core.Bool.{Bool, true, false, not, _||_}
 use mathlib.Core.List.{List, [], _∷_}
 use mathlib.Core.Logic.{_⊎_, inl, inr}
@@ -22,6 +22,9 @@ ascii c h n =
       or-false (between 0x9 0xd c),
       or-false (between 0x9 0xd c),
     )
+
+pub above-space : (c : ℕ) → c ≤ 0x7f → 0x20 < c → leb c 0x20 ≡ whiteSpace c
+above-space c h l = lt-leb c 0x20 l ∙ sym (ascii c h (λ e. omega arith) ∙ above 0x9 0xd c (omega arith))
 
 pub listed : (c : ℕ) → Among 0x85 (0xa0 ∷ 0x1680 ∷ 0x202f ∷ 0x205f ∷ 0x3000 ∷ []) c → whiteSpace c ≡ true
 unfolding whiteSpace oneOf every

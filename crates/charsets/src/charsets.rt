@@ -109,12 +109,12 @@ pub fn is_greek_letter(c: u32) -> bool
     }
 }
 
-// Whether the ASCII character is white space.
+// Whether the ASCII character is white space. Most characters lie above the space, which one test tells.
 pub fn is_ascii_whitespace(c: u32) -> bool
     requires { ⌜ c ≤ 127 ⌝ }
     ensures { λ r. ⌜ r ≡ whiteSpace c ⌝ }
 {
-    c == 0x20 || between(0x9, 0xd, c)
+    c <= 0x20 && (c == 0x20 || between(0x9, 0xd, c))
 }
 
 // Unicode's White_Space, as Rust's `char::is_whitespace`.

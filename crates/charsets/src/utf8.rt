@@ -207,13 +207,14 @@ pub fn family_end(s: &[u8], at: usize) -> usize
     ensures { λ r. ⌜ r ≡ at + run isFamilyChar (drop at (now (s .entry))) ⌝ }
 {
     let mut end = at;
-    loop {
+    while end < s.len() {
         let width = family_width(s, end);
         if width == 0 {
             return end;
         }
         end += width;
     }
+    end
 }
 
 // The same for white space.
@@ -222,11 +223,12 @@ pub fn whitespace_end(s: &[u8], at: usize) -> usize
     ensures { λ r. ⌜ r ≡ at + run whiteSpace (drop at (now (s .entry))) ⌝ }
 {
     let mut end = at;
-    loop {
+    while end < s.len() {
         let width = whitespace_width(s, end);
         if width == 0 {
             return end;
         }
         end += width;
     }
+    end
 }

@@ -21,7 +21,7 @@ const MAX_NESTING: usize = 64;
 const BLOCK: usize = 32;
 
 // 1 where b is one of the two.
-fn either(b: u8, round: u8, square: u8) -> usize
+fn one_of(b: u8, round: u8, square: u8) -> usize
     ensures { λ r. ⌜ (r ≡ bit (eqb b round || eqb b square)) × (r ≤ 1) ⌝ }
 {
     if b == round {
@@ -41,7 +41,7 @@ fn count(bytes: &[u8], round: u8, square: u8) -> usize
     let mut n: usize = 0;
     let mut at = 0;
     while at < bytes.len() {
-        n += either(bytes[at], round, square);
+        n += one_of(bytes[at], round, square);
         at += 1;
     }
     n

@@ -1,9 +1,9 @@
--- `charsets::charsets::is_ascii_whitespace` meets its contract: the space, then the range that is left of ASCII.
+-- `charsets::charsets::is_ascii_whitespace` meets its contract: nothing above the space, then the space, then the range that is left.
 use mathlib.Core.Path.{_∙_, sym}
 use borrow.Author.Needs.{needs}
 use Rattle.notation.specs.Basics.{oneOf}
 use Rattle.notation.specs.Chars.{whiteSpace}
-use Rattle.charsets.proofs.Spaces.{ascii}
+use Rattle.charsets.proofs.Spaces.{ascii, above-space}
 use Rattle.charsets.proofs.charsets.is_ascii_whitespace.Statement.{statement}
 use Rattle.charsets.proofs.charsets.is_ascii_whitespace.Tie as tie
 
@@ -12,10 +12,13 @@ between-requires c κs = search needs
 
 returns : tie.Need-returns
 unfolding whiteSpace oneOf
-returns c = rw (c .if1 .taken)
+returns c = rw (c .if2 .taken)
 
 returns-2 : tie.Need-returns-2
-returns-2 c = c .between .ensures ∙ sym (ascii _ (c .before .before .pre) (c .before .if1 .left))
+returns-2 c = c .between .ensures ∙ sym (ascii _ (c .before .before .before .pre) (c .before .if2 .left))
+
+returns-3 : tie.Need-returns-3
+returns-3 c = above-space _ (c .before .pre) (c .if1 .left)
 
 pub is-ascii-whitespace-spec : {M : Type 1} → statement M
-is-ascii-whitespace-spec = tie.close (tie.spec between-requires returns returns-2)
+is-ascii-whitespace-spec = tie.close (tie.spec between-requires returns returns-2 returns-3)

@@ -4,7 +4,7 @@ use native.Mathlib.Omega.{arith}
 use borrow.Author.Needs.{needs}
 use lib.ListN.{length}
 use Rattle.notation.specs.Chars.{isFamilyChar}
-use Rattle.charsets.proofs.Runs.{Reached, set-out, fits, goes-on, arrived}
+use Rattle.charsets.proofs.Runs.{Reached, set-out, fits, goes-on, arrived, at-the-end}
 use Rattle.charsets.proofs.utf8.family_end.Statement.{statement}
 use Rattle.charsets.proofs.utf8.family_end.Tie as tie
 
@@ -21,16 +21,19 @@ family-width-requires : tie.Need-family-width-requires Inv-loop μ-loop
 family-width-requires c κs = search needs
 
 returns : tie.Need-returns Inv-loop μ-loop
-returns c = arrived isFamilyChar (c .before .before .loop .inv) (c .before .family-width .ensures) (c .if1 .taken)
+returns c = arrived isFamilyChar (c .before .before .before .loop .inv) (c .before .family-width .ensures) (c .if1 .taken)
 
 add-end : tie.Need-add-end Inv-loop μ-loop
-add-end c = omega (arith, fits isFamilyChar (c .before .before .loop .inv) (c .before .family-width .ensures))
+add-end c = omega (arith, fits isFamilyChar (c .before .before .before .loop .inv) (c .before .family-width .ensures))
 
 loop-less : tie.Need-loop-less Inv-loop μ-loop
-loop-less c = omega (arith, fits isFamilyChar (c .before .before .loop .inv) (c .before .family-width .ensures))
+loop-less c = omega (arith, fits isFamilyChar (c .before .before .before .loop .inv) (c .before .family-width .ensures))
 
 loop-again : tie.Need-loop-again Inv-loop μ-loop
-loop-again c = goes-on isFamilyChar (c .before .before .loop .inv) (c .before .family-width .ensures) (omega arith)
+loop-again c = goes-on isFamilyChar (c .before .before .before .loop .inv) (c .before .family-width .ensures) (omega arith)
+
+returns-2 : tie.Need-returns-2 Inv-loop μ-loop
+returns-2 c = at-the-end isFamilyChar (c .before .loop .inv) (c .loop-test .left)
 
 pub family-end-spec : {M : Type 1} → statement M
 family-end-spec =
@@ -43,4 +46,5 @@ family-end-spec =
     returns
     add-end
     loop-less
-    loop-again)
+    loop-again
+    returns-2)

@@ -16,16 +16,16 @@ abbrev μ-loop : tie.MeasureT-loop
 loop-holds : tie.Need-loop-holds Inv-loop μ-loop
 loop-holds c = count-start (c .before .args .round) (c .before .args .square) (c .before .args .bytes .now)
 
-shared-slice-read-either : tie.Need-shared-slice-read-either Inv-loop μ-loop
-shared-slice-read-either c = search needs
+shared-slice-read-one-of : tie.Need-shared-slice-read-one-of Inv-loop μ-loop
+shared-slice-read-one-of c = search needs
 
-either-requires : tie.Need-either-requires Inv-loop μ-loop
-either-requires c κs = search needs
+one-of-requires : tie.Need-one-of-requires Inv-loop μ-loop
+one-of-requires c κs = search needs
 
 add-n : tie.Need-add-n Inv-loop μ-loop
 add-n c =
     let l = c .before .before .before in
-    omega (arith, c .either .ensures .1, l .loop .inv .few, l .loop .inv .inside, l .before .before .pre)
+    omega (arith, c .one-of .ensures .1, l .loop .inv .few, l .loop .inv .inside, l .before .before .pre)
 
 add-at : tie.Need-add-at Inv-loop μ-loop
 add-at c = search needs
@@ -38,7 +38,7 @@ loop-again c =
     let b = c .before .before in
     let l = b .before in
     let a = l .before .before .args in
-    count-on (a .round) (a .square) (a .bytes .now) (l .loop .n) (l .loop .at) (l .loop .inv) (b .loop-test .taken) _ (c .either .ensures)
+    count-on (a .round) (a .square) (a .bytes .now) (l .loop .n) (l .loop .at) (l .loop .inv) (b .loop-test .taken) _ (c .one-of .ensures)
 
 returns : tie.Need-returns Inv-loop μ-loop
 returns c =
@@ -53,8 +53,8 @@ count-spec =
     Inv-loop
     μ-loop
     loop-holds
-    shared-slice-read-either
-    either-requires
+    shared-slice-read-one-of
+    one-of-requires
     add-n
     add-at
     loop-less

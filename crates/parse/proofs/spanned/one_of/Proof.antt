@@ -1,8 +1,8 @@
--- `spanned::either` meets its contract. Assumes nothing.
+-- `spanned::one_of` meets its contract. Assumes nothing.
 use native.Mathlib.Omega.{arith}
 use Rattle.parse.proofs.NestingScan.{first-of, second-of, neither-of}
-use Rattle.parse.proofs.spanned.either.Statement.{statement}
-use Rattle.parse.proofs.spanned.either.Tie as tie
+use Rattle.parse.proofs.spanned.one_of.Statement.{statement}
+use Rattle.parse.proofs.spanned.one_of.Tie as tie
 
 returns : tie.Need-returns
 returns c = (first-of _ _ _ (c .if1 .taken), omega arith)
@@ -13,5 +13,5 @@ returns-2 c = (second-of _ _ _ (c .before .if1 .left) (c .if2 .taken), omega ari
 returns-3 : tie.Need-returns-3
 returns-3 c = (neither-of _ _ _ (c .before .if1 .left) (c .if2 .left), omega arith)
 
-pub either-spec : {M : Type 1} → statement M
-either-spec = tie.close (tie.spec returns returns-2 returns-3)
+pub one-of-spec : {M : Type 1} → statement M
+one-of-spec = tie.close (tie.spec returns returns-2 returns-3)
