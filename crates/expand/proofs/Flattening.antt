@@ -25,9 +25,10 @@ use Rattle.laws.proofs.Walking.{Packed, no-node}
 use Rattle.laws.proofs.Unrolling.{flatBinary, flatNode, flatBody, flat, flatBody-backwards, flat-backwards}
 use Rattle.laws.proofs.Counting.{countBinary, countNode, countBody, count, countNode-is, countBody-is, count-is}
 use Rattle.expand.specs.Meaning.{binaryKind}
-use Rattle.expand.specs.Nodes.{IsNode, part, FirstNode, firstList, secondList}
+use Rattle.nodes.specs.Nodes.{IsNode, part, FirstNode, firstList, secondList}
 use Rattle.expand.specs.Steps.{AllUndoable, Wrote, Room, Pair, either}
-use Rattle.expand.proofs.Nodes.{Shape, isLeaf, isGroup, isBinary, shape-of, part-rest, node-unique, FirstLeaf, leaf-node, leaf-record}
+use Rattle.nodes.proofs.Nodes.{part-rest, node-unique, FirstLeaf, leaf-node, leaf-record}
+use Rattle.expand.proofs.Shapes.{Shape, isLeaf, isGroup, isBinary, shape-of}
 use Rattle.expand.proofs.Steps.{length-records, records-append, all-flat, all-flatBody}
 
 -- Writing after writing: over what was written, or behind it.

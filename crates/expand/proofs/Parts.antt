@@ -7,7 +7,7 @@ use borrow.Rule.Slice.PartMut.{midOf, putMid, post-is, same-len-mid}
 use lib.ListN.{length, take, drop, length-append, length-drop}
 use lib.Seq.{take-at, drop-at, length-take-le}
 use Rattle.bytes.specs.Bytes.{slice}
-use Rattle.expand.specs.Nodes.{part}
+use Rattle.nodes.specs.Nodes.{part}
 
 pub record Three (s p x q : List ℕ) (a e : ℕ) : Type 0 where
   pub bytes : s ≡ p ++ (x ++ q)
