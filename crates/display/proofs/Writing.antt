@@ -7,7 +7,7 @@ use native.Mathlib.Omega.{arith}
 use lib.ListN.{length, getD, take, drop, set, length-set, length-append, length-drop, take-append-drop}
 use lib.Seq.{take-at, drop-at, drop-drop, getD-take, getD-drop, length-take-le, take-length, set-split, paste, paste-zero, paste-suc, length-paste}
 use Rattle.display.specs.Written.{MOST, Wrote}
-use Rattle.display.specs.Nodes.{part}
+use Rattle.nodes.specs.Nodes.{part}
 
 -- nothing
 pub wrote-none : {at : ℕ} (l : List ℕ) → at ≤ MOST → Wrote l l at at (λ rest. rest)

@@ -8,7 +8,7 @@ use native.Mathlib.Omega.{arith}
 use borrow.Author.Tests.{ne-eqb, eq-eqb, eqb-true, eqb-false, ltb-true}
 use lib.Dec.{lit≤, eqb}
 use lib.IntN.{ℤ, pos, negsuc}
-use lib.ListN.{length, drop, length-take, length-drop}
+use lib.ListN.{length}
 use Rattle.notation.specs.Numbers.{fromBits, toBits}
 use Rattle.notation.specs.Tree.{Leaf, rotation, move, pause, pair, slash, megaminx, Node, leaf, block, group, binaryGroup, Tree}
 use Rattle.notation.specs.Packed.{RECORD, leafHead, unpack}
@@ -24,7 +24,7 @@ use Rattle.laws.proofs.Counting.{blockSummary, binarySummary, joinSummary, visi
 use Rattle.expand.specs.Meaning.{summary, Held, leafSum, overflowsAt, binaryKind}
 use Rattle.nodes.specs.Nodes.{IsNode, part, FirstNode, firstList, secondList}
 use Rattle.expand.specs.declared.visit.Summary.{Summary}
-use Rattle.nodes.proofs.Nodes.{fields-of, kindOf, kind-of, front-field, FirstLeaf, leaf-node}
+use Rattle.nodes.proofs.Nodes.{part-length, fields-of, kindOf, kind-of, front-field, FirstLeaf, leaf-node}
 use Rattle.expand.proofs.Shapes.{Shape, isLeaf, isGroup, isBinary, shape-of}
 use Rattle.expand.proofs.Summaries.{same}
 
@@ -137,7 +137,7 @@ unfolding visit
 visiting-goes-on tree t sum one next e v f p q =
     record {
       packed = f .packedRest;
-      shorter = omega (arith, length-take (length t - e) (drop e t), length-drop e t, v .shorter);
+      shorter = omega (arith, part-length e (length t) t, v .shorter);
       held = let h = ap (λ (z : counting.Summary). z .steps) q in record { most = omega arith };
       joined =
           ap (λ (z : counting.Summary). joinSummary z (visit (unpack (part e (length t) t)))) (q ∙ ap (joinSummary (summary sum)) p)
