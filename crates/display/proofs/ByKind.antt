@@ -1,15 +1,15 @@
 -- What a record says and what its signs are, by its kind. Assumes nothing.
 use Prim.Native.Nat.{ℕ, zero, suc, _+_, _-_, _%_, _<_, _≤_}
-use mathlib.Core.Path.{_≡_, refl, subst}
+use mathlib.Core.Path.{_≡_}
 use mathlib.Core.Logic.{_⊎_, ⊎-elim}
-use mathlib.Core.List.{List, [], _∷_}
+use mathlib.Core.List.{List, _∷_}
 use native.Mathlib.Omega.{arith}
 use borrow.Author.Tests.{lt-ltb, le-ltb, eq-eqb, ne-eqb}
 use lib.Dec.{ltb, eqb}
-use lib.ListN.{getD, drop}
+use lib.ListN.{getD}
 use Rattle.notation.specs.Basics.{pick}
-use Rattle.notation.specs.Tree.{Leaf, pause, megaminx}
-use Rattle.notation.specs.Packed.{Head, leafHead, groupHead, binaryHead, groupNumber, binaryNumber, megaminxNumber}
+use Rattle.notation.specs.Tree.{pause, megaminx}
+use Rattle.notation.specs.Packed.{Head, leafHead, groupNumber, binaryNumber, megaminxNumber}
 use Rattle.notation.specs.Print.{putPrefix, putSeparator, putMegaminx}
 use Rattle.notation.specs.declared.common.GroupKind.{GroupKind}
 use Rattle.notation.specs.declared.common.GroupKind.the-variants.{Simple, Macro, Simultaneous, Niss}
@@ -17,7 +17,6 @@ use Rattle.notation.specs.declared.common.BinaryGroupKind.{BinaryGroupKind}
 use Rattle.notation.specs.declared.common.BinaryGroupKind.the-variants.{Commutator, Conjugate}
 use Rattle.notation.specs.declared.common.MegaminxScrambleMove.{MegaminxScrambleMove}
 use Rattle.notation.specs.declared.common.MegaminxScrambleMove.the-variants.{Rpp, Rmm, Dpp, Dmm}
-use Rattle.record.specs.Meaning.{groupAt, binaryAt}
 use Rattle.record.proofs.Packed.{NoneBelow, byKind}
 use Rattle.display.specs.Written.{Wrote}
 

@@ -10,7 +10,7 @@ use lib.Seq.{take-all, take-take, length-take-le}
 use Rattle.notation.specs.Numbers.{fromBits, toBits}
 use Rattle.notation.specs.Tree.{Leaf, rotation, move, pause, pair, slash, megaminx, Node, leaf, block, Body, group, binaryGroup, nil, cons, Tree}
 use Rattle.notation.specs.Packed.{
-  RECORD, widths, cut, Head, leafHead, groupHead, binaryHead, bodyHead, headFields, record25, packNode, unpack, pack, headOf, headAt, megaminxNumber, groupNumber, binaryNumber
+  RECORD, widths, cut, Head, leafHead, groupHead, binaryHead, bodyHead, headFields, packNode, unpack, pack, headOf, headAt, megaminxNumber, groupNumber, binaryNumber
 }
 use Rattle.notation.specs.declared.common.GroupKind.{GroupKind}
 use Rattle.notation.specs.declared.common.GroupKind.the-variants.{Simple, Macro, Simultaneous, Niss}

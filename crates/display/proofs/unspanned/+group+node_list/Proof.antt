@@ -2,7 +2,7 @@
 -- lists in the group. Assumes nothing.
 use borrow.Author.Needs.{needs}
 use Prim.Native.Nat.{_+_, _*_}
-use mathlib.Core.Path.{_∙_, ap}
+use mathlib.Core.Path.{ap}
 use mathlib.Core.Logic.{⊎-elim}
 use mathlib.Core.List.{List}
 use native.Mathlib.Omega.{arith}
