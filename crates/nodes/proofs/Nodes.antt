@@ -32,6 +32,9 @@ part-rest a bs = take-all (length bs - a) (drop a bs) (omega (arith, length-drop
 pub part-length : (a e : ℕ) (bs : List ℕ) → length (part a e bs) ≤ length bs - a
 part-length a e bs = omega (arith, length-take (e - a) (drop a bs), length-drop a bs)
 
+pub length-part : (a e : ℕ) (bs : List ℕ) → e ≤ length bs → length (part a e bs) ≡ e - a
+length-part a e bs h = length-take-le (e - a) (drop a bs) (omega (arith, length-drop a bs))
+
 -- what makes walkers end: a node stands in its list, a list behind the record of its node, and what follows a node is shorter
 pub node-less : (list bs : List ℕ) (e t : ℕ) → length bs ≤ length list → length list * 2 + 1 ≡ t → length (part 0 e bs) * 2 < t
 node-less list bs e t h p = omega (arith, part-length 0 e bs)
@@ -233,7 +236,7 @@ first-leaf {bs} {k} p h q l =
   where
     go : (e : ℕ) (f : FirstNode bs e) → (x : Leaf) × (f .node ≡ leaf x) → FirstLeaf bs
     go e f (x, i) =
-        let long : e ≡ RECORD = sym (ap length (part-front e bs) ∙ length-take-le e bs (f .most)) ∙ leaf-long x (subst (IsNode (part 0 e bs)) i (f .isNode)) in
+        let long : e ≡ RECORD = omega (arith, length-part 0 e bs (f .most), leaf-long x (subst (IsNode (part 0 e bs)) i (f .isNode))) in
         let g : (g : FirstNode bs RECORD) × (g .node ≡ leaf x) = subst (λ (j : ℕ). (g : FirstNode bs j) × (g .node ≡ leaf x)) long (f, i) in
         record { step = x; first = g .0; isStep = g .1 }
 
