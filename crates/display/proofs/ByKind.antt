@@ -1,15 +1,15 @@
 -- What a record says and what its signs are, by its kind. Assumes nothing.
 use Prim.Native.Nat.{ℕ, zero, suc, _+_, _-_, _%_, _<_, _≤_}
-use mathlib.Core.Path.{_≡_, refl, subst}
+use mathlib.Core.Path.{_≡_}
 use mathlib.Core.Logic.{_⊎_, ⊎-elim}
-use mathlib.Core.List.{List, [], _∷_}
+use mathlib.Core.List.{List, _∷_}
 use native.Mathlib.Omega.{arith}
 use borrow.Author.Tests.{lt-ltb, le-ltb, eq-eqb, ne-eqb}
 use lib.Dec.{ltb, eqb}
-use lib.ListN.{getD, drop}
+use lib.ListN.{getD}
 use Rattle.notation.specs.Basics.{pick}
-use Rattle.notation.specs.Tree.{Leaf, pause, megaminx}
-use Rattle.notation.specs.Packed.{Head, leafHead, groupHead, binaryHead, groupNumber, binaryNumber, megaminxNumber}
+use Rattle.notation.specs.Tree.{pause, megaminx}
+use Rattle.notation.specs.Packed.{Head, leafHead, groupNumber, binaryNumber, megaminxNumber}
 use Rattle.notation.specs.Print.{putPrefix, putSeparator, putMegaminx}
 use Rattle.notation.specs.declared.common.GroupKind.{GroupKind}
 use Rattle.notation.specs.declared.common.GroupKind.the-variants.{Simple, Macro, Simultaneous, Niss}
@@ -17,7 +17,6 @@ use Rattle.notation.specs.declared.common.BinaryGroupKind.{BinaryGroupKind}
 use Rattle.notation.specs.declared.common.BinaryGroupKind.the-variants.{Commutator, Conjugate}
 use Rattle.notation.specs.declared.common.MegaminxScrambleMove.{MegaminxScrambleMove}
 use Rattle.notation.specs.declared.common.MegaminxScrambleMove.the-variants.{Rpp, Rmm, Dpp, Dmm}
-use Rattle.record.specs.Meaning.{groupAt, binaryAt}
 use Rattle.record.proofs.Packed.{NoneBelow, byKind}
 use Rattle.display.specs.Written.{Wrote}
 
@@ -85,21 +84,6 @@ scrambled l s w Dmm e = rw (l, s, e) at w
 abbrev told : List ℕ → ℕ → Head
 told bs k = getD (byKind bs) k (leafHead pause)
 
-pub group-told : (bs : List ℕ) (k : ℕ) → k < 4 → (g : GroupKind) × (k ≡ groupNumber g) × (told bs k ≡ groupAt g bs)
-group-told bs zero h = (Simple, refl, refl)
-group-told bs (suc zero) h = (Macro, refl, refl)
-group-told bs (suc (suc zero)) h = (Simultaneous, refl, refl)
-group-told bs (suc (suc (suc zero))) h = (Niss, refl, refl)
-group-told bs (suc (suc (suc (suc k)))) h = absurd (omega arith)
-
-pub binary-told : (bs : List ℕ) (k : ℕ) → 4 ≤ k → k ≤ 5 → (g : BinaryGroupKind) × (k ≡ binaryNumber g) × (told bs k ≡ binaryAt g bs)
-binary-told bs k l h = go (k - 4) (omega arith) (omega arith)
-  where
-    go : (d : ℕ) → k ≡ suc (suc (suc (suc d))) → d < 2 → (g : BinaryGroupKind) × (k ≡ binaryNumber g) × (told bs k ≡ binaryAt g bs)
-    go zero e h = (Commutator, e, rw e)
-    go (suc zero) e h = (Conjugate, e, rw e)
-    go (suc (suc d)) e h = absurd (omega arith)
-
 pub megaminx-told : (bs : List ℕ) (k : ℕ) → 11 ≤ k → k < 15 → (m : MegaminxScrambleMove) × (k ≡ megaminxNumber m) × (told bs k ≡ leafHead (megaminx m))
 megaminx-told bs k l h = go (k - 11) (omega arith)
   where
@@ -109,28 +93,3 @@ megaminx-told bs k l h = go (k - 11) (omega arith)
     go (suc (suc zero)) e = (Dpp, e, rw e)
     go (suc (suc (suc zero))) e = (Dmm, e, rw e)
     go (suc (suc (suc (suc d)))) e = absurd (omega arith)
-
--- every kind above 5 is a leaf's
-abbrev IsLeaf : Head → Type 0
-IsLeaf (leafHead x) = Unit {0}
-IsLeaf (groupHead g n m) = ⊥
-IsLeaf (binaryHead g n n′ m) = ⊥
-
-abbrev AllLeaves : List Head → Type 0
-AllLeaves [] = Unit {0}
-AllLeaves (h ∷ l) = IsLeaf h × AllLeaves l
-
-leaf-at : (l : List Head) → AllLeaves l → (i : ℕ) → IsLeaf (getD l i (leafHead pause))
-leaf-at [] a i = tt
-leaf-at (h ∷ l) a zero = a .0
-leaf-at (h ∷ l) a (suc i) = leaf-at l (a .1) i
-
-pub leaf-told : (bs : List ℕ) (k : ℕ) → 5 < k → (x : Leaf) × (told bs k ≡ leafHead x)
-leaf-told bs k h =
-    let e : suc (suc (suc (suc (suc (suc (k - 6)))))) ≡ k = omega arith in
-    go (told bs k) (subst (λ (i : ℕ). IsLeaf (told bs i)) e (leaf-at (drop 6 (byKind bs)) (tt, (tt, (tt, (tt, (tt, (tt, (tt, (tt, (tt, tt))))))))) (k - 6)))
-  where
-    go : (h : Head) → IsLeaf h → (x : Leaf) × (h ≡ leafHead x)
-    go (leafHead x) p = (x, refl)
-    go (groupHead g n m) p = absurd p
-    go (binaryHead g n n′ m) p = absurd p

@@ -4,10 +4,11 @@ use mathlib.Core.Path.{_≡_, refl, sym, ap, _∙_}
 use mathlib.Core.List.{List, [], _∷_, _++_, append-assoc, append-nil}
 use native.Mathlib.Numerals.{add-one}
 use native.Mathlib.Omega.{arith}
-use lib.ListN.{length, getD, take, drop, set, length-set, length-append, length-drop, take-append-drop}
+use lib.ListN.{length, getD, take, drop, set, length-set, length-append, take-append-drop}
 use lib.Seq.{take-at, drop-at, drop-drop, getD-take, getD-drop, length-take-le, take-length, set-split, paste, paste-zero, paste-suc, length-paste}
 use Rattle.display.specs.Written.{MOST, Wrote}
-use Rattle.display.specs.Nodes.{part}
+use Rattle.nodes.specs.Nodes.{part}
+use Rattle.nodes.proofs.Nodes.{length-part}
 
 -- nothing
 pub wrote-none : {at : ℕ} (l : List ℕ) → at ≤ MOST → Wrote l l at at (λ rest. rest)
@@ -126,12 +127,6 @@ wrote-past old at next s c h =
     }
 
 -- The part of some bytes.
-length-part : (from to : ℕ) (bytes : List ℕ) → to ≤ length bytes → length (part from to bytes) ≡ to - from
-length-part from to bytes h = length-take-le (to - from) (drop from bytes) (omega (arith, length-drop from bytes))
-
-pub part-all : (bytes : List ℕ) → part 0 (length bytes) bytes ≡ bytes
-part-all bytes = let e : length bytes - 0 ≡ length bytes = omega arith in ap (λ (n : ℕ). take n bytes) e ∙ take-length bytes
-
 pub part-past : (old : List ℕ) (at next from to : ℕ) (bytes : List ℕ) → to ≤ length bytes → next ≡ min (at + (to - from)) MOST → length old < next →
     Wrote old old at next (λ rest. part from to bytes ++ rest)
 part-past old at next from to bytes l c h = wrote-past old at next (part from to bytes) (omega (arith, length-part from to bytes l)) h

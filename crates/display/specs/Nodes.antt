@@ -1,36 +1,19 @@
--- The bytes of a node, a packed list taken apart at the end of its first node, and what a leaf's record prints by its fields.
-use Prim.Native.Nat.{ℕ, _-_, _/_, _%_, _≤_, _<_}
+-- Nodes and leaves that are well formed in their text, and what a leaf's record prints by its fields.
+use Prim.Native.Nat.{ℕ, _/_, _%_, _≤_, _<_}
 use mathlib.Core.Path.{_≡_}
 use mathlib.Core.Bool.{true}
 use mathlib.Core.List.{List, _∷_, _++_}
 use lib.Dec.{eqb}
-use lib.ListN.{length, take, drop}
+use lib.ListN.{length}
 use Rattle.notation.specs.Basics.{pick}
 use Rattle.notation.specs.Numbers.{fromBits}
-use Rattle.notation.specs.Tree.{Leaf, Node, cons, partOf}
-use Rattle.notation.specs.Packed.{RECORD, familyAt, leafHead, headAt, packNode, unpack}
+use Rattle.notation.specs.Tree.{Leaf, Node, partOf}
+use Rattle.notation.specs.Packed.{RECORD, familyAt, leafHead, headAt}
 use Rattle.notation.specs.WellFormed.{inside, constraintsOk, layersOk, leafOk, nodeOk}
 use Rattle.notation.specs.Meaning.{constraintMeaning, layerMeaning}
 use Rattle.notation.specs.Print.{putTilde, putLayers, putConstraints, putMultiplier}
 use Rattle.record.specs.Meaning.{field, layersAt, constraintsAt}
-use Rattle.laws.proofs.Packing.{FitsNode}
-use Rattle.laws.proofs.Walking.{Packed}
-
-pub record IsNode (bs : List ℕ) (n : Node Leaf) : Type 0 where
-  pub bytes : packNode n ≡ bs
-  pub fits : FitsNode n
-
--- what the slices &t[0..e] and &t[e..] are
-abbrev pub part : ℕ → ℕ → List ℕ → List ℕ
-part a e bs = take (e - a) (drop a bs)
-
-pub record FirstNode (bs : List ℕ) (e : ℕ) : Type 0 where
-  pub node : Node Leaf
-  pub least : RECORD ≤ e
-  pub most : e ≤ length bs
-  pub isNode : IsNode (part 0 e bs) node
-  pub packedRest : Packed (part e (length bs) bs)
-  pub unpacks : unpack bs ≡ cons node (unpack (part e (length bs) bs))
+use Rattle.nodes.specs.Nodes.{IsNode}
 
 -- a node that is well formed in its text
 pub record GoodNode (text bs : List ℕ) : Type 0 where

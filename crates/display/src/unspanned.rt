@@ -13,7 +13,7 @@ ghost use Rattle.notation.specs.Print as print;
 ghost use Rattle.record.specs.Meaning as means;
 ghost use Rattle.laws.proofs.Walking.{Packed};
 ghost use Rattle.display.specs.Written.{MOST as most, Wrote};
-ghost use Rattle.display.specs.Nodes.{FirstNode, GoodNode, GoodLeaf, GoodTransform, putBefore, putTransform};
+ghost use Rattle.display.specs.Nodes.{GoodNode, GoodLeaf, GoodTransform, putBefore, putTransform};
 use crate::common::put_closing;
 use crate::common::put_megaminx;
 use crate::common::put_multiplier;
@@ -25,6 +25,8 @@ use crate::write::put;
 use crate::write::put_between;
 use crate::write::put_number;
 use crate::write::put_signed;
+use nodes::first_end;
+use nodes::node_end;
 use record::RECORD;
 use record::decode::family_of;
 use record::decode::layers;
@@ -200,26 +202,10 @@ fn group(out: &mut [u8], at: usize, text: &[u8], bytes: &[u8]) -> usize
         let close = node_list(out, open, text, &bytes[RECORD..]);
         return put_closing(out, close, b')', multiplier);
     }
-    let middle = RECORD + RECORD * wide(fields::first(bytes));
+    let middle = first_end(bytes);
     let open = put(out, at, b'[');
     let separator = node_list(out, open, text, &bytes[RECORD..middle]);
     let second = put_separator(out, separator, kind);
     let close = node_list(out, second, text, &bytes[middle..]);
     put_closing(out, close, b']', multiplier)
-}
-
-// Where the first node of the list ends: past its record and those of its lists.
-fn node_end(list: &[u8]) -> usize
-    requires { ⌜ Packed (now list) ⌝ }
-    requires { ⌜ 0 < length (now list) ⌝ }
-    ensures { λ r. ⌜ FirstNode (now (list .entry)) r ⌝ }
-{
-    RECORD * (1 + (wide(fields::first(list)) + wide(fields::second(list))))
-}
-
-fn wide(n: u16) -> usize
-    ensures { λ r. ⌜ r ≡ n ⌝ }
-    ensures { λ r. ⌜ r < 65536 ⌝ }
-{
-    n as usize
 }

@@ -20,7 +20,7 @@ use Rattle.laws.proofs.Unrolling.{backwards, flatBinary}
 use Rattle.laws.proofs.Counting.{countBinary}
 use Rattle.notation.specs.declared.common.BinaryGroupKind.the-variants.{Commutator}
 use Rattle.expand.specs.Meaning.{binaryKind}
-use Rattle.expand.specs.Nodes.{part}
+use Rattle.nodes.specs.Nodes.{part}
 use Rattle.expand.specs.Steps.{AllUndoable, Holds, Wrote, Room, Pair, either}
 use Rattle.expand.proofs.Parts.{Three, the-part, put-part}
 use Rattle.expand.proofs.Steps.{length-records, records-append, records-copies}

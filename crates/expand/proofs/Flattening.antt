@@ -7,7 +7,7 @@ use native.Mathlib.Omega.{arith}
 use borrow.Rule.Slice.PartMut.{putMid, midOf, same-len-mid}
 use lib.Dec.{eqb, ltb}
 use lib.IntN.{ℤ, pos, negsuc, natAbs}
-use lib.ListN.{length, take, drop, length-append, length-take, length-drop}
+use lib.ListN.{length, take, drop, length-append, length-drop}
 use lib.Seq.{take-at, drop-at, take-length, drop-length, drop-drop}
 use Rattle.notation.specs.Basics.{pick}
 use Rattle.notation.specs.Numbers.{fromBits}
@@ -25,9 +25,10 @@ use Rattle.laws.proofs.Walking.{Packed, no-node}
 use Rattle.laws.proofs.Unrolling.{flatBinary, flatNode, flatBody, flat, flatBody-backwards, flat-backwards}
 use Rattle.laws.proofs.Counting.{countBinary, countNode, countBody, count, countNode-is, countBody-is, count-is}
 use Rattle.expand.specs.Meaning.{binaryKind}
-use Rattle.expand.specs.Nodes.{IsNode, part, FirstNode, firstList, secondList}
+use Rattle.nodes.specs.Nodes.{IsNode, part, FirstNode, firstList, secondList}
 use Rattle.expand.specs.Steps.{AllUndoable, Wrote, Room, Pair, either}
-use Rattle.expand.proofs.Nodes.{Shape, isLeaf, isGroup, isBinary, shape-of, part-rest, node-unique, FirstLeaf, leaf-node, leaf-record}
+use Rattle.nodes.proofs.Nodes.{part-rest, part-length, node-unique, FirstLeaf, leaf-node, leaf-record}
+use Rattle.expand.proofs.Shapes.{Shape, isLeaf, isGroup, isBinary, shape-of}
 use Rattle.expand.proofs.Steps.{length-records, records-append, all-flat, all-flatBody}
 
 -- Writing after writing: over what was written, or behind it.
@@ -332,7 +333,7 @@ module _ {tree before t out : List ℕ} {at e : ℕ} (w : Flattening tree before
       let long : length (putMid at (length out - at) out y) ≡ length out = same-len-mid at (length out - at) out y h in
       record {
         packed = f .packedRest;
-        shorter = omega (arith, length-take (length t - e) (drop e t), length-drop e t, w .shorter);
+        shorter = omega (arith, part-length e (length t) t, w .shorter);
         long = long ∙ w .long;
         done = w .done ++ flatNode undo false (f .node);
         wrote = behind (omega (arith, w .room)) (w .wrote) v;

@@ -1,5 +1,5 @@
 -- What the proofs of several functions use.
-pub mod Nodes
+pub mod Shapes
 pub mod Summaries
 pub mod Visiting
 pub mod Steps

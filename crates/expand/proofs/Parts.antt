@@ -4,10 +4,11 @@ use mathlib.Core.Path.{_≡_, sym, ap, ap₂, _∙_}
 use mathlib.Core.List.{List, _++_, append-assoc}
 use native.Mathlib.Omega.{arith}
 use borrow.Rule.Slice.PartMut.{midOf, putMid, post-is, same-len-mid}
-use lib.ListN.{length, take, drop, length-append, length-drop}
-use lib.Seq.{take-at, drop-at, length-take-le}
+use lib.ListN.{length, take, drop, length-append}
+use lib.Seq.{take-at, drop-at}
 use Rattle.bytes.specs.Bytes.{slice}
-use Rattle.expand.specs.Nodes.{part}
+use Rattle.nodes.specs.Nodes.{part}
+use Rattle.nodes.proofs.Nodes.{length-part}
 
 pub record Three (s p x q : List ℕ) (a e : ℕ) : Type 0 where
   pub bytes : s ≡ p ++ (x ++ q)
@@ -44,9 +45,7 @@ module _ {s p x q : List ℕ} {a e : ℕ} (h : Three s p x q a e) where
   put-part y = ap₂ (λ (f r : List ℕ). f ++ (y ++ r)) before-part (post-is a e s (omega (arith, h .end)) ∙ after-part)
 
 pub part-long : (a : ℕ) (s : List ℕ) → a + 25 ≤ length s → length (part a (a + 25) s) ≡ 25
-part-long a s h =
-    let z : a + 25 - a ≡ 25 = omega arith in
-    ap (λ (n : ℕ). length (take n (drop a s))) z ∙ length-take-le 25 (drop a s) (omega (arith, length-drop a s))
+part-long a s h = length-part a (a + 25) s h ∙ omega arith
 
 pub put-room : (a k n : ℕ) (xs ys : List ℕ) → length ys ≡ length (midOf a k xs) → n ≤ length xs → n ≤ length (putMid a k xs ys)
 put-room a k n xs ys e h = omega (arith, same-len-mid a k xs ys e)

@@ -30,14 +30,15 @@ use Rattle.laws.proofs.Counting as counting
 use Rattle.laws.proofs.Counting.{countBinary, countNode, countBody, count, count-is, visitNode, visitNode-is, visit, visit-is}
 use Rattle.laws.proofs.Seeking.{seekBinary, seekNode, seekBody, seek, seek-is}
 use Rattle.expand.specs.Meaning.{summary, binaryKind}
-use Rattle.expand.specs.Nodes.{part, FirstNode, firstList, secondList, Lists}
+use Rattle.nodes.specs.Nodes.{part, FirstNode, firstList, secondList, Lists}
 use Rattle.expand.specs.Steps.{Undoable}
 use Rattle.expand.specs.Places.{undoIf, found, Within, Goes, Leads, intoFirst, intoSecond, Onward}
 use Rattle.expand.specs.declared.visit.Summary.{Summary}
 use Rattle.expand.specs.declared.seek.Way.{Way}
 use Rattle.expand.specs.declared.seek.List.{List as ListAt}
 use Rattle.expand.proofs.Parts.{Three, the-part, put-part}
-use Rattle.expand.proofs.Nodes.{Shape, isLeaf, isGroup, isBinary, shape-of, part-length, first-low, FirstLeaf, leaf-node}
+use Rattle.nodes.proofs.Nodes.{part-length, first-low, FirstLeaf, leaf-node}
+use Rattle.expand.proofs.Shapes.{Shape, isLeaf, isGroup, isBinary, shape-of}
 use Rattle.expand.proofs.Steps.{fits-undoable}
 use Rattle.expand.proofs.Flattening.{bodyOf, at-least}
 

@@ -14,7 +14,7 @@ use Rattle.notation.specs.Packed.{RECORD, leafHead, leafRecord}
 use Rattle.notation.specs.Entries.{records}
 use Rattle.record.proofs.RoundTrip.{length-record25}
 use Rattle.laws.proofs.Unrolling.{backwards}
-use Rattle.expand.specs.Nodes.{part}
+use Rattle.nodes.specs.Nodes.{part}
 use Rattle.expand.specs.Steps.{Undoable, AllUndoable, one, Holds}
 use Rattle.expand.proofs.Parts.{Three, before-part, the-part, after-part, sliced-part, put-part}
 use Rattle.expand.proofs.Steps.{length-records, records-append, all-right, all-reverse}

@@ -8,13 +8,13 @@ use lib.ListN.{getD}
 use lib.Seq.{sets}
 use Rattle.notation.specs.Numbers.{bigEndian, digits, fromBits, toBits}
 use Rattle.notation.specs.Tree.{Leaf, rotation, move, pause, pair, slash, megaminx}
-use Rattle.notation.specs.Packed.{layOut, record25, leafRecord, leafFields, megaminxNumber}
+use Rattle.notation.specs.Packed.{layOut, leafHead, record25, leafRecord, leafFields, megaminxNumber}
 use Rattle.notation.specs.Invert.{undo, exchanged}
 use Rattle.notation.specs.declared.common.MegaminxScrambleMove.{MegaminxScrambleMove}
 use Rattle.notation.specs.declared.common.MegaminxScrambleMove.the-variants.{Rpp, Rmm, Dpp, Dmm}
 use Rattle.record.specs.Meaning.{field}
 use Rattle.expand.specs.Steps.{Undoable}
-use Rattle.expand.proofs.Nodes.{leafKind, leaf-kind}
+use Rattle.nodes.proofs.Nodes.{kindOf, kind-field}
 use Rattle.expand.proofs.Steps.{step-fields, small-opposite, opposite-bits}
 
 -- the number that a record holds in its fourth field, and the step with that number negated
@@ -68,8 +68,8 @@ kind-put Dmm = refl
 -- The three ways through `undo_record`: the multiplier was negated first.
 module _ (x : Leaf) (u : Undoable x) {s s₁ : List ℕ} (e : s ≡ leafRecord x) {k n n′ : ℕ} (ek : k ≡ field 0 s / 16) (en : n ≡ field 3 s)
     (en′ : n′ ≡ toBits 32 (negℤ (fromBits 32 n))) (e₁ : s₁ ≡ sets s 5 (bigEndian 4 n′)) where
-  kind-is : k ≡ leafKind x
-  kind-is = ek ∙ ap (λ (b : List ℕ). field 0 b / 16) e ∙ ap (λ (b : ℕ). b / 16) (step-fields x u 0) ∙ leaf-kind x
+  kind-is : k ≡ kindOf (leafHead x)
+  kind-is = ek ∙ ap (λ (b : List ℕ). field 0 b / 16) e ∙ ap (λ (b : ℕ). b / 16) (step-fields x u 0) ∙ kind-field (leafHead x)
 
   half-is : s₁ ≡ leafRecord (half x)
   half-is =
@@ -86,7 +86,7 @@ module _ (x : Leaf) (u : Undoable x) {s s₁ : List ℕ} (e : s ≡ leafRecord x
       high Dpp e = omega arith
       high Dmm e = omega arith
 
-      go : (x : Leaf) → k ≡ leafKind x → leafRecord (half x) ≡ leafRecord (undo x)
+      go : (x : Leaf) → k ≡ kindOf (leafHead x) → leafRecord (half x) ≡ leafRecord (undo x)
       go (rotation f c m) e = refl
       go (move t l f c m) e = refl
       go pause e = refl
@@ -97,7 +97,7 @@ module _ (x : Leaf) (u : Undoable x) {s s₁ : List ℕ} (e : s ≡ leafRecord x
   pub undone-pair : k ≡ 9 → {o o′ : ℕ} {s₂ : List ℕ} → o ≡ field 4 s₁ → o′ ≡ toBits 32 (negℤ (fromBits 32 o)) → s₂ ≡ sets s₁ 9 (bigEndian 4 o′) → s₂ ≡ leafRecord (undo x)
   undone-pair h {o} {o′} {s₂} eo eo′ e₂ = go x u (sym h ∙ kind-is) half-is
     where
-      go : (x : Leaf) → Undoable x → 9 ≡ leafKind x → s₁ ≡ leafRecord (half x) → s₂ ≡ leafRecord (undo x)
+      go : (x : Leaf) → Undoable x → 9 ≡ kindOf (leafHead x) → s₁ ≡ leafRecord (half x) → s₂ ≡ leafRecord (undo x)
       go (rotation f c m) w q p = absurd (omega arith)
       go (move t l f c m) w q p = absurd (omega arith)
       go pause w q p = absurd (omega arith)
@@ -114,7 +114,7 @@ module _ (x : Leaf) (u : Undoable x) {s s₁ : List ℕ} (e : s ≡ leafRecord x
   pub undone-kind : 10 < k → {r : ℕ} {s₂ : List ℕ} → ((j : MegaminxScrambleMove) → k ≡ megaminxNumber j → r ≡ megaminxNumber (exchanged j)) → s₂ ≡ sets s₁ 0 (bigEndian 1 (r * 16)) → s₂ ≡ leafRecord (undo x)
   undone-kind h {r} {s₂} er e₂ = go x kind-is half-is
     where
-      go : (x : Leaf) → k ≡ leafKind x → s₁ ≡ leafRecord (half x) → s₂ ≡ leafRecord (undo x)
+      go : (x : Leaf) → k ≡ kindOf (leafHead x) → s₁ ≡ leafRecord (half x) → s₂ ≡ leafRecord (undo x)
       go (rotation f c m) q p = absurd (omega arith)
       go (move t l f c m) q p = absurd (omega arith)
       go pause q p = absurd (omega arith)

@@ -8,10 +8,10 @@ use native.Mathlib.Omega.{arith}
 use borrow.Author.Tests.{ne-eqb, eq-eqb, eqb-true, eqb-false, ltb-true}
 use lib.Dec.{lit≤, eqb}
 use lib.IntN.{ℤ, pos, negsuc}
-use lib.ListN.{length, drop, length-take, length-drop}
+use lib.ListN.{length}
 use Rattle.notation.specs.Numbers.{fromBits, toBits}
 use Rattle.notation.specs.Tree.{Leaf, rotation, move, pause, pair, slash, megaminx, Node, leaf, block, group, binaryGroup, Tree}
-use Rattle.notation.specs.Packed.{RECORD, unpack}
+use Rattle.notation.specs.Packed.{RECORD, leafHead, unpack}
 use Rattle.notation.specs.Invert.{isMin, overflows}
 use Rattle.notation.specs.declared.common.MegaminxScrambleMove.the-variants.{Rpp, Rmm, Dpp, Dmm}
 use Rattle.record.specs.Meaning.{field}
@@ -22,9 +22,10 @@ use Rattle.laws.proofs.Unrolling.{first}
 use Rattle.laws.proofs.Counting as counting
 use Rattle.laws.proofs.Counting.{blockSummary, binarySummary, joinSummary, visitNode, visitBody, visit, visitNode-is, visit-is}
 use Rattle.expand.specs.Meaning.{summary, Held, leafSum, overflowsAt, binaryKind}
-use Rattle.expand.specs.Nodes.{IsNode, part, FirstNode, firstList, secondList}
+use Rattle.nodes.specs.Nodes.{IsNode, part, FirstNode, firstList, secondList}
 use Rattle.expand.specs.declared.visit.Summary.{Summary}
-use Rattle.expand.proofs.Nodes.{fields-of, leafKind, leaf-kind, Shape, isLeaf, isGroup, isBinary, shape-of, front-field, FirstLeaf, leaf-node}
+use Rattle.nodes.proofs.Nodes.{part-length, fields-of, kindOf, kind-of, front-field, FirstLeaf, leaf-node}
+use Rattle.expand.proofs.Shapes.{Shape, isLeaf, isGroup, isBinary, shape-of}
 use Rattle.expand.proofs.Summaries.{same}
 
 -- the three ways of the test of a pair
@@ -49,10 +50,8 @@ min-bits (negsuc n) f = go (eqb n 2147483647) refl
         let l : n < 2147483648 = ltb-true n 2147483648 f in
         ne-eqb (2 ^ 32 - suc n) 2147483648 (λ h. eqb-false n 2147483647 e (omega arith))
 
-overflows-other : (x : Leaf) (bs : List ℕ) → IsNode bs (leaf x) → eqb (leafKind x) 9 ≡ false → overflowsAt bs ≡ false
-overflows-other x bs s e =
-    let k : field 0 bs / 16 ≡ leafKind x = ap (λ (n : ℕ). n / 16) (fields-of s 0) ∙ leaf-kind x in
-    rw (k, e)
+overflows-other : (x : Leaf) (bs : List ℕ) → IsNode bs (leaf x) → eqb (kindOf (leafHead x)) 9 ≡ false → overflowsAt bs ≡ false
+overflows-other x bs s e = rw (kind-of s, e)
 
 overflows-of : (x : Leaf) (bs : List ℕ) → IsNode bs (leaf x) → overflowsAt bs ≡ overflows x
 unfolding FitsNode
@@ -60,8 +59,7 @@ overflows-of (rotation f c m) bs s = overflows-other (rotation f c m) bs s refl
 overflows-of (move t l f c m) bs s = overflows-other (move t l f c m) bs s refl
 overflows-of pause bs s = overflows-other pause bs s refl
 overflows-of (pair u d) bs s =
-    let k : field 0 bs / 16 ≡ 9 = ap (λ (n : ℕ). n / 16) (fields-of s 0) in
-    rw (k, fields-of s 3, fields-of s 4, min-bits u (s .fits .0), min-bits d (s .fits .1))
+    rw (kind-of s, fields-of s 3, fields-of s 4, min-bits u (s .fits .0), min-bits d (s .fits .1))
 overflows-of slash bs s = overflows-other slash bs s refl
 overflows-of (megaminx Rpp) bs s = overflows-other (megaminx Rpp) bs s refl
 overflows-of (megaminx Rmm) bs s = overflows-other (megaminx Rmm) bs s refl
@@ -139,7 +137,7 @@ unfolding visit
 visiting-goes-on tree t sum one next e v f p q =
     record {
       packed = f .packedRest;
-      shorter = omega (arith, length-take (length t - e) (drop e t), length-drop e t, v .shorter);
+      shorter = omega (arith, part-length e (length t) t, v .shorter);
       held = let h = ap (λ (z : counting.Summary). z .steps) q in record { most = omega arith };
       joined =
           ap (λ (z : counting.Summary). joinSummary z (visit (unpack (part e (length t) t)))) (q ∙ ap (joinSummary (summary sum)) p)

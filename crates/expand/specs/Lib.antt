@@ -1,5 +1,4 @@
 -- What the contracts of this crate cite beside the rules of `notation` and the laws.
-pub mod Nodes
 pub mod Meaning
 pub mod Steps
 pub mod Places

@@ -13,7 +13,7 @@ use Rattle.record.specs.Meaning.{field}
 use Rattle.laws.proofs.Walking.{Packed}
 use Rattle.laws.proofs.Counting.{countNode, count}
 use Rattle.laws.proofs.Seeking.{seekNode, seek}
-use Rattle.expand.specs.Nodes.{IsNode, part}
+use Rattle.nodes.specs.Nodes.{IsNode, part}
 use Rattle.expand.specs.declared.seek.Way.{Way}
 use Rattle.expand.specs.declared.seek.List.{List as ListAt}
 

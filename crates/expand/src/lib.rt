@@ -3,4 +3,3 @@
 pub mod flatten;
 pub mod seek;
 pub mod visit;
-pub mod walk;

@@ -2,28 +2,25 @@
 -- lists in the group. Assumes nothing.
 use borrow.Author.Needs.{needs}
 use Prim.Native.Nat.{_+_, _*_}
-use mathlib.Core.Path.{_∙_, ap}
+use mathlib.Core.Path.{ap}
 use mathlib.Core.Logic.{⊎-elim}
 use mathlib.Core.List.{List}
 use native.Mathlib.Omega.{arith}
+use lib.Dec.{lit≤}
 use lib.ListN.{length}
 use denote.Ref.{now}
 use Rattle.notation.specs.Packed.{RECORD, unpack}
 use Rattle.notation.specs.Meaning.{unspanned}
 use Rattle.notation.specs.Print.{putNodes, putOthers}
 use Rattle.display.proofs.Writing.{wrote-as, wrote-then}
+use Rattle.nodes.proofs.Nodes.{node-room, record-room, first-low, first-leaf, leaf-head, node-less, list-less}
 use Rattle.display.proofs.Nodes.{
-  node-room,
-  record-room,
   OneGroup,
   one-group,
   TwoGroup,
   two-group,
-  same-kind,
   first-good,
   leaf-good,
-  node-less,
-  list-less,
   Listing,
   listing-starts,
   leaf-listed,
@@ -45,10 +42,9 @@ use Rattle.display.proofs.common.put_closing.Reads as put-closing-reads
 use Rattle.display.proofs.common.put_opening.Reads as put-opening-reads
 use Rattle.display.proofs.common.put_separator.Reads as put-separator-reads
 use Rattle.display.proofs.unspanned.leaf.Reads as leaf-reads
-use Rattle.display.proofs.unspanned.node_end.Reads as node-end-reads
-use Rattle.display.proofs.unspanned.wide.Reads as wide-reads
 use Rattle.display.proofs.write.put.Reads as put-reads
-use Rattle.record.proofs.fields.first.Reads as first-reads
+use Rattle.nodes.proofs.walk.first_end.Reads as first-end-reads
+use Rattle.nodes.proofs.walk.node_end.Reads as node-end-reads
 use Rattle.record.proofs.fields.kind.Reads as kind-reads
 use Rattle.record.proofs.fields.number.Reads as number-reads
 use Rattle.display.proofs.unspanned.+group+node_list.{statement}
@@ -85,10 +81,8 @@ group-claims t = (
   node-list.Post,
   put-closing-reads.Asked,
   put-closing-reads.Learnt,
-  first-reads.Asked,
-  first-reads.Learnt,
-  wide-reads.Asked,
-  wide-reads.Learnt,
+  first-end-reads.Asked,
+  first-end-reads.Learnt,
   put-reads.Asked,
   put-reads.Learnt,
   put-separator-reads.Asked,
@@ -117,12 +111,12 @@ one : (t : ℕ) (c : group-lts.Then1 (group-claims t) (group-at t) group.Post) �
     OneGroup (now (c .before .before .before .before .before .before .args .text)) (now (c .before .before .before .before .before .before .args .bytes)) (c .before .kind .result) (c .before .before .number .result)
 one t c = one-group (c .before .before .before .before .before .before .pre .1 .1 .0) (c .before .kind .ensures) (c .before .before .number .ensures) (c .if1 .taken)
 
-two : (t : ℕ) (c : group-lts.After-wide (group-claims t) (group-at t) group.Post) →
-    TwoGroup (now (c .before .before .before .before .before .before .before .before .args .text)) (now (c .before .before .before .before .before .before .before .before .args .bytes)) (c .before .before .before .kind .result) (c .before .before .before .before .number .result) (RECORD + RECORD * c .wide .result)
+two : (t : ℕ) (c : group-lts.After-first-end (group-claims t) (group-at t) group.Post) →
+    TwoGroup (now (c .before .before .before .before .before .before .before .args .text)) (now (c .before .before .before .before .before .before .before .args .bytes)) (c .before .before .kind .result) (c .before .before .before .number .result) (c .first-end .result)
 two t c =
-    let k = c .before .before .before in
-    let pre = c .before .before .before .before .before .before .before .before .pre .1 .1 in
-    two-group (pre .0) (k .kind .ensures) (k .before .number .ensures) (c .wide .ensures .0 ∙ c .before .first .ensures) (c .before .before .if1 .left) (omega (arith, k .kind .ensures, pre .1))
+    let k = c .before .before in
+    let pre = c .before .before .before .before .before .before .before .pre .1 .1 in
+    two-group (pre .0) (k .kind .ensures) (k .before .number .ensures) (c .first-end .ensures) (c .before .if1 .left) (pre .1)
 
 group-number-requires : (t : ℕ) → group-lts.Need-number-requires (group-claims t) (group-at t) group.Post
 group-number-requires t c κs = node-room (c .before .before .before .pre .1 .1 .0 .isNode)
@@ -148,7 +142,7 @@ group-node-list-requires t c κs =
     let i = p .before .before in
     let st = i .before .before .before .before .before .before in
     let o = one t i in (
-      list-less (now (st .args .bytes)) RECORD (length (now (st .args .bytes))) (st .pre .0) (omega arith) (node-room (st .pre .1 .1 .0 .isNode)),
+      list-less (now (st .args .bytes)) RECORD (length (now (st .args .bytes))) _ (lit≤ tt) (node-room (st .pre .1 .1 .0 .isNode)) (st .pre .0),
       (omega (arith, p .put-opening .ensures (o .group) (o .number) .counts), (o .inside .packedList, o .inside .ok)),
     )
 
@@ -167,17 +161,8 @@ group-returns t c =
     let g = one t i in
     wrote-as (printed t (i .before .before .before .before .before .before)) (g .inside .prints) (wrote-then (o .put-opening .ensures (g .group) (g .number)) (wrote-then (l .node-list .ensures) (p .put-closing .ensures)))
 
-group-first-requires : (t : ℕ) → group-lts.Need-first-requires (group-claims t) (group-at t) group.Post
-group-first-requires t c κs = node-room (c .before .before .before .before .before .before .pre .1 .1 .0 .isNode)
-
-group-wide-requires : (t : ℕ) → group-lts.Need-wide-requires (group-claims t) (group-at t) group.Post
-group-wide-requires t c κs = search needs
-
-group-mul-middle : (t : ℕ) → group-lts.Need-mul-middle (group-claims t) (group-at t) group.Post
-group-mul-middle t c = search needs
-
-group-add-middle : (t : ℕ) → group-lts.Need-add-middle (group-claims t) (group-at t) group.Post
-group-add-middle t c = search needs
+group-first-end-requires : (t : ℕ) → group-lts.Need-first-end-requires (group-claims t) (group-at t) group.Post
+group-first-end-requires t c κs = let g = c .before .before .before .before .before .before .pre .1 .1 .0 in (g .node, g .isNode)
 
 group-put-requires : (t : ℕ) → group-lts.Need-put-requires (group-claims t) (group-at t) group.Post
 group-put-requires t c κs = search needs
@@ -189,25 +174,25 @@ group-part-node-list-start-2 : (t : ℕ) → group-lts.Need-part-node-list-start
 group-part-node-list-start-2 t c = search needs
 
 group-part-node-list-end-2 : (t : ℕ) → group-lts.Need-part-node-list-end-2 (group-claims t) (group-at t) group.Post
-group-part-node-list-end-2 t c = two t (c .before .before .before .before .before) .inside .most
+group-part-node-list-end-2 t c = c .before .before .before .before .before .first-end .ensures .most
 
 group-node-list-requires-2 : (t : ℕ) → group-lts.Need-node-list-requires-2 (group-claims t) (group-at t) group.Post
 group-node-list-requires-2 t c κs =
     let w = c .before .before .before .before .before .before in
-    let st = w .before .before .before .before .before .before .before .before in
+    let st = w .before .before .before .before .before .before .before in
     let o = two t w .inside in (
-      list-less (now (st .args .bytes)) RECORD (RECORD + RECORD * w .wide .result) (st .pre .0) (omega arith) (node-room (st .pre .1 .1 .0 .isNode)),
-      (omega (arith, c .before .before .before .before .put .ensures .counts), (o .packedFirst, o .okFirst)),
+      list-less (now (st .args .bytes)) RECORD (w .first-end .result) _ (lit≤ tt) (node-room (st .pre .1 .1 .0 .isNode)) (st .pre .0),
+      (omega (arith, c .before .before .before .before .put .ensures .counts), (w .first-end .ensures .packedFirst, o .okFirst)),
     )
 
 group-put-separator-requires : (t : ℕ) → group-lts.Need-put-separator-requires (group-claims t) (group-at t) group.Post
 group-put-separator-requires t c κs = omega (arith, c .before .before .before .node-list2 .ensures .counts)
 
 group-sub-node-list-3 : (t : ℕ) → group-lts.Need-sub-node-list-3 (group-claims t) (group-at t) group.Post
-group-sub-node-list-3 t c = two t (c .before .before .before .before .before .before .before .before .before .before .before .before .before .before) .inside .most
+group-sub-node-list-3 t c = c .before .before .before .before .before .before .before .before .before .before .before .before .before .before .first-end .ensures .most
 
 group-part-node-list-start-3 : (t : ℕ) → group-lts.Need-part-node-list-start-3 (group-claims t) (group-at t) group.Post
-group-part-node-list-start-3 t c = two t (c .before .before .before .before .before .before .before .before .before .before .before .before .before .before) .inside .most
+group-part-node-list-start-3 t c = c .before .before .before .before .before .before .before .before .before .before .before .before .before .before .first-end .ensures .most
 
 group-part-node-list-end-3 : (t : ℕ) → group-lts.Need-part-node-list-end-3 (group-claims t) (group-at t) group.Post
 group-part-node-list-end-3 t c = search needs
@@ -215,10 +200,10 @@ group-part-node-list-end-3 t c = search needs
 group-node-list-requires-3 : (t : ℕ) → group-lts.Need-node-list-requires-3 (group-claims t) (group-at t) group.Post
 group-node-list-requires-3 t c κs =
     let w = c .before .before .before .before .before .before .before .before .before .before .before .before .before .before .before in
-    let st = w .before .before .before .before .before .before .before .before in
+    let st = w .before .before .before .before .before .before .before in
     let o = two t w in (
-      list-less (now (st .args .bytes)) (RECORD + RECORD * w .wide .result) (length (now (st .args .bytes))) (st .pre .0) (omega arith) (node-room (st .pre .1 .1 .0 .isNode)),
-      (omega (arith, c .before .before .before .before .put-separator .ensures (o .group) (o .number) .counts), (o .inside .packedSecond, o .inside .okSecond)),
+      list-less (now (st .args .bytes)) (w .first-end .result) (length (now (st .args .bytes))) _ (w .first-end .ensures .least) (node-room (st .pre .1 .1 .0 .isNode)) (st .pre .0),
+      (omega (arith, c .before .before .before .before .put-separator .ensures (o .group) (o .number) .counts), (w .first-end .ensures .packedSecond, o .inside .okSecond)),
     )
 
 group-put-closing-requires-2 : (t : ℕ) → group-lts.Need-put-closing-requires-2 (group-claims t) (group-at t) group.Post
@@ -236,7 +221,7 @@ group-returns-2 t c =
     let o = a .before .before .before .before .before in
     let w = o .before .before in
     let g = two t w in
-    wrote-as (printed t (w .before .before .before .before .before .before .before .before)) (g .inside .prints)
+    wrote-as (printed t (w .before .before .before .before .before .before .before)) (g .inside .prints)
     (wrote-then (o .put .ensures) (wrote-then (a .node-list2 .ensures) (wrote-then (k .put-separator .ensures (g .group) (g .number)) (wrote-then (b .node-list3 .ensures) (p .put-closing2 .ensures)))))
 
 abbrev node-list-Inv-loop : node-list-lts.InvT-loop
@@ -257,7 +242,7 @@ node-list-leaf-requires : (t : ℕ) → node-list-lts.Need-leaf-requires (list-c
 node-list-leaf-requires t c κs =
     let k = c .before .before in
     let l = k .before .before .loop in
-    (l .inv .place, leaf-good (now (k .before .before .before .before .before .before .args .text)) (now (l .t)) (l .inv .packedLeft) (k .before .loop-test .taken) (l .inv .ok) (k .kind .ensures) (c .before .if1 .taken))
+    (l .inv .place, leaf-good (now (k .before .before .before .before .before .before .args .text)) (first-leaf (l .inv .packedLeft) (k .before .loop-test .taken) (k .kind .ensures) (c .before .if1 .taken)) (l .inv .ok))
 
 node-list-sub-t : (t : ℕ) → node-list-lts.Need-sub-t (list-claims t) (node-list-at t) node-list.Post node-list-Inv-loop node-list-μ-loop
 node-list-sub-t t c = let i = c .before .before .before .before .before .before in record-room _ (i .before .loop .inv .packedLeft) (i .loop-test .taken)
@@ -287,8 +272,8 @@ node-list-group-requires t c κs =
     let l = i .before .before .before .loop in
     let st = i .before .before .before .before .before .before .before in
     let f = n .node-end .ensures in (
-      node-less (now (st .args .tree)) (now (l .t)) (n .node-end .result) (st .pre .0) (l .inv .shorter),
-      (l .inv .place, (first-good (now (st .args .text)) f (l .inv .ok), omega (arith, same-kind f, i .before .kind .ensures, i .if1 .left))),
+      node-less (now (st .args .tree)) (now (l .t)) (n .node-end .result) _ (l .inv .shorter) (st .pre .0),
+      (l .inv .place, (first-good (now (st .args .text)) f (l .inv .ok), first-low f (i .before .kind .ensures) (i .if1 .left))),
     )
 
 node-list-sub-t-2 : (t : ℕ) → node-list-lts.Need-sub-t-2 (list-claims t) (node-list-at t) node-list.Post node-list-Inv-loop node-list-μ-loop
@@ -308,11 +293,10 @@ others t c =
     let k = c .before in
     let i = k .before in
     let l = i .before .loop in
-    let text = now (i .before .before .before .before .before .args .text) in
     ⊎-elim
     (λ w.
-    let g = leaf-good text (now (l .t)) (l .inv .packedLeft) (i .loop-test .taken) (l .inv .ok) (k .kind .ensures) (w .0 .taken) in
-    rw (w .6, ap now (w .7), w .8) (leaf-listed (l .inv) (i .loop-test .taken) (g .leaf) (g .head) (w .2 .ensures (g .leaf) (g .head))))
+    let f = first-leaf (l .inv .packedLeft) (i .loop-test .taken) (k .kind .ensures) (w .0 .taken) in
+    rw (w .6, ap now (w .7), w .8) (leaf-listed (l .inv) f (w .2 .ensures (f .step) (leaf-head f))))
     (λ w. rw (w .8, ap now (w .9), w .10) (group-listed (l .inv) (w .1 .ensures) (w .4 .ensures)))
     (c .if1 .came)
 
@@ -351,10 +335,7 @@ pub +group+node-list-spec : {M : Type 1} → statement M
     (group-put-closing-requires t)
     (group-same-length t)
     (group-returns t)
-    (group-first-requires t)
-    (group-wide-requires t)
-    (group-mul-middle t)
-    (group-add-middle t)
+    (group-first-end-requires t)
     (group-put-requires t)
     (group-sub-node-list-2 t)
     (group-part-node-list-start-2 t)

@@ -6,7 +6,7 @@ use native.Mathlib.Omega.{arith}
 use borrow.Rule.Slice.PartMut.{same-len-mid}
 use lib.Dec.{lit≤}
 use lib.ListN.{length}
-use Rattle.expand.proofs.Nodes.{record-room, node-room, node-less, list-less, rest-less, first-low, first-leaf, leaf-record}
+use Rattle.nodes.proofs.Nodes.{record-room, node-room, node-less, list-less, rest-less, first-low, first-leaf, leaf-record}
 use Rattle.expand.proofs.Parts.{put-room}
 use Rattle.expand.proofs.Flattening.{
   Flattening,
@@ -39,8 +39,8 @@ use Rattle.expand.proofs.flatten.+flatten+flatten_node.Lts-flatten_node
 use Rattle.expand.proofs.flatten.copy_record.Reads as copy-record-reads
 use Rattle.expand.proofs.flatten.complete_binary.Reads as complete-binary-reads
 use Rattle.expand.proofs.flatten.repeat_block.Reads as repeat-block-reads
-use Rattle.expand.proofs.walk.first_end.Reads as first-end-reads
-use Rattle.expand.proofs.walk.node_end.Reads as node-end-reads
+use Rattle.nodes.proofs.walk.first_end.Reads as first-end-reads
+use Rattle.nodes.proofs.walk.node_end.Reads as node-end-reads
 use Rattle.record.proofs.fields.kind.Reads as kind-reads
 use Rattle.record.proofs.fields.number.Reads as number-reads
 use Rattle.expand.proofs.flatten.+flatten+flatten_node.{statement}

@@ -1,7 +1,7 @@
 -- `seek::in_block` meets its contract. Assumes nothing.
 use mathlib.Core.Path.{sym, _∙_}
 use native.Mathlib.Omega.{arith}
-use Rattle.expand.proofs.Nodes.{node-room}
+use Rattle.nodes.proofs.Nodes.{node-room}
 use Rattle.expand.proofs.Seeking.{
   low-kind,
   times-some,

@@ -4,7 +4,7 @@ use borrow.Author.Needs.{needs}
 use native.Mathlib.Omega.{arith}
 use lib.Dec.{lit≤}
 use lib.ListN.{length}
-use Rattle.expand.proofs.Nodes.{record-room, rest-less, first-low, first-leaf, leaf-record}
+use Rattle.nodes.proofs.Nodes.{record-room, rest-less, first-low, first-leaf, leaf-record}
 use Rattle.expand.proofs.Seeking.{Sought, sought-starts, sought-some, steps-of, sought-past, sought-inside, in-block, leaf-steps, found-leaf, inside-less}
 use Rattle.expand.proofs.seek.seek.Statement.{statement}
 use Rattle.expand.proofs.seek.seek.Tie as tie

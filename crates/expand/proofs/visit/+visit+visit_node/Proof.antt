@@ -10,7 +10,7 @@ use Rattle.laws.proofs.Counting as counting
 use Rattle.laws.proofs.Counting.{blockSummary}
 use Rattle.notation.specs.Numbers.{fromBits}
 use Rattle.expand.specs.Meaning.{summary, leafSum}
-use Rattle.expand.proofs.Nodes.{record-room, node-room, node-less, list-less, rest-less, first-low, first-leaf}
+use Rattle.nodes.proofs.Nodes.{record-room, node-room, node-less, list-less, rest-less, first-low, first-leaf}
 use Rattle.expand.proofs.Visiting.{Visiting, visiting-starts, visiting-goes-on, visited, held-node, held-tree, held-binary, leaf-visited, group-visited, binary-visited}
 use borrow.Fn.Kinds.{In}
 use borrow.Fn.PlainCycle.{Measures, is, falls, and}
@@ -25,8 +25,8 @@ use Rattle.expand.proofs.visit.of_binary.Reads as of-binary-reads
 use Rattle.expand.proofs.visit.of_block.Reads as of-block-reads
 use Rattle.expand.proofs.visit.of_leaf.Reads as of-leaf-reads
 use Rattle.expand.proofs.visit.overflows.Reads as overflows-reads
-use Rattle.expand.proofs.walk.first_end.Reads as first-end-reads
-use Rattle.expand.proofs.walk.node_end.Reads as node-end-reads
+use Rattle.nodes.proofs.walk.first_end.Reads as first-end-reads
+use Rattle.nodes.proofs.walk.node_end.Reads as node-end-reads
 use Rattle.record.proofs.fields.kind.Reads as kind-reads
 use Rattle.record.proofs.fields.number.Reads as number-reads
 use Rattle.expand.proofs.visit.+visit+visit_node.{statement}

@@ -2,7 +2,7 @@
 use borrow.Author.Needs.{needs}
 use mathlib.Core.Path.{sym, _∙_}
 use Rattle.notation.specs.Lister.{lister}
-use Rattle.display.proofs.Nodes.{part-rest}
+use Rattle.nodes.proofs.Nodes.{part-rest}
 use Rattle.listing.proofs.Fields.{wrote-to}
 use Rattle.listing.proofs.FirstLine.{too-short, longer-line, is-w, is-m, is-other, listing-of}
 use Rattle.listing.proofs.listing.put_input.Statement.{statement}

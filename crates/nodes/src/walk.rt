@@ -4,12 +4,12 @@ ghost use Prim.Native.Nat.{_<_};
 ghost use lib.ListN.{length};
 ghost use Rattle.notation.specs.Tree.{Node, Leaf};
 ghost use Rattle.laws.proofs.Walking.{Packed};
-ghost use Rattle.expand.specs.Nodes.{IsNode, FirstNode, Lists};
+ghost use Rattle.nodes.specs.Nodes.{IsNode, FirstNode, Lists};
 use record::RECORD;
 use record::fields;
 
 // Where the first node of the list ends: past its record and those of its lists.
-pub(crate) fn node_end(list: &[u8]) -> usize
+pub fn node_end(list: &[u8]) -> usize
     requires { ⌜ Packed (now list) ⌝ }
     requires { ⌜ 0 < length (now list) ⌝ }
     ensures { λ r. ⌜ FirstNode (now (list .entry)) r ⌝ }
@@ -18,7 +18,7 @@ pub(crate) fn node_end(list: &[u8]) -> usize
 }
 
 // Where the first list of a node ends and the second begins.
-pub(crate) fn first_end(node: &[u8]) -> usize
+pub fn first_end(node: &[u8]) -> usize
     requires { ⌜ ((n : Node Leaf) × IsNode (now node) n) ⌝ }
     ensures { λ r. ⌜ Lists (now (node .entry)) r ⌝ }
 {

@@ -1,10 +1,10 @@
 use Prim.Native.Nat.{ℕ, _+_, _*_}
 use mathlib.Core.Path.{sym, ap, subst, _∙_}
-use Rattle.expand.specs.Nodes.{Lists}
-use Rattle.expand.proofs.Nodes.{node-room, lists-of}
+use Rattle.nodes.specs.Nodes.{Lists}
+use Rattle.nodes.proofs.Nodes.{node-room, lists-of}
 use borrow.Author.Needs.{needs}
-use Rattle.expand.proofs.walk.first_end.Statement.{statement}
-use Rattle.expand.proofs.walk.first_end.Tie as tie
+use Rattle.nodes.proofs.walk.first_end.Statement.{statement}
+use Rattle.nodes.proofs.walk.first_end.Tie as tie
 
 first-requires : tie.Need-first-requires
 first-requires c κs = node-room (c .before .pre .1)
@@ -22,7 +22,7 @@ returns : tie.Need-returns
 returns c =
     subst (Lists _)
     (ap (λ (k : ℕ). 25 + 25 * k) (sym (c .wide .ensures .0 ∙ c .before .first .ensures)))
-    (lists-of _ (c .before .before .before .pre))
+    (lists-of _ (c .before .before .before .pre .1))
 
 pub first-end-spec : {M : Type 1} → statement M
 first-end-spec = tie.close (tie.spec first-requires wide-requires mul-result add-result returns)

@@ -1,10 +1,10 @@
 use Prim.Native.Nat.{ℕ, _+_, _*_}
 use mathlib.Core.Path.{sym, ap₂, subst, _∙_}
-use Rattle.expand.specs.Nodes.{FirstNode}
+use Rattle.nodes.specs.Nodes.{FirstNode}
 use borrow.Author.Needs.{needs}
-use Rattle.expand.proofs.Nodes.{record-room, first-of}
-use Rattle.expand.proofs.walk.node_end.Statement.{statement}
-use Rattle.expand.proofs.walk.node_end.Tie as tie
+use Rattle.nodes.proofs.Nodes.{record-room, first-of}
+use Rattle.nodes.proofs.walk.node_end.Statement.{statement}
+use Rattle.nodes.proofs.walk.node_end.Tie as tie
 
 first-requires : tie.Need-first-requires
 first-requires c κs = record-room _ (c .before .pre .0) (c .before .pre .1)

@@ -1,0 +1,2 @@
+-- What the proofs of the walkers use.
+pub mod Nodes

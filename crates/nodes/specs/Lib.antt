@@ -1,0 +1,2 @@
+-- What the contracts of this crate and of the walkers cite beside the rules of `notation` and the laws.
+pub mod Nodes
