@@ -1,7 +1,7 @@
 -- What a record prints by itself is no longer than what is allowed for it. Assumes nothing.
 use Prim.Native.Nat.{ℕ, zero, suc, _+_, _*_, _/_, _%_, _^_, _≤_, _<_}
-use mathlib.Core.Path.{_≡_, refl, ap, _∙_}
-use mathlib.Core.Bool.{Bool, true, false, not, _&&_}
+use mathlib.Core.Path.{_≡_, refl, ap}
+use mathlib.Core.Bool.{Bool, true, false, not}
 use mathlib.Core.List.{List, [], _∷_, _++_}
 use mathlib.Core.Option.{Option, none, some}
 use native.Mathlib.Omega.{arith}
@@ -9,11 +9,11 @@ use native.Mathlib.Nat.{pow-suc}
 use borrow.Author.Tests.{lt-ltb, ltb-true, ltb-false}
 use lib.Dec.{ltb, eqb, lit<}
 use lib.IntN.{ℤ, pos, negsuc, natAbs}
-use lib.ListN.{length, getD, take, drop, length-append, length-take}
+use lib.ListN.{length, getD, drop, length-append, length-take}
 use Rattle.notation.specs.Basics.{pick}
 use Rattle.notation.specs.Chars.{whiteSpace}
 use Rattle.notation.specs.Utf8.{afterFirst, widthIf}
-use Rattle.notation.specs.Numbers.{showFrom, show, showSigned, toBits, fromBits}
+use Rattle.notation.specs.Numbers.{showFrom, show, showSigned, toBits}
 use Rattle.notation.specs.Tree.{
   Span, partOf, Layers, noLayers, singleLayer, layerRange, layerSet, Leaf, rotation, move, pause, pair, slash, megaminx,
   Body, group, binaryGroup
@@ -21,19 +21,18 @@ use Rattle.notation.specs.Tree.{
 use Rattle.notation.specs.Packed.{
   Head, leafHead, headFields, inOrder, nowhere, bit, present, orNowhere, layerForm, lowAndHigh, setPart, groupNumber, binaryNumber, bodyHead, size
 }
-use Rattle.notation.specs.Meaning.{orEmpty, constraintsIn, constraintMeaning, layerMeaning, stepOf}
-use Rattle.notation.specs.WellFormed.{inside, constraintsOk, layersOk, leafOk}
-use Rattle.notation.specs.Print.{putBraces, putConstraint, putConstraints, putLayers, putTilde, putPrime, putMultiplier, putMegaminx, putStep}
+use Rattle.notation.specs.Meaning.{constraintMeaning, layerMeaning, stepOf}
+use Rattle.notation.specs.WellFormed.{inside, constraintsOk, leafOk}
+use Rattle.notation.specs.Print.{putConstraints, putLayers, putTilde, putPrime, putMultiplier, putStep}
 use Rattle.notation.specs.declared.common.GroupKind.{GroupKind}
 use Rattle.notation.specs.declared.common.GroupKind.the-variants.{Simple, Macro, Simultaneous, Niss}
 use Rattle.notation.specs.declared.common.BinaryGroupKind.{BinaryGroupKind}
 use Rattle.notation.specs.declared.common.BinaryGroupKind.the-variants.{Commutator, Conjugate}
-use Rattle.notation.specs.declared.common.MegaminxScrambleMove.{MegaminxScrambleMove}
 use Rattle.notation.specs.declared.common.MegaminxScrambleMove.the-variants.{Rpp, Rmm, Dpp, Dmm}
 use Rattle.numbers.proofs.TwosComplement.{fromBits-toBits}
 use Rattle.record.specs.Range.{FitsNumber, FitsLayers, FitsLeaf, FitsHead}
 use Rattle.record.proofs.Packed.{bit-lt, present-lt, layerForm-lt}
-use Rattle.laws.proofs.Bools.{and-left, and-right}
+use Rattle.laws.proofs.Bools.{and-right}
 use Rattle.display.specs.Squeezed.{squeezedFrom, squeezed}
 use Rattle.display.specs.Bound.{allowedFor, allowed}
 use Rattle.display.proofs.Squeezing.{set-squeezed}

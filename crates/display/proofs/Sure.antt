@@ -1,11 +1,10 @@
 -- A tree whose records were counted off within the room prints a text that fits it. Assumes nothing.
 use Prim.Native.Nat.{ℕ, _+_, _-_, _/_, _%_, _≤_, _<_}
-use mathlib.Core.Path.{_≡_, refl, sym, ap, _∙_, subst}
-use mathlib.Core.Bool.{true, _&&_}
+use mathlib.Core.Path.{_≡_, sym, ap, _∙_, subst}
+use mathlib.Core.Bool.{true}
 use mathlib.Core.List.{List, [], _∷_, _++_, append-assoc, append-nil}
 use native.Mathlib.Omega.{arith}
-use lib.IntN.{ℤ}
-use lib.ListN.{length, getD, take, drop, length-append, length-drop}
+use lib.ListN.{length, getD, take, length-append, length-drop}
 use lib.Seq.{drop-at}
 use Rattle.notation.specs.Tree.{Leaf, Step, Node, leaf, block, Body, group, binaryGroup, NodeList, nil, cons, Tree, mapNode, mapBody, mapNodes}
 use Rattle.notation.specs.Packed.{
