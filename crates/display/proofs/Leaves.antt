@@ -79,11 +79,11 @@ family-inside : (text : List ℕ) (n : ℕ) (f : tree.Span) → familyOk text n 
 family-inside text n f h =
     and-left (inside text f) (leb n (f .size)) (and-left (inside text f && leb n (f .size)) (eqb (run isFamilyChar (partOf text f)) (f .size)) h)
 
-record RotationParts (text : List ℕ) (f : tree.Span) (c : Option tree.Span) : Type 0 where
-  family : inside text f ≡ true
-  constraints : constraintsOk text c ≡ true
+pub record RotationParts (text : List ℕ) (f : tree.Span) (c : Option tree.Span) : Type 0 where
+  pub family : inside text f ≡ true
+  pub constraints : constraintsOk text c ≡ true
 
-rotation-parts : (text : List ℕ) (f : tree.Span) (c : Option tree.Span) (m : ℤ) → leafOk text (rotation f c m) ≡ true → RotationParts text f c
+pub rotation-parts : (text : List ℕ) (f : tree.Span) (c : Option tree.Span) (m : ℤ) → leafOk text (rotation f c m) ≡ true → RotationParts text f c
 unfolding leafOk
 rotation-parts text f c m h =
     let h₁ = and-left (familyOk text 0 f && constraintsOk text c) (multiplierOk m) h in
@@ -92,12 +92,12 @@ rotation-parts text f c m h =
       constraints = and-right (familyOk text 0 f) (constraintsOk text c) h₁;
     }
 
-record MoveParts (text : List ℕ) (l : tree.Layers tree.Span) (f : tree.Span) (c : Option tree.Span) : Type 0 where
-  layers : layersOk text l ≡ true
-  family : inside text f ≡ true
-  constraints : constraintsOk text c ≡ true
+pub record MoveParts (text : List ℕ) (l : tree.Layers tree.Span) (f : tree.Span) (c : Option tree.Span) : Type 0 where
+  pub layers : layersOk text l ≡ true
+  pub family : inside text f ≡ true
+  pub constraints : constraintsOk text c ≡ true
 
-move-parts : (text : List ℕ) (t : Bool) (l : tree.Layers tree.Span) (f : tree.Span) (c : Option tree.Span) (m : ℤ) →
+pub move-parts : (text : List ℕ) (t : Bool) (l : tree.Layers tree.Span) (f : tree.Span) (c : Option tree.Span) (m : ℤ) →
     leafOk text (move t l f c m) ≡ true → MoveParts text l f c
 unfolding leafOk
 move-parts text t l f c m h =

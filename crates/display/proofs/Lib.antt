@@ -10,3 +10,6 @@ pub mod Elements
 pub mod Squeezing
 -- Leaves and the parts of the text that they name.
 pub mod Leaves
+-- A bound on what is printed.
+pub mod Sizes
+pub mod Sure

@@ -3,3 +3,4 @@ pub mod Written
 pub mod Nodes
 pub mod Sets
 pub mod Squeezed
+pub mod Bound

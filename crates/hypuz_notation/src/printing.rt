@@ -5,13 +5,18 @@ use crate::check::NO_ROOM;
 use crate::check::check;
 use notation::answer::Answer;
 
-// Refusals 1, 2, 6, 5. The first run has no room and only measures.
+// Refusals 1, 2, 6, 5. Where the buffer may be too short, a first run has no room and only measures.
 pub fn display(text: &[u8], tree: &[u8], out: &mut [u8]) -> Answer
     ensures { λ r. ⌜ record { answer = rule.outcome r; buffer = now (out .exit) } ≡ rule.displayEntry (now (text .entry)) (now (tree .entry)) (now (out .entry)) ⌝ }
 {
     let unsound = check(text, tree);
     if unsound != 0 {
         return Answer::Refused(unsound);
+    }
+    // Most buffers surely suffice; then one run prints.
+    if display::fits(tree, out.len()) {
+        let written = display::display(text, tree, out);
+        return Answer::Value(written as u64);
     }
     let mut nothing = [0u8; 0];
     let size = display::display(text, tree, &mut nothing);

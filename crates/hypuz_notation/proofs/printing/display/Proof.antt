@@ -2,7 +2,7 @@
 use native.Mathlib.Omega.{arith}
 use borrow.Author.Needs.{needs}
 use Rattle.hypuz_notation.proofs.Outcomes.{refused}
-use Rattle.hypuz_notation.proofs.Displaying.{display-unsound, display-short, display-written}
+use Rattle.hypuz_notation.proofs.Displaying.{display-unsound, display-short, display-at-once, display-measured}
 use Rattle.hypuz_notation.proofs.printing.display.Statement.{statement}
 use Rattle.hypuz_notation.proofs.printing.display.Tie as tie
 
@@ -15,20 +15,45 @@ returns c =
     let a = check .before .before .before .before .args in
     display-unsound (a .text .now) (a .tree .now) (a .out .now) (check .check .result) (refused (a .text .now) (a .tree .now) _ (check .check .ensures .0) (c .if1 .taken))
 
-slice-aggregate-display : tie.Need-slice-aggregate-display
-slice-aggregate-display c = search needs
+fits-requires : tie.Need-fits-requires
+fits-requires c κs = c .before .check .ensures .1 (c .if1 .left) .packed
 
 display-requires : tie.Need-display-requires
 display-requires c κs =
-    let sound = c .before .before .check .ensures .1 (c .before .if1 .left) in
+    let checked = c .before .before .before in
+    let sound = checked .before .check .ensures .1 (checked .if1 .left) in
     (sound .packed, sound .ok)
+
+same-length : tie.Need-same-length
+same-length c = search needs
 
 returns-2 : tie.Need-returns-2
 returns-2 c =
+    let write = c .before .before in
+    let fits = write .before .before in
+    let checked = fits .before .before in
+    let start = checked .before .before .before .before .before in
+    let a = start .args in
+    let sound = checked .before .check .ensures .1 (checked .if1 .left) in
+    let room = fits .before .fits2 .ensures (fits .if2 .taken) (a .text .now) (sound .ok) in
+    display-at-once (a .text .now) (a .tree .now) (a .out .now) sound _ (write .display .ensures .0) (omega (arith, start .good)) room _ (write .display .ensures .1 room)
+
+slice-aggregate-display : tie.Need-slice-aggregate-display
+slice-aggregate-display c = search needs
+
+display-requires-2 : tie.Need-display-requires-2
+display-requires-2 c κs =
+    let checked = c .before .before .before in
+    let sound = checked .before .check .ensures .1 (checked .if1 .left) in
+    (sound .packed, sound .ok)
+
+returns-3 : tie.Need-returns-3
+returns-3 c =
     let measure = c .before .before in
-    let check = measure .before .before .before in
+    let checked = measure .before .before .before .before in
+    let check = checked .before in
     let a = check .before .before .before .before .args in
-    display-short (a .text .now) (a .tree .now) (a .out .now) (check .check .ensures .1 (measure .before .before .if1 .left)) _ (measure .display .ensures .0) (c .if2 .taken)
+    display-short (a .text .now) (a .tree .now) (a .out .now) (check .check .ensures .1 (checked .if1 .left)) _ (measure .display2 .ensures .0) (c .if3 .taken)
 
 sub-display : tie.Need-sub-display
 sub-display c = search needs
@@ -39,24 +64,25 @@ part-display-start c = search needs
 part-display-end : tie.Need-part-display-end
 part-display-end c = search needs
 
-display-requires-2 : tie.Need-display-requires-2
-display-requires-2 c κs =
-    let measure = c .before .before .before in
-    let sound = measure .before .before .before .check .ensures .1 (measure .before .before .if1 .left) in
+display-requires-3 : tie.Need-display-requires-3
+display-requires-3 c κs =
+    let checked = c .before .before .before .before .before .before .before in
+    let sound = checked .before .check .ensures .1 (checked .if1 .left) in
     (sound .packed, sound .ok)
 
-same-length : tie.Need-same-length
-same-length c = search needs
+same-length-2 : tie.Need-same-length-2
+same-length-2 c = search needs
 
-returns-3 : tie.Need-returns-3
-returns-3 c =
+returns-4 : tie.Need-returns-4
+returns-4 c =
     let write = c .before .before in
     let measure = write .before .before .before .before in
-    let check = measure .before .before .before in
+    let checked = measure .before .before .before .before in
+    let check = checked .before in
     let start = check .before .before .before .before in
     let a = start .args in
-    display-written (a .text .now) (a .tree .now) (a .out .now) (check .check .ensures .1 (measure .before .before .if1 .left)) _ (measure .display .ensures .0) (omega (arith, start .good))
-    (write .before .before .if2 .left) _ (write .display2 .ensures .1)
+    display-measured (a .text .now) (a .tree .now) (a .out .now) (check .check .ensures .1 (checked .if1 .left)) _ (measure .display2 .ensures .0) (omega (arith, start .good))
+    (write .before .before .if3 .left) _ (write .display3 .ensures .1)
 
 pub display-spec : {M : Type 1} → statement M
 display-spec =
@@ -64,12 +90,16 @@ display-spec =
     (tie.spec
     check-requires
     returns
-    slice-aggregate-display
+    fits-requires
     display-requires
+    same-length
     returns-2
+    slice-aggregate-display
+    display-requires-2
+    returns-3
     sub-display
     part-display-start
     part-display-end
-    display-requires-2
-    same-length
-    returns-3)
+    display-requires-3
+    same-length-2
+    returns-4)

@@ -1,0 +1,176 @@
+-- What a record prints by itself is no longer than what is allowed for it. Assumes nothing.
+use Prim.Native.Nat.{ℕ, zero, suc, _+_, _*_, _/_, _%_, _^_, _≤_, _<_}
+use mathlib.Core.Path.{_≡_, refl, ap}
+use mathlib.Core.Bool.{Bool, true, false, not}
+use mathlib.Core.List.{List, [], _∷_, _++_}
+use mathlib.Core.Option.{Option, none, some}
+use native.Mathlib.Omega.{arith}
+use native.Mathlib.Nat.{pow-suc}
+use borrow.Author.Tests.{lt-ltb, ltb-true, ltb-false}
+use lib.Dec.{ltb, eqb, lit<}
+use lib.IntN.{ℤ, pos, negsuc, natAbs}
+use lib.ListN.{length, getD, drop, length-append, length-take}
+use Rattle.notation.specs.Basics.{pick}
+use Rattle.notation.specs.Chars.{whiteSpace}
+use Rattle.notation.specs.Utf8.{afterFirst, widthIf}
+use Rattle.notation.specs.Numbers.{showFrom, show, showSigned, toBits}
+use Rattle.notation.specs.Tree.{
+  Span, partOf, Layers, noLayers, singleLayer, layerRange, layerSet, Leaf, rotation, move, pause, pair, slash, megaminx,
+  Body, group, binaryGroup
+}
+use Rattle.notation.specs.Packed.{
+  Head, leafHead, headFields, inOrder, nowhere, bit, present, orNowhere, layerForm, lowAndHigh, setPart, groupNumber, binaryNumber, bodyHead, size
+}
+use Rattle.notation.specs.Meaning.{constraintMeaning, layerMeaning, stepOf}
+use Rattle.notation.specs.WellFormed.{inside, constraintsOk, leafOk}
+use Rattle.notation.specs.Print.{putConstraints, putLayers, putTilde, putPrime, putMultiplier, putStep}
+use Rattle.notation.specs.declared.common.GroupKind.{GroupKind}
+use Rattle.notation.specs.declared.common.GroupKind.the-variants.{Simple, Macro, Simultaneous, Niss}
+use Rattle.notation.specs.declared.common.BinaryGroupKind.{BinaryGroupKind}
+use Rattle.notation.specs.declared.common.BinaryGroupKind.the-variants.{Commutator, Conjugate}
+use Rattle.notation.specs.declared.common.MegaminxScrambleMove.the-variants.{Rpp, Rmm, Dpp, Dmm}
+use Rattle.numbers.proofs.TwosComplement.{fromBits-toBits}
+use Rattle.record.specs.Range.{FitsNumber, FitsLayers, FitsLeaf, FitsHead}
+use Rattle.record.proofs.Packed.{bit-lt, present-lt, layerForm-lt}
+use Rattle.laws.proofs.Bools.{and-right}
+use Rattle.display.specs.Squeezed.{squeezedFrom, squeezed}
+use Rattle.display.specs.Bound.{allowedFor, allowed}
+use Rattle.display.proofs.Squeezing.{set-squeezed}
+use Rattle.display.proofs.Leaves.{rotation-parts, move-parts}
+
+-- Numbers: below 10^(i + 1) there are at most i + 1 digits.
+show-size : (k n i : ℕ) (rest : List ℕ) → n < 10 ^ suc i → length (showFrom k n rest) ≤ suc i + length rest
+unfolding showFrom
+show-size zero n i rest h = omega arith
+show-size (suc k) n i rest h = go (ltb n 10) refl i h (λ j. show-size k (n / 10) j ((48 + n % 10) ∷ rest))
+  where
+    go : (t : Bool) → ltb n 10 ≡ t → (i : ℕ) → n < 10 ^ suc i →
+        ((j : ℕ) → n / 10 < 10 ^ suc j → length (showFrom k (n / 10) ((48 + n % 10) ∷ rest)) ≤ suc j + length ((48 + n % 10) ∷ rest)) →
+        length (pick t ((48 + n) ∷ rest) (showFrom k (n / 10) ((48 + n % 10) ∷ rest))) ≤ suc i + length rest
+    go true e i h f = omega arith
+    go false e zero h f = absurd (omega (arith, ltb-false n 10 e))
+    go false e (suc i) h f = omega (arith, f i (omega (arith, pow-suc 10 (suc i))))
+
+signed-size : (z : ℤ) (rest : List ℕ) → FitsNumber z → length (showSigned z rest) ≤ 11 + length rest
+signed-size (pos n) rest h = omega (arith, show-size 10 n 9 rest (omega (arith, ltb-true n 2147483648 h)))
+signed-size (negsuc n) rest h = omega (arith, show-size 10 (suc n) 9 rest (omega (arith, ltb-true n 2147483648 h)))
+
+prime-size : (m : ℤ) (rest : List ℕ) → length (putPrime m rest) ≤ 1 + length rest
+prime-size (pos n) rest = omega arith
+prime-size (negsuc n) rest = omega arith
+
+magnitude-below : (m : ℤ) → FitsNumber m → natAbs m ≤ 2147483648
+magnitude-below (pos n) h = omega (arith, ltb-true n 2147483648 h)
+magnitude-below (negsuc n) h = omega (arith, ltb-true n 2147483648 h)
+
+multiplier-size : (m : ℤ) (rest : List ℕ) → FitsNumber m → length (putMultiplier m rest) ≤ 2 + pick (ltb 9 (natAbs m)) 9 0 + length rest
+multiplier-size m rest h = go (eqb (natAbs m) 1) (ltb 9 (natAbs m)) refl
+  where
+    go : (t u : Bool) → ltb 9 (natAbs m) ≡ u → length (pick t (putPrime m rest) (show (natAbs m) (putPrime m rest))) ≤ 2 + pick u 9 0 + length rest
+    go true u e = omega (arith, prime-size m rest)
+    go false true e = omega (arith, show-size 10 (natAbs m) 9 (putPrime m rest) (omega (arith, magnitude-below m h)), prime-size m rest)
+    go false false e = omega (arith, show-size 10 (natAbs m) 0 (putPrime m rest) (omega (arith, ltb-false 9 (natAbs m) e)), prime-size m rest)
+
+-- Parts of the text: without its white space one is no longer.
+squeezed-size : (k : ℕ) (s : List ℕ) → length (squeezedFrom k s) ≤ length s
+unfolding squeezedFrom
+squeezed-size k [] = omega arith
+squeezed-size (suc k) (b ∷ s) = omega (arith, squeezed-size k s)
+squeezed-size zero (b ∷ s) = go (widthIf whiteSpace (b ∷ s)) (λ k. squeezed-size k s)
+  where
+    go : (w : ℕ) → ((k : ℕ) → length (squeezedFrom k s) ≤ length s) →
+        length (afterFirst w (b ∷ squeezed s) (λ k. squeezedFrom k s)) ≤ length (b ∷ s)
+    go zero f = omega (arith, f 0)
+    go (suc k) f = omega (arith, f k)
+
+part-size : (text : List ℕ) (p : Span) → length (partOf text p) ≤ p .size
+part-size text p = omega (arith, length-take (p .size) (drop (p .offset) text))
+
+family-size : (text : List ℕ) (p : Span) (rest : List ℕ) → length (partOf text p ++ rest) ≤ p .size + length rest
+family-size text p rest = omega (arith, length-append (partOf text p) rest, part-size text p)
+
+constraints-size : (text : List ℕ) (c : Option Span) (rest : List ℕ) → constraintsOk text c ≡ true →
+    length (putConstraints (constraintMeaning text c) rest) ≤ orNowhere c .size + length rest
+constraints-size text none rest h = omega arith
+constraints-size text (some p) rest h =
+    let e = ap length (set-squeezed (partOf text p) (and-right (inside text p) _ h) rest) in
+    omega (arith, e, length-append (squeezed (partOf text p)) rest, squeezed-size 0 (partOf text p), part-size text p)
+
+layers-size : (text : List ℕ) (l : Layers Span) (rest : List ℕ) → FitsLayers l → (layerForm l ≡ 3 → ⊥) →
+    length (putLayers (layerMeaning text l) rest) ≤ pick (not (eqb (layerForm l) 0)) 11 0 + length rest
+layers-size text noLayers rest f h = omega arith
+layers-size text (singleLayer i) rest f h = omega (arith, show-size 10 i 4 rest (omega arith))
+layers-size text (layerRange i j) rest f h =
+    omega (arith, show-size 10 i 4 (45 ∷ show j rest) (omega (arith, f .0)), show-size 10 j 4 rest (omega (arith, f .1)))
+layers-size text (layerSet p) rest f h = absurd (h refl)
+
+-- what is allowed for a record with a number that fits its field
+allowed-is : (kind t f p n n′ : ℕ) (m : ℤ) (o : ℕ) (family constraints set : Span) → t < 2 → f < 4 → p < 2 → FitsNumber m →
+    allowed (inOrder kind t f p n n′ (toBits 32 m) o family constraints set) ≡ allowedFor kind (natAbs m) (family .size) (constraints .size) f
+allowed-is kind t f p n n′ m o family constraints set t-fits f-fits p-fits h =
+    let k : (kind * 16 + t * 8 + f * 2 + p) / 16 ≡ kind = omega arith in
+    let l : (kind * 16 + t * 8 + f * 2 + p) / 2 % 4 ≡ f = omega arith in
+    rw (k, l, fromBits-toBits 32 m (lit< tt) h)
+
+tilde-size : (t : Bool) (rest : List ℕ) → length (putTilde t rest) ≤ 1 + length rest
+tilde-size true rest = omega arith
+tilde-size false rest = omega arith
+
+-- the layer form that a record says
+abbrev pub formOf : Head → ℕ
+formOf h = getD (headFields h) 0 0 / 2 % 4
+
+-- a leaf and the space after it
+pub leaf-size : (text : List ℕ) (x : Leaf) (rest : List ℕ) → leafOk text x ≡ true → FitsLeaf x → (formOf (leafHead x) ≡ 3 → ⊥) →
+    length (putStep (stepOf text x) rest) + 1 ≤ allowed (headFields (leafHead x)) + length rest
+unfolding putStep stepOf
+leaf-size text (rotation f c m) rest h e s =
+    let p = rotation-parts text f c m h in
+    let after = putMultiplier m rest in
+    let behind = putConstraints (constraintMeaning text c) after in
+    omega (arith, allowed-is 6 0 0 (present c) 0 0 m 0 f (orNowhere c) nowhere (lit< tt) (lit< tt) (present-lt c) (e .2),
+    family-size text f behind, constraints-size text c after (p .constraints), multiplier-size m rest (e .2))
+leaf-size text (move t l f c m) rest h e s =
+    let p = move-parts text t l f c m h in
+    let after = putMultiplier m rest in
+    let behind = putConstraints (constraintMeaning text c) after in
+    let family = partOf text f ++ behind in
+    let t-fits = bit-lt t in
+    let l-fits = layerForm-lt l in
+    let p-fits = present-lt c in
+    let no-set : layerForm l ≡ 3 → ⊥ = λ i. s (omega arith) in
+    omega (arith, allowed-is 7 (bit t) (layerForm l) (present c) 0 0 m (lowAndHigh l) f (orNowhere c) (setPart l) t-fits l-fits p-fits (e .3),
+    tilde-size t (putLayers (layerMeaning text l) family), layers-size text l family (e .0) no-set,
+    family-size text f behind, constraints-size text c after (p .constraints), multiplier-size m rest (e .3))
+leaf-size text pause rest h e s = omega arith
+leaf-size text (pair u d) rest h e s =
+    omega (arith, allowed-is 9 0 0 0 0 0 u (toBits 32 d) nowhere nowhere nowhere (lit< tt) (lit< tt) (lit< tt) (e .0),
+    signed-size u (44 ∷ 32 ∷ showSigned d (41 ∷ rest)) (e .0), signed-size d (41 ∷ rest) (e .1))
+leaf-size text slash rest h e s = omega arith
+leaf-size text (megaminx Rpp) rest h e s = omega arith
+leaf-size text (megaminx Rmm) rest h e s = omega arith
+leaf-size text (megaminx Dpp) rest h e s = omega arith
+leaf-size text (megaminx Dmm) rest h e s = omega arith
+
+-- a group's four signs at most, its multiplier and the space after it
+group-low : (k : GroupKind) → groupNumber k < 6
+group-low Simple = lit< tt
+group-low Macro = lit< tt
+group-low Simultaneous = lit< tt
+group-low Niss = lit< tt
+
+binary-low : (k : BinaryGroupKind) → binaryNumber k < 6
+binary-low Commutator = lit< tt
+binary-low Conjugate = lit< tt
+
+low-size : (kind n n′ : ℕ) (m : ℤ) (rest : List ℕ) → kind < 6 → FitsNumber m →
+    5 + length (putMultiplier m rest) ≤ allowed (inOrder kind 0 0 0 n n′ (toBits 32 m) 0 nowhere nowhere nowhere) + length rest
+low-size kind n n′ m rest h f =
+    let a = allowed-is kind 0 0 0 n n′ m 0 nowhere nowhere nowhere (lit< tt) (lit< tt) (lit< tt) f in
+    let signs : _≡_ {A = ℕ} (pick (ltb kind 6) 3 0) 3 = rw (lt-ltb kind 6 h) in
+    omega (arith, a, signs, multiplier-size m rest f)
+
+pub body-size : (b : Body Leaf) (m : ℤ) (rest : List ℕ) → FitsHead (bodyHead b m) →
+    5 + length (putMultiplier m rest) ≤ allowed (headFields (bodyHead b m)) + length rest
+body-size (group k a) m rest f = low-size (groupNumber k) (size a) 0 m rest (group-low k) (f .1)
+body-size (binaryGroup k a b) m rest f = low-size (binaryNumber k) (size a) (size b) m rest (binary-low k) (f .2)
