@@ -24,8 +24,8 @@ use Rattle.laws.proofs.Bools.{and-left, and-right}
 use Rattle.laws.proofs.Packing.{FitsNode, FitsBody, FitsTree}
 use Rattle.laws.proofs.Walking.{Packed}
 use Rattle.display.specs.Bound.{allowed}
-use Rattle.display.specs.Nodes.{part}
-use Rattle.display.proofs.Nodes.{part-rest}
+use Rattle.nodes.specs.Nodes.{part}
+use Rattle.nodes.proofs.Nodes.{part-rest}
 use Rattle.display.proofs.Sizes.{formOf, leaf-size, body-size}
 
 -- The records of a tree in reading order, in front of others.
