@@ -30,6 +30,7 @@ use numbers::signed::magnitude;
 use numbers::signed::negate;
 use record::RECORD;
 use record::fields;
+use record::kinds;
 
 // Writes the steps of a tree to the front of out and answers their size in bytes.
 pub fn flatten(tree: &[u8], out: &mut [u8]) -> usize
@@ -41,7 +42,7 @@ pub fn flatten(tree: &[u8], out: &mut [u8]) -> usize
     let mut at = 0;
     while 0 < t.len() {
         // A leaf is one record, which is the step.
-        if 5 < fields::kind(t) {
+        if kinds::CONJUGATE < fields::kind(t) {
             copy_record(&t[0..RECORD], &mut out[at..]);
             at += RECORD;
             t = &t[RECORD..];
@@ -78,11 +79,11 @@ fn flatten_node(node: &[u8], out: &mut [u8]) -> usize
     }
     let middle = first_end(node);
     let a = flatten(&node[RECORD..middle], out);
-    if kind < 4 {
+    if kind < kinds::COMMUTATOR {
         return repeat_block(out, a, multiplier);
     }
     let b = flatten(&node[middle..], &mut out[a..]);
-    let size = complete_binary(out, kind == 4, a, b);
+    let size = complete_binary(out, kind == kinds::COMMUTATOR, a, b);
     repeat_block(out, size, multiplier)
 }
 

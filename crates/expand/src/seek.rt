@@ -10,7 +10,7 @@ ghost use Rattle.notation.specs.Basics.{pick};
 ghost use Rattle.notation.specs.Tree.{Node, Leaf, Tree};
 ghost use Rattle.notation.specs.Invert.{undo};
 ghost use Rattle.notation.specs.Packed.{RECORD as recordSize, leafRecord, unpack};
-ghost use Rattle.notation.specs.declared.common.BinaryGroupKind.the-variants as kinds;
+ghost use Rattle.notation.specs.declared.common.BinaryGroupKind.the-variants as binary;
 ghost use Rattle.laws.proofs.Walking.{Packed};
 ghost use Rattle.laws.proofs.Counting.{count};
 ghost use Rattle.laws.proofs.Seeking as seeking;
@@ -26,6 +26,7 @@ use numbers::signed::is_negative;
 use numbers::signed::magnitude;
 use record::RECORD;
 use record::fields;
+use record::kinds;
 
 // Where to look on: the list from `from` to `to` of a node's bytes, for the step at a place of it, which is to be inverted or not.
 struct Way {
@@ -54,7 +55,7 @@ pub fn seek(tree: &[u8], place: u64, step: &mut [u8])
     let mut inverted = false;
     loop {
         // A leaf is one step.
-        if 5 < fields::kind(t) {
+        if kinds::CONJUGATE < fields::kind(t) {
             if at == 0 {
                 write_step(&t[0..RECORD], inverted, step);
                 return;
@@ -112,14 +113,14 @@ fn in_block(node: &[u8], steps: u64, at: u64) -> Way
     let inverted = is_negative(multiplier);
     let middle = first_end(node);
     let kind = fields::kind(node);
-    if kind < 4 {
+    if kind < kinds::COMMUTATOR {
         let whole = List { from: RECORD, to: middle, count };
         return in_list(whole, place, inverted);
     }
     let inside = visit(&node[RECORD..middle]);
     let a = inside.steps;
     let first = List { from: RECORD, to: middle, count: a };
-    if kind == 5 {
+    if kind == kinds::CONJUGATE {
         let second = List { from: middle, to: node.len(), count: count - 2 * a };
         return in_conjugate(first, second, place, inverted);
     }
@@ -133,7 +134,7 @@ fn in_block(node: &[u8], steps: u64, at: u64) -> Way
 // In A B A' B'.
 fn in_commutator(a: List, b: List, place: u64) -> Way
     requires { ⌜ place < 2 * (a .count + b .count) ⌝ }
-    ensures { λ r. ⌜ ((l m : Tree) → count l ≡ a .count → count m ≡ b .count → Leads a b l m (seeking.seekBinary kinds.Commutator false (count l) (count m) (λ e k. seeking.seek e l k) (λ e k. seeking.seek e m k) place) r) ⌝ }
+    ensures { λ r. ⌜ ((l m : Tree) → count l ≡ a .count → count m ≡ b .count → Leads a b l m (seeking.seekBinary binary.Commutator false (count l) (count m) (λ e k. seeking.seek e l k) (λ e k. seeking.seek e m k) place) r) ⌝ }
 {
     if place < a.count {
         return in_list(a, place, false);
@@ -152,7 +153,7 @@ fn in_commutator(a: List, b: List, place: u64) -> Way
 // In A B A', or A B' A' inverted.
 fn in_conjugate(a: List, b: List, place: u64, inverted: bool) -> Way
     requires { ⌜ place < 2 * a .count + b .count ⌝ }
-    ensures { λ r. ⌜ ((l m : Tree) → count l ≡ a .count → count m ≡ b .count → Leads a b l m (seeking.seekBinary kinds.Conjugate inverted (count l) (count m) (λ e k. seeking.seek e l k) (λ e k. seeking.seek e m k) place) r) ⌝ }
+    ensures { λ r. ⌜ ((l m : Tree) → count l ≡ a .count → count m ≡ b .count → Leads a b l m (seeking.seekBinary binary.Conjugate inverted (count l) (count m) (λ e k. seeking.seek e l k) (λ e k. seeking.seek e m k) place) r) ⌝ }
 {
     if place < a.count {
         return in_list(a, place, false);

@@ -12,6 +12,7 @@ use numbers::big_endian::write_u8;
 use numbers::big_endian::write_u32;
 use numbers::signed::negate;
 use record::fields;
+use record::kinds;
 
 // The bits of −2147483648, which has no negative in 32 bits, and the refusal of a pair that holds it.
 const MIN: u32 = 2147483648;
@@ -55,7 +56,7 @@ pub fn pair_refusal(t: &[u8], before: u8) -> u8
     requires { ⌜ StartsRecord (now t) ⌝ }
     ensures { λ r. ⌜ r ≡ over (headRefusal (headAt (now (t .entry)))) before ⌝ }
 {
-    if fields::kind(t) == 9 {
+    if fields::kind(t) == kinds::PAIR {
         if fields::number(t) == MIN {
             return OVERFLOW;
         }

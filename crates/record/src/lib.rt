@@ -3,6 +3,7 @@
 pub mod decode;
 pub mod encode;
 pub mod fields;
+pub mod kinds;
 pub mod spanned;
 
 // The size of a record in bytes.
