@@ -4,8 +4,8 @@ use mathlib.Core.Path.{_≡_, sym, ap, ap₂, _∙_}
 use mathlib.Core.List.{List, _++_, append-assoc}
 use native.Mathlib.Omega.{arith}
 use borrow.Rule.Slice.PartMut.{midOf, putMid, post-is, same-len-mid}
-use lib.ListN.{length, take, drop, length-append, length-drop}
-use lib.Seq.{take-at, drop-at, length-take-le}
+use lib.ListN.{length, take, drop, length-append}
+use lib.Seq.{take-at, drop-at}
 use Rattle.bytes.specs.Bytes.{slice}
 use Rattle.expand.specs.Nodes.{part}
 
@@ -42,11 +42,6 @@ module _ {s p x q : List ℕ} {a e : ℕ} (h : Three s p x q a e) where
   -- the middle put back after it was lent
   pub put-part : (y : List ℕ) → putMid a (e - a) s y ≡ p ++ (y ++ q)
   put-part y = ap₂ (λ (f r : List ℕ). f ++ (y ++ r)) before-part (post-is a e s (omega (arith, h .end)) ∙ after-part)
-
-pub part-long : (a : ℕ) (s : List ℕ) → a + 25 ≤ length s → length (part a (a + 25) s) ≡ 25
-part-long a s h =
-    let z : a + 25 - a ≡ 25 = omega arith in
-    ap (λ (n : ℕ). length (take n (drop a s))) z ∙ length-take-le 25 (drop a s) (omega (arith, length-drop a s))
 
 pub put-room : (a k n : ℕ) (xs ys : List ℕ) → length ys ≡ length (midOf a k xs) → n ≤ length xs → n ≤ length (putMid a k xs ys)
 put-room a k n xs ys e h = omega (arith, same-len-mid a k xs ys e)

@@ -6,10 +6,9 @@ ghost use Prim.Native.Nat.{ℕ, _+_, _*_, _/_, _≤_};
 ghost use lib.IntN.{natAbs};
 ghost use lib.ListN.{length, take, drop};
 ghost use Rattle.notation.specs.Tree.{Node, Leaf};
-ghost use Rattle.notation.specs.Invert.{undo, exchanged as opposite};
+ghost use Rattle.notation.specs.Invert.{undo};
 ghost use Rattle.notation.specs.Numbers.{fromBits};
-ghost use Rattle.notation.specs.Packed.{RECORD as recordSize, leafRecord, unpack, megaminxNumber};
-ghost use Rattle.notation.specs.declared.common.MegaminxScrambleMove.{MegaminxScrambleMove};
+ghost use Rattle.notation.specs.Packed.{RECORD as recordSize, unpack};
 ghost use Rattle.notation.specs.Entries.{records};
 ghost use Rattle.notation.specs.Unroll.{copies, turned};
 ghost use Rattle.record.specs.Meaning.{field};
@@ -18,19 +17,17 @@ ghost use Rattle.laws.proofs.Unrolling.{backwards, flatBinary, flatNode, flat};
 ghost use Rattle.laws.proofs.Counting.{count, countNode};
 ghost use Rattle.expand.specs.Nodes.{IsNode};
 ghost use Rattle.expand.specs.Meaning.{binaryKind};
-ghost use Rattle.expand.specs.Steps.{Undoable, Holds, Wrote, Room, Pair, either};
+ghost use Rattle.expand.specs.Steps.{Holds, Wrote, Room, Pair, either};
 use crate::walk::first_end;
 use crate::walk::node_end;
 use bytes::copy;
 use bytes::reverse;
-use numbers::big_endian::write_u8;
-use numbers::big_endian::write_u32;
 use numbers::signed::is_negative;
 use numbers::signed::magnitude;
-use numbers::signed::negate;
 use record::RECORD;
 use record::fields;
 use record::kinds;
+use record::undo::undo_record;
 
 // Writes the steps of a tree to the front of out and answers their size in bytes.
 pub fn flatten(tree: &[u8], out: &mut [u8]) -> usize
@@ -146,36 +143,5 @@ fn turn(steps: &mut [u8])
         reverse(steps, from, to);
         undo_record(&mut steps[from..to]);
         from = to;
-    }
-}
-
-// Undoes the step of a record. The multiplier of a step that has none is 0, which stays.
-pub(crate) fn undo_record(step: &mut [u8])
-    requires { ⌜ length (now step) ≡ recordSize ⌝ }
-    ensures { λ _. ⌜ ((x : Leaf) → Undoable x → now (step .entry) ≡ leafRecord x → now (step .exit) ≡ leafRecord (undo x)) ⌝ }
-{
-    let kind = fields::kind(step);
-    let opposite = negate(fields::number(step));
-    write_u32(step, 5, opposite);
-    if kind == 9 {
-        let other = negate(fields::other(step));
-        write_u32(step, 9, other);
-        return;
-    }
-    if 10 < kind {
-        write_u8(step, 0, exchanged(kind) * 16);
-    }
-}
-
-// The kind of the opposite megaminx move.
-fn exchanged(kind: u8) -> u8
-    ensures { λ r. ⌜ r ≤ 14 ⌝ }
-    ensures { λ r. ⌜ ((k : MegaminxScrambleMove) → kind ≡ megaminxNumber k → r ≡ megaminxNumber (opposite k)) ⌝ }
-{
-    match kind {
-        11 => 12,
-        12 => 11,
-        13 => 14,
-        _ => 13,
     }
 }

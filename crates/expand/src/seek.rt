@@ -1,7 +1,7 @@
 // The step at a place of the unrolled list, found by passing over whole nodes and whole repeats by their counts: the time
 // does not depend on the number of steps.
 ghost use mathlib.Core.Path.{_≡_};
-ghost use mathlib.Core.Bool.{Bool, false};
+ghost use mathlib.Core.Bool.{false};
 ghost use mathlib.Core.List.{_++_};
 ghost use mathlib.Core.Option.{Option};
 ghost use Prim.Native.Nat.{_+_, _*_, _≤_, _<_};
@@ -16,7 +16,6 @@ ghost use Rattle.laws.proofs.Counting.{count};
 ghost use Rattle.laws.proofs.Seeking as seeking;
 ghost use Rattle.expand.specs.Places.{undoIf, found, Within, Goes, Leads, Onward};
 ghost use Rattle.expand.specs.Steps.{Undoable};
-use crate::flatten::undo_record;
 use crate::visit::visit;
 use crate::visit::visit_node;
 use crate::walk::first_end;
@@ -27,6 +26,7 @@ use numbers::signed::magnitude;
 use record::RECORD;
 use record::fields;
 use record::kinds;
+use record::undo::undo_record;
 
 // Where to look on: the list from `from` to `to` of a node's bytes, for the step at a place of it, which is to be inverted or not.
 struct Way {
@@ -84,12 +84,13 @@ pub fn seek(tree: &[u8], place: u64, step: &mut [u8])
 
 // Writes a step's record, undone if it is inverted.
 fn write_step(from: &[u8], inverted: bool, step: &mut [u8])
+    requires { ⌜ ((x : Leaf) × (Undoable x × (now from ≡ leafRecord x))) ⌝ }
     requires { ⌜ (length (now from) ≡ recordSize) × (recordSize ≤ length (now step)) ⌝ }
     ensures { λ _. ⌜ ((x : Leaf) → Undoable x → now (from .entry) ≡ leafRecord x → now (step .exit) ≡ leafRecord (pick inverted (undo x) x) ++ drop recordSize (now (step .entry))) ⌝ }
 {
     copy(from, step);
     if inverted {
-        undo_record(&mut step[0..RECORD]);
+        undo_record(step);
     }
 }
 

@@ -2,7 +2,7 @@
 // written at its place counted from the end.
 
 pub mod parts;
-pub mod undo;
+pub mod refusal;
 
 ghost use mathlib.Core.Path.{_≡_};
 ghost use Prim.Native.Nat.{_/_};
@@ -19,8 +19,8 @@ use parts::node_end;
 use record::RECORD;
 use record::fields;
 use record::kinds;
-use undo::pair_refusal;
-use undo::undo_record;
+use record::undo::undo_record;
+use refusal::pair_refusal;
 
 // The refusal of a NISS group, which has no deep inverse.
 const HAS_NISS: u8 = 7;

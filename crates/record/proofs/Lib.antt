@@ -3,3 +3,6 @@ pub mod Cut
 pub mod Packed
 pub mod RoundTrip
 pub mod Same
+-- A field stored in a record, and a record undone.
+pub mod Storing
+pub mod Undoing

@@ -5,6 +5,7 @@ pub mod encode;
 pub mod fields;
 pub mod kinds;
 pub mod spanned;
+pub mod undo;
 
 // The size of a record in bytes.
 pub const RECORD: usize = 25;
