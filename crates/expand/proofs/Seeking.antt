@@ -10,7 +10,6 @@ use borrow.Author.Tests.{lt-ltb, le-ltb, ltb-true, ltb-false}
 use lib.Dec.{ltb, eqb}
 use lib.IntN.{ℤ, pos, negsuc, natAbs}
 use lib.ListN.{length, take, drop, getElem?, length-reverse, length-map}
-use lib.Seq.{take-length}
 use Rattle.notation.specs.Basics.{pick}
 use Rattle.notation.specs.Numbers.{fromBits}
 use Rattle.notation.specs.Tree.{Leaf, Node, leaf, block, group, binaryGroup, cons, Tree}
@@ -22,6 +21,7 @@ use Rattle.notation.specs.declared.common.BinaryGroupKind.the-variants.{Commuta
 use Rattle.numbers.specs.Sign.{isNegative}
 use Rattle.record.specs.Meaning.{field}
 use Rattle.record.specs.Undone.{StartsRecord}
+use Rattle.record.proofs.Copying.{copied-front}
 use Rattle.record.proofs.RoundTrip.{length-record25}
 use Rattle.record.proofs.Undoing.{Undone}
 use Rattle.laws.proofs.Packing.{FitsNode}
@@ -414,8 +414,7 @@ inside-less t e w o = omega (arith, part-length (w .from) (w .to) (part 0 e t), 
 
 -- The step's record, copied and undone where it is inverted.
 copied : (x : Leaf) (from step : List ℕ) {s : List ℕ} → from ≡ leafRecord x → s ≡ take (length from) from ++ drop (length from) step → s ≡ leafRecord x ++ drop RECORD step
-copied x from step e h =
-    h ∙ ap₂ (λ (a : List ℕ) (j : ℕ). a ++ drop j step) (take-length from ∙ e) (ap length e ∙ length-record25 (leafHead x))
+copied x from step e h = copied-front from step RECORD (ap length e ∙ length-record25 (leafHead x)) h ∙ ap (λ (a : List ℕ). a ++ drop RECORD step) e
 
 pub step-copied : (d : Bool) (x : Leaf) (from step : List ℕ) {s : List ℕ} → d ≡ false → from ≡ leafRecord x → s ≡ take (length from) from ++ drop (length from) step →
     s ≡ leafRecord (pick d (undo x) x) ++ drop RECORD step

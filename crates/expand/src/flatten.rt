@@ -20,11 +20,11 @@ ghost use Rattle.expand.specs.Meaning.{binaryKind};
 ghost use Rattle.expand.specs.Steps.{Holds, Wrote, Room, Pair, either};
 use crate::walk::first_end;
 use crate::walk::node_end;
-use bytes::copy;
 use bytes::reverse;
 use numbers::signed::is_negative;
 use numbers::signed::magnitude;
 use record::RECORD;
+use record::copy::copy_record;
 use record::fields;
 use record::kinds;
 use record::undo::undo_record;
@@ -51,16 +51,6 @@ pub fn flatten(tree: &[u8], out: &mut [u8]) -> usize
         }
     }
     at
-}
-
-// Copies a record by way of bytes of its own: since these lie apart from both, the compiler may move many at a time.
-fn copy_record(from: &[u8], out: &mut [u8])
-    requires { ⌜ (length (now from) ≡ recordSize) × (length (now from) ≤ length (now out)) ⌝ }
-    ensures { λ _. ⌜ now (out .exit) ≡ take (length (now (from .entry))) (now (from .entry)) ++ drop (length (now (from .entry))) (now (out .entry)) ⌝ }
-{
-    let mut held = [0; RECORD];
-    copy(from, &mut held);
-    copy(&held, out);
 }
 
 // The same of a group, given its bytes. What is repeated 0 times is not entered.
