@@ -7,8 +7,8 @@ use native.Mathlib.Omega.{arith}
 use borrow.Rule.Slice.PartMut.{putMid, midOf, same-len-mid}
 use lib.Dec.{eqb, ltb}
 use lib.IntN.{ℤ, pos, negsuc, natAbs}
-use lib.ListN.{length, take, drop, length-append, length-drop}
-use lib.Seq.{take-at, drop-at, take-length, drop-length, drop-drop}
+use lib.ListN.{length, take, drop, length-append, length-take, length-drop}
+use lib.Seq.{take-at, drop-at, drop-length, drop-drop}
 use Rattle.notation.specs.Basics.{pick}
 use Rattle.notation.specs.Numbers.{fromBits}
 use Rattle.notation.specs.Tree.{Leaf, Node, leaf, block, Body, group, binaryGroup, nil, Tree}
@@ -27,7 +27,7 @@ use Rattle.laws.proofs.Counting.{countBinary, countNode, countBody, count, coun
 use Rattle.expand.specs.Meaning.{binaryKind}
 use Rattle.nodes.specs.Nodes.{IsNode, part, FirstNode, firstList, secondList}
 use Rattle.expand.specs.Steps.{AllUndoable, Wrote, Room, Pair, either}
-use Rattle.nodes.proofs.Nodes.{part-rest, part-length, node-unique, FirstLeaf, leaf-node, leaf-record}
+use Rattle.nodes.proofs.Nodes.{part-rest, node-unique, FirstLeaf, leaf-node}
 use Rattle.expand.proofs.Shapes.{Shape, isLeaf, isGroup, isBinary, shape-of}
 use Rattle.expand.proofs.Steps.{length-records, records-append, all-flat, all-flatBody}
 
@@ -99,27 +99,17 @@ at-least (suc n) c h = omega arith
 pub room-of : {bs : List ℕ} {L L′ : ℕ} (n : Node Leaf) → IsNode bs n → (n₀ : Node Leaf) × (IsNode bs n₀ × (RECORD * countNode n₀ ≤ L)) → L′ ≡ L → RECORD * countNode n ≤ L′
 room-of n s (n₀, (s₀, r)) e = let j = ap countNode (node-unique s s₀) in omega arith
 
--- a record copied by way of bytes of its own
-pub by-way : (f z h s : List ℕ) {s′ : List ℕ} → length z ≡ length f → h ≡ take (length f) f ++ drop (length f) z →
-    s′ ≡ take (length h) h ++ drop (length h) s → s′ ≡ take (length f) f ++ drop (length f) s
-by-way f z h s {s′} l e q =
-    let held : h ≡ f = e ∙ ap₂ (λ (a b : List ℕ). a ++ b) (take-length f) (ap (λ (j : ℕ). drop j z) (sym l) ∙ drop-length z) ∙ append-nil f in
-    subst (λ (x : List ℕ). s′ ≡ take (length x) x ++ drop (length x) s) held q
-
 -- a leaf is copied
-pub leaf-room : {bs : List ℕ} {out : ℕ} (l : FirstLeaf bs) → RECORD * countNode (l .first .node) ≤ out → length (part 0 RECORD bs) ≤ out
+pub leaf-room : {bs : List ℕ} {out : ℕ} (l : FirstLeaf bs) → RECORD * countNode (l .first .node) ≤ out → RECORD ≤ out
 unfolding countNode
-leaf-room l r = omega (arith, ap countNode (l .isStep), leaf-record l)
+leaf-room l r = omega (arith, ap countNode (l .isStep))
 
-pub leaf-written : {bs out out′ : List ℕ} (l : FirstLeaf bs) →
-    out′ ≡ take (length (part 0 RECORD bs)) (part 0 RECORD bs) ++ drop (length (part 0 RECORD bs)) out → Wrote out out′ (flatNode undo false (l .first .node)) RECORD
+pub leaf-written : {bs out out′ : List ℕ} (l : FirstLeaf bs) → out′ ≡ part 0 RECORD bs ++ drop RECORD out → Wrote out out′ (flatNode undo false (l .first .node)) RECORD
 unfolding flatNode packNode records
 leaf-written {bs} {out} {out′} l q =
     subst (λ (n : Node Leaf). Wrote out out′ (flatNode undo false n) RECORD) (sym (l .isStep)) (record {
       size = refl;
-      bytes = q ∙ ap₂ (λ (a b : List ℕ). a ++ b)
-          (take-length (part 0 RECORD bs) ∙ sym (leaf-node l .bytes) ∙ sym (append-nil (leafRecord (l .step))))
-          (ap (λ (j : ℕ). drop j out) (leaf-record l));
+      bytes = q ∙ ap (λ (a : List ℕ). a ++ drop RECORD out) (sym (leaf-node l .bytes) ∙ sym (append-nil (leafRecord (l .step))));
     })
 
 module _ (n : Node Leaf) (bs : List ℕ) (s : IsNode bs n) {k : ℕ} (e : k ≡ field 0 bs / 16) where

@@ -44,8 +44,5 @@ module _ {s p x q : List ℕ} {a e : ℕ} (h : Three s p x q a e) where
   pub put-part : (y : List ℕ) → putMid a (e - a) s y ≡ p ++ (y ++ q)
   put-part y = ap₂ (λ (f r : List ℕ). f ++ (y ++ r)) before-part (post-is a e s (omega (arith, h .end)) ∙ after-part)
 
-pub part-long : (a : ℕ) (s : List ℕ) → a + 25 ≤ length s → length (part a (a + 25) s) ≡ 25
-part-long a s h = length-part a (a + 25) s h ∙ omega arith
-
 pub put-room : (a k n : ℕ) (xs ys : List ℕ) → length ys ≡ length (midOf a k xs) → n ≤ length xs → n ≤ length (putMid a k xs ys)
 put-room a k n xs ys e h = omega (arith, same-len-mid a k xs ys e)

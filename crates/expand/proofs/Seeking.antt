@@ -7,11 +7,9 @@ use mathlib.Core.Option.{Option, none, some}
 use native.Mathlib.Nat.{mod-lt, mul-div-cancel-left, zero-mul, mul-comm}
 use native.Mathlib.Omega.{arith}
 use borrow.Author.Tests.{lt-ltb, le-ltb, ltb-true, ltb-false}
-use borrow.Rule.Slice.PartMut.{putMid}
 use lib.Dec.{ltb, eqb}
 use lib.IntN.{ℤ, pos, negsuc, natAbs}
 use lib.ListN.{length, take, drop, getElem?, length-reverse, length-map}
-use lib.Seq.{take-length}
 use Rattle.notation.specs.Basics.{pick}
 use Rattle.notation.specs.Numbers.{fromBits}
 use Rattle.notation.specs.Tree.{Leaf, Node, leaf, block, group, binaryGroup, cons, Tree}
@@ -22,7 +20,10 @@ use Rattle.notation.specs.declared.common.BinaryGroupKind.{BinaryGroupKind}
 use Rattle.notation.specs.declared.common.BinaryGroupKind.the-variants.{Commutator, Conjugate}
 use Rattle.numbers.specs.Sign.{isNegative}
 use Rattle.record.specs.Meaning.{field}
+use Rattle.record.specs.Undone.{StartsRecord}
+use Rattle.record.proofs.Copying.{copied-front}
 use Rattle.record.proofs.RoundTrip.{length-record25}
+use Rattle.record.proofs.Undoing.{Undone}
 use Rattle.laws.proofs.Packing.{FitsNode}
 use Rattle.laws.proofs.Walking.{Packed, no-node}
 use Rattle.laws.proofs.Unrolling.{undo-undo, backwards, flat, flat-backwards}
@@ -36,10 +37,10 @@ use Rattle.expand.specs.Places.{undoIf, found, Within, Goes, Leads, into
 use Rattle.expand.specs.declared.visit.Summary.{Summary}
 use Rattle.expand.specs.declared.seek.Way.{Way}
 use Rattle.expand.specs.declared.seek.List.{List as ListAt}
-use Rattle.expand.proofs.Parts.{Three, the-part, put-part}
 use Rattle.nodes.proofs.Nodes.{part-length, first-low, FirstLeaf, leaf-node}
 use Rattle.expand.proofs.Shapes.{Shape, isLeaf, isGroup, isBinary, shape-of}
 use Rattle.expand.proofs.Steps.{fits-undoable}
+use Rattle.expand.proofs.Undoing.{step-starts, step-undone}
 use Rattle.expand.proofs.Flattening.{bodyOf, at-least}
 
 -- The other direction, place by place.
@@ -389,12 +390,17 @@ pub leaf-steps : {t : List ℕ} (l : FirstLeaf t) → 1 ≡ countNode (l .first 
 unfolding countNode
 leaf-steps l = sym (ap countNode (l .isStep))
 
+-- and its record that of the step
+pub leaf-step : {t : List ℕ} (l : FirstLeaf t) → Undoable (l .step) × (part 0 RECORD t ≡ leafRecord (l .step))
+unfolding packNode FitsNode
+leaf-step l = (fits-undoable (l .step) (leaf-node l .fits), sym (leaf-node l .bytes))
+
 pub found-leaf : {tree t : List ℕ} {place at : ℕ} {inverted : Bool} → Sought tree place t at inverted → (l : FirstLeaf t) → at ≡ 0 → (step : List ℕ) {now step′ : List ℕ} → now ≡ step →
     ((x : Leaf) → Undoable x → part 0 RECORD t ≡ leafRecord x → step′ ≡ leafRecord (pick inverted (undo x) x) ++ drop RECORD now) →
     step′ ≡ found (seek false (unpack tree) place) ++ drop RECORD step
-unfolding packNode FitsNode seekNode
+unfolding seekNode
 found-leaf {tree} {t} {place} {at} {inverted} s l z step w c =
-    c x (fits-undoable x (leaf-node l .fits)) (sym (leaf-node l .bytes))
+    c x (leaf-step l .0) (leaf-step l .1)
     ∙ ap (λ (y : List ℕ). leafRecord (pick inverted (undo x) x) ++ drop RECORD y) w
     ∙ ap (λ (o : Option Leaf). found o ++ drop RECORD step) (sym (in-node s (l .first) (leaf-steps l) (omega arith) ∙ ap (undoIf inverted) here))
   where
@@ -409,16 +415,15 @@ inside-less t e w o = omega (arith, part-length (w .from) (w .to) (part 0 e t), 
 
 -- The step's record, copied and undone where it is inverted.
 copied : (x : Leaf) (from step : List ℕ) {s : List ℕ} → from ≡ leafRecord x → s ≡ take (length from) from ++ drop (length from) step → s ≡ leafRecord x ++ drop RECORD step
-copied x from step e h =
-    h ∙ ap₂ (λ (a : List ℕ) (j : ℕ). a ++ drop j step) (take-length from ∙ e) (ap length e ∙ length-record25 (leafHead x))
+copied x from step e h = copied-front from step RECORD (ap length e ∙ length-record25 (leafHead x)) h ∙ ap (λ (a : List ℕ). a ++ drop RECORD step) e
 
 pub step-copied : (d : Bool) (x : Leaf) (from step : List ℕ) {s : List ℕ} → d ≡ false → from ≡ leafRecord x → s ≡ take (length from) from ++ drop (length from) step →
     s ≡ leafRecord (pick d (undo x) x) ++ drop RECORD step
 step-copied d x from step p e h = rw p (copied x from step e h)
 
-pub step-undone : (d : Bool) (x : Leaf) (from step : List ℕ) {s y : List ℕ} → d ≡ true → Undoable x → from ≡ leafRecord x →
-    s ≡ take (length from) from ++ drop (length from) step → ((z : Leaf) → Undoable z → part 0 RECORD s ≡ leafRecord z → y ≡ leafRecord (undo z)) →
-    putMid 0 RECORD s y ≡ leafRecord (pick d (undo x) x) ++ drop RECORD step
-step-undone d x from step {s} {y} p u e h c =
-    let t : Three s [] (leafRecord x) (drop RECORD step) 0 RECORD = record { bytes = copied x from step e h; start = refl; end = omega (arith, length-record25 (leafHead x)) } in
-    rw p (put-part t y ∙ ap (λ (z : List ℕ). z ++ drop RECORD step) (c x u (the-part t)))
+pub step-turned : (d : Bool) (x : Leaf) (from step : List ℕ) {s y : List ℕ} → d ≡ true → Undoable x → from ≡ leafRecord x →
+    s ≡ take (length from) from ++ drop (length from) step → Undone s y → y ≡ leafRecord (pick d (undo x) x) ++ drop RECORD step
+step-turned d x from step {s} p u e h w = rw p (step-undone x u s (drop RECORD step) (copied x from step e h) w)
+
+pub copy-starts : (from step : List ℕ) {s : List ℕ} → (x : Leaf) × (Undoable x × (from ≡ leafRecord x)) → s ≡ take (length from) from ++ drop (length from) step → StartsRecord s
+copy-starts from step {s} (x, (u, e)) h = step-starts x u s (drop RECORD step) (copied x from step e h)

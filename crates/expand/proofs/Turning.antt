@@ -12,12 +12,15 @@ use Rattle.notation.specs.Tree.{Leaf}
 use Rattle.notation.specs.Invert.{undo}
 use Rattle.notation.specs.Packed.{RECORD, leafHead, leafRecord}
 use Rattle.notation.specs.Entries.{records}
+use Rattle.record.specs.Undone.{StartsRecord}
 use Rattle.record.proofs.RoundTrip.{length-record25}
+use Rattle.record.proofs.Undoing.{Undone}
 use Rattle.laws.proofs.Unrolling.{backwards}
 use Rattle.nodes.specs.Nodes.{part}
 use Rattle.expand.specs.Steps.{Undoable, AllUndoable, one, Holds}
 use Rattle.expand.proofs.Parts.{Three, before-part, the-part, after-part, sliced-part, put-part}
 use Rattle.expand.proofs.Steps.{length-records, records-append, all-right, all-reverse}
+use Rattle.expand.proofs.Undoing.{step-starts, step-undone}
 
 -- the records of steps, each with its bytes reversed
 unfoldable backBytes : List Leaf → List ℕ
@@ -90,10 +93,31 @@ turned-long r s from t =
     let z : length r ≡ length (t .done) + length (t .todo) = ap length (t .splits) ∙ length-append (t .done) (t .todo) in
     ap length (t .bytes) ∙ length-append (records (map undo (t .done))) (backBytes (t .todo)) ∙ omega (arith, long-all (t .todo))
 
+-- its record reversed
+next-reversed : {r : List Leaf} {s s₁ : List ℕ} {from : ℕ} (n : Next r s from) → s₁ ≡ take from s ++ (rev (slice from (from + RECORD) s) ++ drop (from + RECORD) s) →
+    Three s₁ (records (map undo (n .done))) (leafRecord (n .step)) (backBytes (n .rest)) from (from + RECORD)
+next-reversed {r} {s} {s₁} {from} n e =
+    record {
+      bytes = e ∙ ap₂ (λ (a b : List ℕ). a ++ (rev b ++ drop (from + RECORD) s)) (before-part (n .three)) (sliced-part (n .three))
+          ∙ ap₂ (λ (a b : List ℕ). records (map undo (n .done)) ++ (a ++ b)) (rev-rev (leafRecord (n .step))) (after-part (n .three));
+      start = n .three .start;
+      end = ap (λ (k : ℕ). from + k) (length-record25 (leafHead (n .step)));
+    }
+
+next-undoable : {r : List Leaf} {s : List ℕ} {from : ℕ} (n : Next r s from) → AllUndoable r → Undoable (n .step)
+next-undoable n u = go (all-right (n .done) (subst AllUndoable (n .splits) u))
+  where
+    go : {z : Leaf} {l : List Leaf} → AllUndoable (z ∷ l) → Undoable z
+    go (one h t) = h
+
+next-part : {r : List Leaf} {s s₁ : List ℕ} {from : ℕ} (n : Next r s from) → s₁ ≡ take from s ++ (rev (slice from (from + RECORD) s) ++ drop (from + RECORD) s) →
+    part from (from + RECORD) s₁ ≡ leafRecord (n .step) ++ []
+next-part n e = the-part (next-reversed n e) ∙ sym (append-nil (leafRecord (n .step)))
+
 -- one step further: the record reversed, then undone
 turned-on : (r : List Leaf) (s s₁ y : List ℕ) (from : ℕ) → Next r s from → AllUndoable r →
     s₁ ≡ take from s ++ (rev (slice from (from + RECORD) s) ++ drop (from + RECORD) s) →
-    ((x : Leaf) → Undoable x → part from (from + RECORD) s₁ ≡ leafRecord x → y ≡ leafRecord (undo x)) →
+    Undone (part from (from + RECORD) s₁) y →
     Turned r (putMid from (from + RECORD - from) s₁ y) (from + RECORD)
 unfolding records
 turned-on r s s₁ y from n u e c =
@@ -102,9 +126,9 @@ turned-on r s s₁ y from n u e c =
       todo = n .rest;
       splits = n .splits ∙ sym (append-assoc (n .done) (n .step ∷ []) (n .rest));
       at = omega (arith, n .at, length-append (n .done) (n .step ∷ []));
-      bytes = put-part three y ∙ ap (λ (z : List ℕ). p ++ (z ++ q)) (c (n .step) (undoable (all-right (n .done) (subst AllUndoable (n .splits) u))) (the-part three))
-          ∙ sym (append-assoc p (leafRecord (undo (n .step))) q)
-          ∙ ap (λ (z : List ℕ). (p ++ z) ++ q) (sym (append-nil (leafRecord (undo (n .step)))))
+      bytes = put-part (next-reversed n e) y
+          ∙ ap (λ (z : List ℕ). p ++ (z ++ q)) (step-undone (n .step) (next-undoable n u) (part from (from + RECORD) s₁) [] (next-part n e) c)
+          ∙ sym (append-assoc p (leafRecord (undo (n .step)) ++ []) q)
           ∙ ap (λ (z : List ℕ). z ++ q) (sym (records-append (map undo (n .done)) (undo (n .step) ∷ [])) ∙ ap records (sym (map-append undo (n .done) (n .step ∷ []))));
     }
   where
@@ -113,21 +137,6 @@ turned-on r s s₁ y from n u e c =
 
     q : List ℕ
     q = backBytes (n .rest)
-
-    x : List ℕ
-    x = leafRecord (n .step)
-
-    undoable : {z : Leaf} {l : List Leaf} → AllUndoable (z ∷ l) → Undoable z
-    undoable (one h t) = h
-
-    three : Three s₁ p x q from (from + RECORD)
-    three =
-        record {
-          bytes = e ∙ ap₂ (λ (a b : List ℕ). a ++ (rev b ++ drop (from + RECORD) s)) (before-part (n .three)) (sliced-part (n .three))
-              ∙ ap₂ (λ (a b : List ℕ). p ++ (a ++ b)) (rev-rev x) (after-part (n .three));
-          start = n .three .start;
-          end = ap (λ (k : ℕ). from + k) (length-record25 (leafHead (n .step)));
-        }
 
 -- given some steps that are turned
 module _ (entry : List ℕ) {before steps : List ℕ} {from : ℕ} (t : Turning before steps from) (e : before ≡ rev entry) where
@@ -145,9 +154,16 @@ module _ (entry : List ℕ) {before steps : List ℕ} {from : ℕ} (t : Turning 
       let y = length-append (rev (leafRecord (n .step))) (backBytes (n .rest)) in
       omega (arith, n .three .start, n .three .end, same-long)
 
+  pub record-starts : (l : List Leaf) × Holds entry l → from < length entry → {s₁ : List ℕ} →
+      s₁ ≡ take from steps ++ (rev (slice from (from + RECORD) steps) ++ drop (from + RECORD) steps) →
+      StartsRecord (part from (from + RECORD) s₁)
+  record-starts (l, h) k {s₁} p =
+      let n = next-of (reverse l) steps from (turned-of l h) (omega (arith, same-long)) in
+      step-starts (n .step) (next-undoable n (all-reverse (h .undoable))) (part from (from + RECORD) s₁) [] (next-part n p)
+
   pub turning-goes-on : (l : List Leaf) × Holds entry l → from < length entry → {s₁ y : List ℕ} →
       s₁ ≡ take from steps ++ (rev (slice from (from + RECORD) steps) ++ drop (from + RECORD) steps) →
-      ((x : Leaf) → Undoable x → part from (from + RECORD) s₁ ≡ leafRecord x → y ≡ leafRecord (undo x)) →
+      Undone (part from (from + RECORD) s₁) y →
       Turning before (putMid from (from + RECORD - from) s₁ y) (from + RECORD)
   turning-goes-on (l, h) k {s₁} {y} p c =
       record {

@@ -1,126 +1,95 @@
--- A record undone in place. Assumes nothing.
-use Prim.Native.Nat.{ℕ, _*_, _/_, _≤_, _<_}
+-- A step's record undone, by the law of records. Assumes nothing.
+use Prim.Native.Nat.{ℕ, suc, _-_, _^_, _<_}
 use mathlib.Core.Path.{_≡_, refl, sym, ap, _∙_}
-use mathlib.Core.List.{List}
+use mathlib.Core.Bool.{Bool, true, false}
+use mathlib.Core.List.{List, _++_}
 use native.Mathlib.Omega.{arith}
-use lib.IntN.{ℤ, pos, negℤ}
-use lib.ListN.{getD}
-use lib.Seq.{sets}
-use Rattle.notation.specs.Numbers.{bigEndian, digits, fromBits, toBits}
+use borrow.Author.Tests.{ltb-false, lt-ltb, le-ltb}
+use lib.Dec.{ltb}
+use lib.IntN.{ℤ, pos, negsuc, negℤ}
+use Rattle.notation.specs.Basics.{pick}
+use Rattle.notation.specs.Numbers.{fromBits, toBits}
 use Rattle.notation.specs.Tree.{Leaf, rotation, move, pause, pair, slash, megaminx}
-use Rattle.notation.specs.Packed.{layOut, leafHead, record25, leafRecord, leafFields, megaminxNumber}
-use Rattle.notation.specs.Invert.{undo, exchanged}
-use Rattle.notation.specs.declared.common.MegaminxScrambleMove.{MegaminxScrambleMove}
-use Rattle.notation.specs.declared.common.MegaminxScrambleMove.the-variants.{Rpp, Rmm, Dpp, Dmm}
-use Rattle.record.specs.Meaning.{field}
-use Rattle.expand.specs.Steps.{Undoable}
-use Rattle.nodes.proofs.Nodes.{kindOf, kind-field}
-use Rattle.expand.proofs.Steps.{step-fields, small-opposite, opposite-bits}
+use Rattle.notation.specs.Packed.{widths, layOut, leafHead, leafFields, record25, leafRecord}
+use Rattle.notation.specs.Invert.{undo}
+use Rattle.numbers.proofs.TwosComplement.{toBits-fromBits}
+use Rattle.record.specs.Range.{FitsNumber, FitsLeaf}
+use Rattle.record.specs.Undone.{StartsRecord}
+use Rattle.record.proofs.Undoing.{Undone, starts-with, undone-with}
+use Rattle.expand.specs.Steps.{Small, Undoable}
 
--- the number that a record holds in its fourth field, and the step with that number negated
-abbrev numberOf : Leaf → ℤ
-numberOf (rotation f c m) = m
-numberOf (move t l f c m) = m
-numberOf pause = pos 0
-numberOf (pair u d) = u
-numberOf slash = pos 0
-numberOf (megaminx k) = pos 0
+-- The record of a step that can be undone is that of a step that fits.
+abbrev wrap : ℤ → ℤ
+wrap z = fromBits 32 (toBits 32 z)
 
-abbrev half : Leaf → Leaf
-half (rotation f c m) = rotation f c (negℤ m)
-half (move t l f c m) = move t l f c (negℤ m)
-half pause = pause
-half (pair u d) = pair (negℤ u) d
-half slash = slash
-half (megaminx k) = megaminx k
+abbrev wrapped : Leaf → Leaf
+wrapped (rotation f c m) = rotation f c (wrap m)
+wrapped (move t l f c m) = move t l f c (wrap m)
+wrapped pause = pause
+wrapped (pair u d) = pair (wrap u) (wrap d)
+wrapped slash = slash
+wrapped (megaminx k) = megaminx k
 
-number-bits : (x : Leaf) → Undoable x → {n n′ : ℕ} → n ≡ field 3 (leafRecord x) → n′ ≡ toBits 32 (negℤ (fromBits 32 n)) → n′ ≡ toBits 32 (negℤ (numberOf x))
-number-bits x u {n} e e′ = e′ ∙ ap (λ (b : ℕ). toBits 32 (negℤ (fromBits 32 b))) (e ∙ step-fields x u 3) ∙ go x u
+small-bits : (z : ℤ) → Small z → toBits 32 z < 2 ^ 32
+small-bits (pos n) h = omega (arith, h .most)
+small-bits (negsuc n) h = omega (arith, h .most)
+
+wrap-fits : (n : ℕ) → n < 2 ^ 32 → FitsNumber (fromBits 32 n)
+wrap-fits n h = go (ltb n 2147483648) refl
   where
-    go : (x : Leaf) → Undoable x → toBits 32 (negℤ (fromBits 32 (getD (leafFields x) 3 0))) ≡ toBits 32 (negℤ (numberOf x))
-    go (rotation f c m) (a, b, h) = opposite-bits m h
-    go (move t l f c m) (a, b, d, h) = opposite-bits m h
-    go pause h = refl
-    go (pair u d) (h, k) = opposite-bits u h
-    go slash h = refl
-    go (megaminx k) h = refl
+    go : (t : Bool) → ltb n 2147483648 ≡ t → FitsNumber (pick t (pos n) (negsuc (2 ^ 32 - suc n)))
+    go true e = e
+    go false e = lt-ltb (2 ^ 32 - suc n) 2147483648 (omega (arith, ltb-false n 2147483648 e))
 
-half-put : (x : Leaf) → sets (leafRecord x) 5 (bigEndian 4 (toBits 32 (negℤ (numberOf x)))) ≡ leafRecord (half x)
-unfolding record25 layOut digits
-half-put (rotation f c m) = refl
-half-put (move t l f c m) = refl
-half-put pause = refl
-half-put (pair u d) = refl
-half-put slash = refl
-half-put (megaminx k) = refl
+wrapped-fits : (x : Leaf) → Undoable x → FitsLeaf (wrapped x)
+wrapped-fits (rotation f c m) (a, b, h) = (a, b, wrap-fits (toBits 32 m) (small-bits m h))
+wrapped-fits (move t l f c m) (a, b, d, h) = (a, b, d, wrap-fits (toBits 32 m) (small-bits m h))
+wrapped-fits pause h = tt
+wrapped-fits (pair u d) (h, k) = (wrap-fits (toBits 32 u) (small-bits u h), wrap-fits (toBits 32 d) (small-bits d k))
+wrapped-fits slash h = tt
+wrapped-fits (megaminx k) h = tt
 
-other-put : (u d e : ℤ) → sets (leafRecord (pair u d)) 9 (bigEndian 4 (toBits 32 e)) ≡ leafRecord (pair u e)
-unfolding record25 layOut digits
-other-put u d e = refl
+wrapped-fields : (x : Leaf) → Undoable x → leafFields (wrapped x) ≡ leafFields x
+wrapped-fields (rotation f c m) (a, b, h) = rw (toBits-fromBits 32 (toBits 32 m) (small-bits m h))
+wrapped-fields (move t l f c m) (a, b, d, h) = rw (toBits-fromBits 32 (toBits 32 m) (small-bits m h))
+wrapped-fields pause h = refl
+wrapped-fields (pair u d) (h, k) = rw (toBits-fromBits 32 (toBits 32 u) (small-bits u h), toBits-fromBits 32 (toBits 32 d) (small-bits d k))
+wrapped-fields slash h = refl
+wrapped-fields (megaminx k) h = refl
 
-kind-put : (k : MegaminxScrambleMove) → sets (leafRecord (megaminx k)) 0 (bigEndian 1 (megaminxNumber (exchanged k) * 16)) ≡ leafRecord (megaminx (exchanged k))
-unfolding record25 layOut digits
-kind-put Rpp = refl
-kind-put Rmm = refl
-kind-put Dpp = refl
-kind-put Dmm = refl
+-- the opposite in bits
+opposite-bits : (z : ℤ) → Small z → toBits 32 (negℤ (fromBits 32 (toBits 32 z))) ≡ toBits 32 (negℤ z)
+opposite-bits (pos n) h = go (ltb n 2147483648) refl
+  where
+    go : (t : Bool) → ltb n 2147483648 ≡ t → toBits 32 (negℤ (pick t (pos n) (negsuc (2 ^ 32 - suc n)))) ≡ toBits 32 (negℤ (pos n))
+    go true e = refl
+    go false e =
+        let last : n ≡ 2147483648 = omega (arith, ltb-false n 2147483648 e, h .most) in
+        rw last
+opposite-bits (negsuc n) h =
+    let high : ltb (2 ^ 32 - suc n) 2147483648 ≡ false = le-ltb (2 ^ 32 - suc n) 2147483648 (omega (arith, h .most)) in
+    let back : 2 ^ 32 - suc (2 ^ 32 - suc n) ≡ n = omega (arith, h .most) in
+    rw (high, back)
 
--- The three ways through `undo_record`: the multiplier was negated first.
-module _ (x : Leaf) (u : Undoable x) {s s₁ : List ℕ} (e : s ≡ leafRecord x) {k n n′ : ℕ} (ek : k ≡ field 0 s / 16) (en : n ≡ field 3 s)
-    (en′ : n′ ≡ toBits 32 (negℤ (fromBits 32 n))) (e₁ : s₁ ≡ sets s 5 (bigEndian 4 n′)) where
-  kind-is : k ≡ kindOf (leafHead x)
-  kind-is = ek ∙ ap (λ (b : List ℕ). field 0 b / 16) e ∙ ap (λ (b : ℕ). b / 16) (step-fields x u 0) ∙ kind-field (leafHead x)
+wrapped-undone : (x : Leaf) → Undoable x → leafFields (undo (wrapped x)) ≡ leafFields (undo x)
+wrapped-undone (rotation f c m) (a, b, h) = rw (opposite-bits m h)
+wrapped-undone (move t l f c m) (a, b, d, h) = rw (opposite-bits m h)
+wrapped-undone pause h = refl
+wrapped-undone (pair u d) (h, k) = rw (opposite-bits u h, opposite-bits d k)
+wrapped-undone slash h = refl
+wrapped-undone (megaminx k) h = refl
 
-  half-is : s₁ ≡ leafRecord (half x)
-  half-is =
-      e₁ ∙ ap (λ (b : List ℕ). sets b 5 (bigEndian 4 n′)) e
-      ∙ ap (λ (b : ℕ). sets (leafRecord x) 5 (bigEndian 4 b)) (number-bits x u (en ∙ ap (field 3) e) en′)
-      ∙ half-put x
+-- a step's record in front of other bytes
+module _ (x : Leaf) (u : Undoable x) (bs rest : List ℕ) (e : bs ≡ leafRecord x ++ rest) where
+  wrapped-is : bs ≡ leafRecord (wrapped x) ++ rest
+  unfolding record25
+  wrapped-is = e ∙ ap (λ (fs : List ℕ). layOut widths fs ++ rest) (sym (wrapped-fields x u))
 
-  pub undone-number : ((k ≡ 9) → ⊥) → k ≤ 10 → s₁ ≡ leafRecord (undo x)
-  undone-number h l = half-is ∙ go x kind-is
-    where
-      high : (j : MegaminxScrambleMove) → k ≡ megaminxNumber j → ⊥
-      high Rpp e = omega arith
-      high Rmm e = omega arith
-      high Dpp e = omega arith
-      high Dmm e = omega arith
+  pub step-starts : StartsRecord bs
+  step-starts = starts-with bs (leafHead (wrapped x)) rest (wrapped-fits x u) wrapped-is
 
-      go : (x : Leaf) → k ≡ kindOf (leafHead x) → leafRecord (half x) ≡ leafRecord (undo x)
-      go (rotation f c m) e = refl
-      go (move t l f c m) e = refl
-      go pause e = refl
-      go (pair u d) e = absurd (h e)
-      go slash e = refl
-      go (megaminx j) e = absurd (high j e)
-
-  pub undone-pair : k ≡ 9 → {o o′ : ℕ} {s₂ : List ℕ} → o ≡ field 4 s₁ → o′ ≡ toBits 32 (negℤ (fromBits 32 o)) → s₂ ≡ sets s₁ 9 (bigEndian 4 o′) → s₂ ≡ leafRecord (undo x)
-  undone-pair h {o} {o′} {s₂} eo eo′ e₂ = go x u (sym h ∙ kind-is) half-is
-    where
-      go : (x : Leaf) → Undoable x → 9 ≡ kindOf (leafHead x) → s₁ ≡ leafRecord (half x) → s₂ ≡ leafRecord (undo x)
-      go (rotation f c m) w q p = absurd (omega arith)
-      go (move t l f c m) w q p = absurd (omega arith)
-      go pause w q p = absurd (omega arith)
-      go (pair v d) (a, b) q p =
-          e₂ ∙ ap (λ (z : List ℕ). sets z 9 (bigEndian 4 o′)) p
-          ∙ ap (λ (z : ℕ). sets (leafRecord (pair (negℤ v) d)) 9 (bigEndian 4 z)) (eo′ ∙ ap (λ (z : ℕ). toBits 32 (negℤ (fromBits 32 z))) (eo ∙ ap (field 4) p ∙ step-fields (pair (negℤ v) d) (small-opposite a, b) 4) ∙ opposite-bits d b)
-          ∙ other-put (negℤ v) d (negℤ d)
-      go slash w q p = absurd (omega arith)
-      go (megaminx Rpp) w q p = absurd (omega arith)
-      go (megaminx Rmm) w q p = absurd (omega arith)
-      go (megaminx Dpp) w q p = absurd (omega arith)
-      go (megaminx Dmm) w q p = absurd (omega arith)
-
-  pub undone-kind : 10 < k → {r : ℕ} {s₂ : List ℕ} → ((j : MegaminxScrambleMove) → k ≡ megaminxNumber j → r ≡ megaminxNumber (exchanged j)) → s₂ ≡ sets s₁ 0 (bigEndian 1 (r * 16)) → s₂ ≡ leafRecord (undo x)
-  undone-kind h {r} {s₂} er e₂ = go x kind-is half-is
-    where
-      go : (x : Leaf) → k ≡ kindOf (leafHead x) → s₁ ≡ leafRecord (half x) → s₂ ≡ leafRecord (undo x)
-      go (rotation f c m) q p = absurd (omega arith)
-      go (move t l f c m) q p = absurd (omega arith)
-      go pause q p = absurd (omega arith)
-      go (pair v d) q p = absurd (omega arith)
-      go slash q p = absurd (omega arith)
-      go (megaminx j) q p =
-          e₂ ∙ ap (λ (z : List ℕ). sets z 0 (bigEndian 1 (r * 16))) p
-          ∙ ap (λ (z : ℕ). sets (leafRecord (megaminx j)) 0 (bigEndian 1 (z * 16))) (er j q)
-          ∙ kind-put j
+  pub step-undone : {out : List ℕ} → Undone bs out → out ≡ leafRecord (undo x) ++ rest
+  unfolding record25
+  step-undone w =
+      undone-with bs (leafHead (wrapped x)) rest (wrapped-fits x u) wrapped-is w
+      ∙ ap (λ (fs : List ℕ). layOut widths fs ++ rest) (wrapped-undone x u)

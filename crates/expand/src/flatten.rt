@@ -6,10 +6,9 @@ ghost use Prim.Native.Nat.{ℕ, _+_, _*_, _/_, _≤_};
 ghost use lib.IntN.{natAbs};
 ghost use lib.ListN.{length, take, drop};
 ghost use Rattle.notation.specs.Tree.{Node, Leaf};
-ghost use Rattle.notation.specs.Invert.{undo, exchanged as opposite};
+ghost use Rattle.notation.specs.Invert.{undo};
 ghost use Rattle.notation.specs.Numbers.{fromBits};
-ghost use Rattle.notation.specs.Packed.{RECORD as recordSize, leafRecord, unpack, megaminxNumber};
-ghost use Rattle.notation.specs.declared.common.MegaminxScrambleMove.{MegaminxScrambleMove};
+ghost use Rattle.notation.specs.Packed.{RECORD as recordSize, unpack};
 ghost use Rattle.notation.specs.Entries.{records};
 ghost use Rattle.notation.specs.Unroll.{copies, turned};
 ghost use Rattle.record.specs.Meaning.{field};
@@ -18,18 +17,17 @@ ghost use Rattle.laws.proofs.Unrolling.{backwards, flatBinary, flatNode, flat};
 ghost use Rattle.laws.proofs.Counting.{count, countNode};
 ghost use Rattle.nodes.specs.Nodes.{IsNode};
 ghost use Rattle.expand.specs.Meaning.{binaryKind};
-ghost use Rattle.expand.specs.Steps.{Undoable, Holds, Wrote, Room, Pair, either};
-use bytes::copy;
+ghost use Rattle.expand.specs.Steps.{Holds, Wrote, Room, Pair, either};
 use bytes::reverse;
 use nodes::first_end;
 use nodes::node_end;
-use numbers::big_endian::write_u8;
-use numbers::big_endian::write_u32;
 use numbers::signed::is_negative;
 use numbers::signed::magnitude;
-use numbers::signed::negate;
 use record::RECORD;
+use record::copy::copy_record;
 use record::fields;
+use record::kinds;
+use record::undo::undo_record;
 
 // Writes the steps of a tree to the front of out and answers their size in bytes.
 pub fn flatten(tree: &[u8], out: &mut [u8]) -> usize
@@ -41,7 +39,7 @@ pub fn flatten(tree: &[u8], out: &mut [u8]) -> usize
     let mut at = 0;
     while 0 < t.len() {
         // A leaf is one record, which is the step.
-        if 5 < fields::kind(t) {
+        if kinds::CONJUGATE < fields::kind(t) {
             copy_record(&t[0..RECORD], &mut out[at..]);
             at += RECORD;
             t = &t[RECORD..];
@@ -53,16 +51,6 @@ pub fn flatten(tree: &[u8], out: &mut [u8]) -> usize
         }
     }
     at
-}
-
-// Copies a record by way of bytes of its own: since these lie apart from both, the compiler may move many at a time.
-fn copy_record(from: &[u8], out: &mut [u8])
-    requires { ⌜ (length (now from) ≡ recordSize) × (length (now from) ≤ length (now out)) ⌝ }
-    ensures { λ _. ⌜ now (out .exit) ≡ take (length (now (from .entry))) (now (from .entry)) ++ drop (length (now (from .entry))) (now (out .entry)) ⌝ }
-{
-    let mut held = [0; RECORD];
-    copy(from, &mut held);
-    copy(&held, out);
 }
 
 // The same of a group, given its bytes. What is repeated 0 times is not entered.
@@ -78,11 +66,11 @@ fn flatten_node(node: &[u8], out: &mut [u8]) -> usize
     }
     let middle = first_end(node);
     let a = flatten(&node[RECORD..middle], out);
-    if kind < 4 {
+    if kind < kinds::COMMUTATOR {
         return repeat_block(out, a, multiplier);
     }
     let b = flatten(&node[middle..], &mut out[a..]);
-    let size = complete_binary(out, kind == 4, a, b);
+    let size = complete_binary(out, kind == kinds::COMMUTATOR, a, b);
     repeat_block(out, size, multiplier)
 }
 
@@ -145,36 +133,5 @@ fn turn(steps: &mut [u8])
         reverse(steps, from, to);
         undo_record(&mut steps[from..to]);
         from = to;
-    }
-}
-
-// Undoes the step of a record. The multiplier of a step that has none is 0, which stays.
-pub(crate) fn undo_record(step: &mut [u8])
-    requires { ⌜ length (now step) ≡ recordSize ⌝ }
-    ensures { λ _. ⌜ ((x : Leaf) → Undoable x → now (step .entry) ≡ leafRecord x → now (step .exit) ≡ leafRecord (undo x)) ⌝ }
-{
-    let kind = fields::kind(step);
-    let opposite = negate(fields::number(step));
-    write_u32(step, 5, opposite);
-    if kind == 9 {
-        let other = negate(fields::other(step));
-        write_u32(step, 9, other);
-        return;
-    }
-    if 10 < kind {
-        write_u8(step, 0, exchanged(kind) * 16);
-    }
-}
-
-// The kind of the opposite megaminx move.
-fn exchanged(kind: u8) -> u8
-    ensures { λ r. ⌜ r ≤ 14 ⌝ }
-    ensures { λ r. ⌜ ((k : MegaminxScrambleMove) → kind ≡ megaminxNumber k → r ≡ megaminxNumber (opposite k)) ⌝ }
-{
-    match kind {
-        11 => 12,
-        12 => 11,
-        13 => 14,
-        _ => 13,
     }
 }

@@ -1,7 +1,7 @@
 // The step at a place of the unrolled list, found by passing over whole nodes and whole repeats by their counts: the time
 // does not depend on the number of steps.
 ghost use mathlib.Core.Path.{_≡_};
-ghost use mathlib.Core.Bool.{Bool, false};
+ghost use mathlib.Core.Bool.{false};
 ghost use mathlib.Core.List.{_++_};
 ghost use mathlib.Core.Option.{Option};
 ghost use Prim.Native.Nat.{_+_, _*_, _≤_, _<_};
@@ -10,13 +10,12 @@ ghost use Rattle.notation.specs.Basics.{pick};
 ghost use Rattle.notation.specs.Tree.{Node, Leaf, Tree};
 ghost use Rattle.notation.specs.Invert.{undo};
 ghost use Rattle.notation.specs.Packed.{RECORD as recordSize, leafRecord, unpack};
-ghost use Rattle.notation.specs.declared.common.BinaryGroupKind.the-variants as kinds;
+ghost use Rattle.notation.specs.declared.common.BinaryGroupKind.the-variants as binary;
 ghost use Rattle.laws.proofs.Walking.{Packed};
 ghost use Rattle.laws.proofs.Counting.{count};
 ghost use Rattle.laws.proofs.Seeking as seeking;
 ghost use Rattle.expand.specs.Places.{undoIf, found, Within, Goes, Leads, Onward};
 ghost use Rattle.expand.specs.Steps.{Undoable};
-use crate::flatten::undo_record;
 use crate::visit::visit;
 use crate::visit::visit_node;
 use bytes::copy;
@@ -26,6 +25,8 @@ use numbers::signed::is_negative;
 use numbers::signed::magnitude;
 use record::RECORD;
 use record::fields;
+use record::kinds;
+use record::undo::undo_record;
 
 // Where to look on: the list from `from` to `to` of a node's bytes, for the step at a place of it, which is to be inverted or not.
 struct Way {
@@ -54,7 +55,7 @@ pub fn seek(tree: &[u8], place: u64, step: &mut [u8])
     let mut inverted = false;
     loop {
         // A leaf is one step.
-        if 5 < fields::kind(t) {
+        if kinds::CONJUGATE < fields::kind(t) {
             if at == 0 {
                 write_step(&t[0..RECORD], inverted, step);
                 return;
@@ -83,12 +84,13 @@ pub fn seek(tree: &[u8], place: u64, step: &mut [u8])
 
 // Writes a step's record, undone if it is inverted.
 fn write_step(from: &[u8], inverted: bool, step: &mut [u8])
+    requires { ⌜ ((x : Leaf) × (Undoable x × (now from ≡ leafRecord x))) ⌝ }
     requires { ⌜ (length (now from) ≡ recordSize) × (recordSize ≤ length (now step)) ⌝ }
     ensures { λ _. ⌜ ((x : Leaf) → Undoable x → now (from .entry) ≡ leafRecord x → now (step .exit) ≡ leafRecord (pick inverted (undo x) x) ++ drop recordSize (now (step .entry))) ⌝ }
 {
     copy(from, step);
     if inverted {
-        undo_record(&mut step[0..RECORD]);
+        undo_record(step);
     }
 }
 
@@ -112,14 +114,14 @@ fn in_block(node: &[u8], steps: u64, at: u64) -> Way
     let inverted = is_negative(multiplier);
     let middle = first_end(node);
     let kind = fields::kind(node);
-    if kind < 4 {
+    if kind < kinds::COMMUTATOR {
         let whole = List { from: RECORD, to: middle, count };
         return in_list(whole, place, inverted);
     }
     let inside = visit(&node[RECORD..middle]);
     let a = inside.steps;
     let first = List { from: RECORD, to: middle, count: a };
-    if kind == 5 {
+    if kind == kinds::CONJUGATE {
         let second = List { from: middle, to: node.len(), count: count - 2 * a };
         return in_conjugate(first, second, place, inverted);
     }
@@ -133,7 +135,7 @@ fn in_block(node: &[u8], steps: u64, at: u64) -> Way
 // In A B A' B'.
 fn in_commutator(a: List, b: List, place: u64) -> Way
     requires { ⌜ place < 2 * (a .count + b .count) ⌝ }
-    ensures { λ r. ⌜ ((l m : Tree) → count l ≡ a .count → count m ≡ b .count → Leads a b l m (seeking.seekBinary kinds.Commutator false (count l) (count m) (λ e k. seeking.seek e l k) (λ e k. seeking.seek e m k) place) r) ⌝ }
+    ensures { λ r. ⌜ ((l m : Tree) → count l ≡ a .count → count m ≡ b .count → Leads a b l m (seeking.seekBinary binary.Commutator false (count l) (count m) (λ e k. seeking.seek e l k) (λ e k. seeking.seek e m k) place) r) ⌝ }
 {
     if place < a.count {
         return in_list(a, place, false);
@@ -152,7 +154,7 @@ fn in_commutator(a: List, b: List, place: u64) -> Way
 // In A B A', or A B' A' inverted.
 fn in_conjugate(a: List, b: List, place: u64, inverted: bool) -> Way
     requires { ⌜ place < 2 * a .count + b .count ⌝ }
-    ensures { λ r. ⌜ ((l m : Tree) → count l ≡ a .count → count m ≡ b .count → Leads a b l m (seeking.seekBinary kinds.Conjugate inverted (count l) (count m) (λ e k. seeking.seek e l k) (λ e k. seeking.seek e m k) place) r) ⌝ }
+    ensures { λ r. ⌜ ((l m : Tree) → count l ≡ a .count → count m ≡ b .count → Leads a b l m (seeking.seekBinary binary.Conjugate inverted (count l) (count m) (λ e k. seeking.seek e l k) (λ e k. seeking.seek e m k) place) r) ⌝ }
 {
     if place < a.count {
         return in_list(a, place, false);

@@ -17,6 +17,7 @@ use numbers::signed::is_negative;
 use numbers::signed::magnitude;
 use record::RECORD;
 use record::fields;
+use record::kinds;
 
 // One more than the most steps that are counted: a count that reaches it is held there.
 const HELD: u64 = 4294967296;
@@ -46,7 +47,7 @@ pub fn visit(tree: &[u8]) -> Summary
     };
     while 0 < t.len() {
         // A leaf, which most nodes are, is one record: its counts need not be read.
-        if 5 < fields::kind(t) {
+        if kinds::CONJUGATE < fields::kind(t) {
             sum = join(sum, of_leaf(overflows(t)));
             t = &t[RECORD..];
         } else {
@@ -69,11 +70,11 @@ pub(crate) fn visit_node(node: &[u8]) -> Summary
     let multiplier = fields::number(node);
     let middle = first_end(node);
     let a = visit(&node[RECORD..middle]);
-    if kind < 4 {
-        return of_block(kind == 3, multiplier, a);
+    if kind < kinds::COMMUTATOR {
+        return of_block(kind == kinds::NISS, multiplier, a);
     }
     let b = visit(&node[middle..]);
-    of_block(false, multiplier, of_binary(kind == 4, a, b))
+    of_block(false, multiplier, of_binary(kind == kinds::COMMUTATOR, a, b))
 }
 
 // A pair with −2147483648, which has no negative in 32 bits.
@@ -81,7 +82,7 @@ fn overflows(node: &[u8]) -> bool
     requires { ⌜ recordSize ≤ length (now node) ⌝ }
     ensures { λ r. ⌜ r ≡ overflowsAt (now (node .entry)) ⌝ }
 {
-    fields::kind(node) == 9
+    fields::kind(node) == kinds::PAIR
         && (fields::number(node) == 2147483648 || fields::other(node) == 2147483648)
 }
 

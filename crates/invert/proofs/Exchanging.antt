@@ -17,7 +17,7 @@ use Rattle.laws.proofs.Packing.{length-pack}
 use Rattle.laws.proofs.Walking.{two-lists}
 use Rattle.laws.proofs.Inverses.{deeply, deeplyNode, deeplyBody}
 use Rattle.invert.specs.Nodes.{OneNode}
-use Rattle.invert.proofs.Storing.{store-field}
+use Rattle.record.proofs.Storing.{store-field}
 use Rattle.invert.proofs.Nodes.{ByNode, by-node, leaf-kind, group-kind}
 use Rattle.invert.proofs.Loops.{putPart, put-last, rest-is}
 

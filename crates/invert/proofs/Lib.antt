@@ -1,6 +1,5 @@
--- A field stored in a record, and a record undone.
-pub mod Storing
-pub mod Undoing
+-- When a pair has no inverse.
+pub mod Refusing
 -- Nodes, and the loops over them that write backwards or look for the last refusal.
 pub mod Nodes
 pub mod Loops

@@ -1,13 +1,13 @@
 -- The node at the front of a packed list, and the bytes of one node: its record, its inverses, a group's lists. Assumes nothing.
 use Prim.Native.Nat.{ℕ, _+_, _-_, _*_, _/_, _≤_, _<_}
-use mathlib.Core.Path.{_≡_, refl, sym, ap, ap₂, _∙_, subst}
+use mathlib.Core.Path.{_≡_, refl, sym, ap, ap₂, _∙_}
 use mathlib.Core.List.{List, [], _++_, append-nil, append-assoc}
 use mathlib.Core.Option.{Option, none, some}
 use native.Mathlib.Omega.{arith}
 use lib.Dec.{lit<, lit≤}
 use lib.IntN.{ℤ, negℤ}
 use lib.ListN.{length, take, drop, length-append, length-drop}
-use lib.Seq.{take-at, drop-at, length-take-le}
+use lib.Seq.{take-at, length-take-le}
 use Rattle.notation.specs.Refusals.{NISS}
 use Rattle.notation.specs.Tree.{Leaf, rotation, move, pause, pair, slash, megaminx, Node, leaf, block, Body, group, binaryGroup, nil, cons, append, Tree}
 use Rattle.notation.specs.Packed.{RECORD, Head, leafHead, groupHead, binaryHead, record25, groupNumber, size, bodyHead, packNode, packBody, pack, headAt, unpack}
@@ -17,13 +17,14 @@ use Rattle.notation.specs.declared.common.BinaryGroupKind.the-variants.{Commuta
 use Rattle.notation.specs.declared.common.MegaminxScrambleMove.the-variants.{Rpp, Rmm, Dpp, Dmm}
 use Rattle.record.specs.Meaning.{field}
 use Rattle.record.specs.Range.{FitsHead}
-use Rattle.record.proofs.RoundTrip.{length-record25, headAt-record25}
+use Rattle.record.specs.Undone.{StartsRecord, undoneHead}
+use Rattle.record.proofs.RoundTrip.{length-record25}
+use Rattle.record.proofs.Undoing.{kindOf, kind-is, Undone, head-with, starts-with, undone-with}
 use Rattle.laws.proofs.Packing.{FitsNode, FitsTree, length-pack}
 use Rattle.laws.proofs.Walking.{Packed, nodeHead, inside, Step, first-node, one-list, two-lists}
 use Rattle.laws.proofs.Inverses.{inverted, deeply, deeplyNode, deeplyBody, deepRefusal, deepRefusalNode, deepRefusalBody, nissFirst}
 use Rattle.laws.proofs.WellFormedInverses.{deeply-size}
-use Rattle.invert.specs.Nodes.{StartsRecord, OneNode, undoneHead, headRefusal, Inner}
-use Rattle.invert.proofs.Undoing.{kindOf, kind-is}
+use Rattle.invert.specs.Nodes.{OneNode, headRefusal, Inner}
 use Rattle.invert.proofs.Loops.{rest-is}
 
 node-bytes : (n : Node Leaf) (l : Tree) → pack (cons n l) ≡ record25 (nodeHead n) ++ (inside n ++ pack l)
@@ -35,18 +36,6 @@ node-head-fits : (n : Node Leaf) → FitsNode n → FitsHead (nodeHead n)
 unfolding FitsNode
 node-head-fits (leaf x) f = f
 node-head-fits (block b m) f = f .0
-
--- bytes that are a record and more
-starts-with : (bs : List ℕ) (h : Head) (rest : List ℕ) → FitsHead h → bs ≡ record25 h ++ rest → StartsRecord bs
-starts-with bs h rest f e =
-    record {
-      whole = ap₂ (λ (g : Head) (s : List ℕ). record25 g ++ s) head (ap (drop RECORD) e ∙ drop-at (record25 h) rest RECORD (length-record25 h)) ∙ sym e;
-      fits = subst FitsHead (sym head) f;
-      long = let z : length bs ≡ RECORD + length rest = (ap length e ∙ length-append (record25 h) rest ∙ ap (λ (k : ℕ). k + length rest) (length-record25 h)) in omega arith;
-    }
-  where
-    head : headAt bs ≡ h
-    head = ap headAt e ∙ headAt-record25 h rest f
 
 pub step-starts : {bs : List ℕ} {n : Node Leaf} {l : Tree} {e : ℕ} → Packed bs → Step bs n l e → StartsRecord bs
 step-starts {bs} {n} {l} p s =
@@ -82,7 +71,7 @@ module _ (bs : List ℕ) (o : OneNode bs) where
   one-parts = sym (o .packed .whole) ∙ ap pack (o .unpacks) ∙ node-bytes (o .node) nil ∙ ap (λ (s : List ℕ). record25 (nodeHead (o .node)) ++ s) (append-nil (inside (o .node)))
 
   one-head : headAt bs ≡ nodeHead (o .node)
-  one-head = ap headAt one-parts ∙ headAt-record25 (nodeHead (o .node)) (inside (o .node)) (node-head-fits (o .node) one-fits)
+  one-head = head-with bs (nodeHead (o .node)) (inside (o .node)) (node-head-fits (o .node) one-fits) one-parts
 
   one-kind : field 0 bs / 16 ≡ kindOf (nodeHead (o .node))
   one-kind = kind-is bs one-starts ∙ ap kindOf one-head
@@ -114,10 +103,9 @@ unfolding pack packNode inverted append
 undone-node (leaf x) = refl
 undone-node (block b m) = ap (λ (h : Head). record25 h ++ packBody b) (undone-body b m) ∙ sym (append-nil (record25 (bodyHead b (negℤ m)) ++ packBody b))
 
-pub inverted-one : (bs : List ℕ) → OneNode bs → record25 (undoneHead (headAt bs)) ++ drop RECORD bs ≡ pack (inverted (unpack bs))
-inverted-one bs o =
-    ap₂ (λ (h : Head) (s : List ℕ). record25 (undoneHead h) ++ s) (one-head bs o)
-    (ap (drop RECORD) (one-parts bs o) ∙ drop-at (record25 (nodeHead (o .node))) (inside (o .node)) RECORD (length-record25 (nodeHead (o .node))))
+pub inverted-one : (bs out : List ℕ) → OneNode bs → Undone bs out → out ≡ pack (inverted (unpack bs))
+inverted-one bs out o u =
+    undone-with bs (nodeHead (o .node)) (inside (o .node)) (node-head-fits (o .node) (one-fits bs o)) (one-parts bs o) u
     ∙ undone-node (o .node)
     ∙ sym (ap (λ (t : Tree). pack (inverted t)) (o .unpacks))
 
@@ -244,7 +232,7 @@ unfolding packNode deepRefusal deepRefusalNode
 leaf-refused bs o h = by-node bs o go
   where
     head-of : (x : Leaf) → FitsNode (leaf x) → packNode (leaf x) ≡ bs → headAt bs ≡ leafHead x
-    head-of x f e = ap headAt (sym e ∙ sym (append-nil (record25 (leafHead x)))) ∙ headAt-record25 (leafHead x) [] (node-head-fits (leaf x) f)
+    head-of x f e = head-with bs (leafHead x) [] (node-head-fits (leaf x) f) (sym e ∙ sym (append-nil (record25 (leafHead x))))
 
     go : ByNode bs (headRefusal (headAt bs) ≡ deepRefusal (unpack bs))
     go (leaf x) f e u k = ap headRefusal (head-of x f e) ∙ sym (ap deepRefusal u)

@@ -1,24 +1,14 @@
--- Records and nodes as the inverses take them.
+-- Nodes as the inverses take them.
 use Prim.Native.Nat.{ℕ, _/_, _≤_}
 use mathlib.Core.Path.{_≡_}
 use mathlib.Core.List.{List, _++_}
 use mathlib.Core.Option.{Option, none, some}
-use lib.IntN.{negℤ}
 use lib.ListN.{length, take, drop}
-use Rattle.notation.specs.Numbers.{toBits, fromBits}
 use Rattle.notation.specs.Tree.{Leaf, Node, nil, cons}
-use Rattle.notation.specs.Packed.{RECORD, Head, leafHead, groupHead, binaryHead, record25, headAt, pack, unpack}
-use Rattle.notation.specs.Invert.{undo}
+use Rattle.notation.specs.Packed.{RECORD, Head, leafHead, groupHead, binaryHead, pack, unpack}
 use Rattle.record.specs.Meaning.{field}
-use Rattle.record.specs.Range.{FitsHead}
 use Rattle.laws.proofs.Inverses.{leafRefusal, deeply, deepRefusal}
 use Rattle.laws.proofs.Walking.{Packed}
-
--- bytes whose first record is one that packing writes
-pub record StartsRecord (bs : List ℕ) : Type 0 where
-  pub whole : record25 (headAt bs) ++ drop RECORD bs ≡ bs
-  pub fits : FitsHead (headAt bs)
-  pub long : RECORD ≤ length bs
 
 -- the bytes of one node
 pub record OneNode (bs : List ℕ) : Type 0 where
@@ -26,16 +16,6 @@ pub record OneNode (bs : List ℕ) : Type 0 where
   pub packed : Packed bs
   pub unpacks : unpack bs ≡ cons node nil
   pub long : RECORD ≤ length bs
-
--- the bits of a number negated
-abbrev pub negated : ℕ → ℕ
-negated bits = toBits 32 (negℤ (fromBits 32 bits))
-
--- a record undone: a step, or a group as a whole
-abbrev pub undoneHead : Head → Head
-undoneHead (leafHead x) = leafHead (undo x)
-undoneHead (groupHead k n m) = groupHead k n (negℤ m)
-undoneHead (binaryHead k n n′ m) = binaryHead k n n′ (negℤ m)
 
 -- a refusal, or else what was found before
 abbrev pub over : Option ℕ → ℕ → ℕ

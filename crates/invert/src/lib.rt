@@ -2,7 +2,7 @@
 // written at its place counted from the end.
 
 pub mod parts;
-pub mod undo;
+pub mod refusal;
 
 ghost use mathlib.Core.Path.{_≡_};
 ghost use Prim.Native.Nat.{_/_};
@@ -13,16 +13,14 @@ ghost use Rattle.laws.proofs.Walking.{Packed};
 ghost use Rattle.laws.proofs.Inverses.{inverted, invRefusal, deeply, deepRefusal};
 ghost use Rattle.invert.specs.Nodes.{OneNode, over};
 use numbers::big_endian::write_u16;
-use parts::COMMUTATOR;
-use parts::CONJUGATE;
-use parts::NISS;
 use parts::copy;
 use parts::inner_start;
 use parts::node_end;
 use record::RECORD;
 use record::fields;
-use undo::pair_refusal;
-use undo::undo_record;
+use record::kinds;
+use record::undo::undo_record;
+use refusal::pair_refusal;
 
 // The refusal of a NISS group, which has no deep inverse.
 const HAS_NISS: u8 = 7;
@@ -97,13 +95,13 @@ fn node_refusal(node: &[u8], before: u8) -> u8
     ensures { λ r. ⌜ r ≡ over (deepRefusal (unpack (now (node .entry)))) before ⌝ }
 {
     let kind = fields::kind(node);
-    if kind == NISS {
+    if kind == kinds::NISS {
         return HAS_NISS;
     }
-    if kind == COMMUTATOR {
+    if kind == kinds::COMMUTATOR {
         return before;
     }
-    if CONJUGATE < kind {
+    if kinds::CONJUGATE < kind {
         return pair_refusal(node, before);
     }
     let m = inner_start(node);
@@ -133,11 +131,11 @@ fn inv_deep_node(node: &[u8], out: &mut [u8])
     ensures { λ _. ⌜ now (out .exit) ≡ pack (deeply (unpack (now (node .entry)))) ⌝ }
 {
     let kind = fields::kind(node);
-    if CONJUGATE < kind {
+    if kinds::CONJUGATE < kind {
         inv_node(node, out);
         return;
     }
-    if kind == COMMUTATOR {
+    if kind == kinds::COMMUTATOR {
         exchange_lists(node, out);
         return;
     }

@@ -8,13 +8,7 @@ ghost use Rattle.laws.proofs.Walking.{Packed, Step};
 ghost use Rattle.invert.specs.Nodes.{OneNode, Inner};
 use record::RECORD;
 use record::fields;
-
-// Kinds of records: groups up to NISS, then the binary groups, then leaves.
-pub const NISS: u8 = 3;
-
-pub const COMMUTATOR: u8 = 4;
-
-pub const CONJUGATE: u8 = 5;
+use record::kinds;
 
 // Where the first node ends.
 pub fn node_end(t: &[u8]) -> usize
@@ -34,7 +28,7 @@ pub fn inner_start(node: &[u8]) -> usize
     requires { ⌜ (field 0 (now node) / 16 ≡ 4 → ⊥) ⌝ }
     ensures { λ r. ⌜ Inner (now (node .entry)) r ⌝ }
 {
-    if fields::kind(node) == CONJUGATE {
+    if fields::kind(node) == kinds::CONJUGATE {
         let first = fields::first(node);
         RECORD + RECORD * (first as usize)
     } else {

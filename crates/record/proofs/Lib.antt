@@ -3,3 +3,7 @@ pub mod Cut
 pub mod Packed
 pub mod RoundTrip
 pub mod Same
+-- A record copied, a field stored in it, and a record undone.
+pub mod Copying
+pub mod Storing
+pub mod Undoing

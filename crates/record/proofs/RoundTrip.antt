@@ -61,7 +61,7 @@ use Rattle.record.specs.Range.{FitsSpan, FitsFamily, FitsConstraints, Fi
 use Rattle.record.proofs.Cut.{Fits, none as no-field, one as and-field, length-layOut, layOut-below, cut-layOut}
 use Rattle.record.proofs.Packed.{bit-lt, present-lt, layerForm-lt, groupNumber-lt, binaryNumber-lt, megaminxNumber-lt}
 
-length-headFields : (h : Head) → length (headFields h) ≡ 11
+pub length-headFields : (h : Head) → length (headFields h) ≡ 11
 length-headFields (leafHead (rotation f c m)) = refl
 length-headFields (leafHead (move t l f c m)) = refl
 length-headFields (leafHead pause) = refl

@@ -11,7 +11,7 @@ use crate::spanned::Rotation;
 use crate::spanned::Span;
 use crate::spanned::SpanOption;
 
-// What a record of kind 6 says.
+// What a record of a rotation says.
 pub fn rotation(t: &[u8]) -> Rotation
     requires { ⌜ RECORD ≤ length (now t) ⌝ }
     ensures { λ r. ⌜ leafHead (meaning.rotationLeaf r) ≡ meaning.rotationAt (now (t .entry)) ⌝ }
@@ -23,7 +23,7 @@ pub fn rotation(t: &[u8]) -> Rotation
     }
 }
 
-// What a record of kind 7 says.
+// What a record of a move says.
 pub fn layered_move(t: &[u8]) -> Move
     requires { ⌜ RECORD ≤ length (now t) ⌝ }
     ensures { λ r. ⌜ leafHead (meaning.moveLeaf r) ≡ meaning.moveAt (now (t .entry)) ⌝ }

@@ -10,6 +10,7 @@ ghost use Rattle.notation.specs.Tree as tree;
 ghost use Rattle.notation.specs.Packed as packed;
 ghost use Rattle.record.specs.Meaning as meaning;
 use crate::fields;
+use crate::kinds;
 use crate::spanned::LayerPrefixContents;
 use crate::spanned::Move;
 use crate::spanned::Rotation;
@@ -113,19 +114,19 @@ pub fn binary_group_fields(kind: BinaryGroupKind, first: u16, second: u16, multi
 pub fn pause_fields() -> Fields
     ensures { λ f. ⌜ meaning.listed f ≡ packed.headFields (packed.leafHead tree.pause) ⌝ }
 {
-    without_parts(8, 0, 0, 0, 0)
+    without_parts(kinds::PAUSE, 0, 0, 0, 0)
 }
 
 pub fn pair_fields(u: u32, d: u32) -> Fields
     ensures { λ f. ⌜ meaning.listed f ≡ packed.headFields (packed.leafHead (tree.pair (fromBits 32 u) (fromBits 32 d))) ⌝ }
 {
-    without_parts(9, 0, 0, u, d)
+    without_parts(kinds::PAIR, 0, 0, u, d)
 }
 
 pub fn slash_fields() -> Fields
     ensures { λ f. ⌜ meaning.listed f ≡ packed.headFields (packed.leafHead tree.slash) ⌝ }
 {
-    without_parts(10, 0, 0, 0, 0)
+    without_parts(kinds::SLASH, 0, 0, 0, 0)
 }
 
 pub fn megaminx_fields(k: MegaminxScrambleMove) -> Fields
@@ -157,7 +158,7 @@ pub fn rotation_fields(x: Rotation) -> Fields
     let c = x.constraints;
     let family = x.family;
     Fields {
-        small: 6 * 16 + present(c),
+        small: kinds::ROTATION * 16 + present(c),
         first: 0,
         second: 0,
         number: x.multiplier,
@@ -175,7 +176,7 @@ pub fn move_fields(x: Move) -> Fields
     let c = x.constraints;
     let family = x.family;
     Fields {
-        small: 7 * 16 + x.inverted as u8 * 8 + layer_form(l) * 2 + present(c),
+        small: kinds::MOVE * 16 + x.inverted as u8 * 8 + layer_form(l) * 2 + present(c),
         first: 0,
         second: 0,
         number: x.multiplier,
@@ -190,10 +191,10 @@ fn group_number(k: GroupKind) -> u8
     ensures { λ r. ⌜ r ≡ packed.groupNumber k ⌝ }
 {
     match k {
-        GroupKind::Simple => 0,
-        GroupKind::Macro => 1,
-        GroupKind::Simultaneous => 2,
-        GroupKind::Niss => 3,
+        GroupKind::Simple => kinds::SIMPLE,
+        GroupKind::Macro => kinds::MACRO,
+        GroupKind::Simultaneous => kinds::SIMULTANEOUS,
+        GroupKind::Niss => kinds::NISS,
     }
 }
 
@@ -201,8 +202,8 @@ fn binary_number(k: BinaryGroupKind) -> u8
     ensures { λ r. ⌜ r ≡ packed.binaryNumber k ⌝ }
 {
     match k {
-        BinaryGroupKind::Commutator => 4,
-        BinaryGroupKind::Conjugate => 5,
+        BinaryGroupKind::Commutator => kinds::COMMUTATOR,
+        BinaryGroupKind::Conjugate => kinds::CONJUGATE,
     }
 }
 
@@ -210,10 +211,10 @@ fn megaminx_number(k: MegaminxScrambleMove) -> u8
     ensures { λ r. ⌜ r ≡ packed.megaminxNumber k ⌝ }
 {
     match k {
-        MegaminxScrambleMove::Rpp => 11,
-        MegaminxScrambleMove::Rmm => 12,
-        MegaminxScrambleMove::Dpp => 13,
-        MegaminxScrambleMove::Dmm => 14,
+        MegaminxScrambleMove::Rpp => kinds::R_PLUS,
+        MegaminxScrambleMove::Rmm => kinds::R_MINUS,
+        MegaminxScrambleMove::Dpp => kinds::D_PLUS,
+        MegaminxScrambleMove::Dmm => kinds::D_MINUS,
     }
 }
 

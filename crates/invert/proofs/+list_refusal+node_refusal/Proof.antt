@@ -21,7 +21,7 @@ use Rattle.invert.proofs.node_refusal.Kinds as node-refusal-kinds
 use Rattle.invert.proofs.+list_refusal+node_refusal.Lts-node_refusal as node-refusal-lts
 use Rattle.invert.proofs.parts.inner_start.Reads as inner-start-reads
 use Rattle.invert.proofs.parts.node_end.Reads as node-end-reads
-use Rattle.invert.proofs.undo.pair_refusal.Reads as pair-refusal-reads
+use Rattle.invert.proofs.refusal.pair_refusal.Reads as pair-refusal-reads
 use Rattle.record.proofs.fields.kind.Reads as kind-reads
 use Rattle.invert.proofs.+list_refusal+node_refusal.{statement}
 use Rattle.invert.proofs.+list_refusal+node_refusal.Tie.{close}

@@ -1,10 +1,9 @@
 -- `invert::inv_node` meets its contract: the copy with its first record undone. Assumes nothing.
 use Prim.Native.Nat.{ℕ}
-use mathlib.Core.Path.{sym, ap, subst, _∙_}
-use mathlib.Core.List.{List, _++_}
-use lib.ListN.{drop}
-use Rattle.notation.specs.Packed.{RECORD, record25, headAt}
-use Rattle.invert.specs.Nodes.{StartsRecord, undoneHead}
+use mathlib.Core.Path.{sym, subst}
+use mathlib.Core.List.{List}
+use Rattle.record.specs.Undone.{StartsRecord}
+use Rattle.record.proofs.Undoing.{Undone}
 use Rattle.invert.proofs.Nodes.{one-starts, inverted-one}
 use borrow.Author.Needs.{needs}
 use Rattle.invert.proofs.inv_node.Statement.{statement}
@@ -27,9 +26,7 @@ returns c =
     let undone = c .before .before in
     let copied = undone .before .before .before .before in
     let start = copied .before .before .before .before in
-    undone .undo-record .ensures
-    ∙ ap (λ (s : List ℕ). record25 (undoneHead (headAt s)) ++ drop RECORD s) (copied .copy .ensures)
-    ∙ inverted-one (start .args .node .now) (start .pre .0)
+    inverted-one (start .args .node .now) _ (start .pre .0) (subst (λ (s : List ℕ). Undone s (undone .undo-record .last .0)) (copied .copy .ensures) (undone .undo-record .ensures))
 
 pub inv-node-spec : {M : Type 1} → statement M
 inv-node-spec = tie.close (tie.spec copy-requires undo-record-requires same-length returns)

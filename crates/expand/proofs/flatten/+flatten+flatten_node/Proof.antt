@@ -36,7 +36,7 @@ use Rattle.expand.proofs.flatten.+flatten+flatten_node.Lts-flatten as f
 use Rattle.expand.proofs.flatten.flatten_node.Reads as flatten-node
 use Rattle.expand.proofs.flatten.flatten_node.Kinds as flatten-node-kinds
 use Rattle.expand.proofs.flatten.+flatten+flatten_node.Lts-flatten_node as flatten-node-lts
-use Rattle.expand.proofs.flatten.copy_record.Reads as copy-record-reads
+use Rattle.record.proofs.copy.copy_record.Reads as copy-record-reads
 use Rattle.expand.proofs.flatten.complete_binary.Reads as complete-binary-reads
 use Rattle.expand.proofs.flatten.repeat_block.Reads as repeat-block-reads
 use Rattle.nodes.proofs.walk.first_end.Reads as first-end-reads

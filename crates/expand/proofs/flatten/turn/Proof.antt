@@ -3,8 +3,7 @@ use Prim.Native.Nat.{_-_}
 use mathlib.Core.Path.{_∙_}
 use native.Mathlib.Omega.{arith}
 use borrow.Author.Needs.{needs}
-use Rattle.expand.proofs.Turning.{Turning, turning-starts, turning-goes-on, turned-whole, same-long, record-left, whole-reversed}
-use Rattle.expand.proofs.Parts.{part-long}
+use Rattle.expand.proofs.Turning.{Turning, turning-starts, turning-goes-on, turned-whole, same-long, record-left, record-starts, whole-reversed}
 use Rattle.expand.proofs.flatten.turn.Statement.{statement}
 use Rattle.expand.proofs.flatten.turn.Tie as tie
 
@@ -37,7 +36,10 @@ part-undo-record-end c = omega (arith, record-left (c .before .before .before .b
 
 undo-record-requires : tie.Need-undo-record-requires Inv-loop μ-loop
 undo-record-requires c κs =
-    part-long (c .before .before .before .before .before .before .loop .from) (c .before .before .before .reverse2 .last .0) (omega (arith, record-left (c .before .before .before .before .before .before .before .before .before .before .before .before .args .steps .now) (c .before .before .before .before .before .before .loop .inv) (c .before .before .before .before .before .before .before .before .before .reverse .ensures ∙ whole-reversed _) (c .before .before .before .before .before .before .before .before .before .before .before .before .pre) (c .before .before .before .before .before .loop-test .taken), same-long (c .before .before .before .before .before .before .before .before .before .before .before .before .args .steps .now) (c .before .before .before .before .before .before .loop .inv) (c .before .before .before .before .before .before .before .before .before .reverse .ensures ∙ whole-reversed _), c .before .before .before .reverse2 .kept .0))
+    let reversed = c .before .before .before in
+    let at-loop = reversed .before .before .before in
+    let start = at-loop .before .before .before .before .before .before in
+    record-starts (start .args .steps .now) (at-loop .loop .inv) (at-loop .before .before .before .reverse .ensures ∙ whole-reversed _) (start .pre) (reversed .before .before .loop-test .taken) (reversed .reverse2 .ensures)
 
 loop-less : tie.Need-loop-less Inv-loop μ-loop
 loop-less c = omega (arith, c .before .before .before .before .before .before .before .before .loop-test .taken)

@@ -5,7 +5,7 @@ use native.Mathlib.Omega.{arith}
 use lib.Dec.{lit≤}
 use lib.ListN.{length}
 use Rattle.nodes.proofs.Nodes.{record-room, rest-less, first-low, first-leaf, leaf-record}
-use Rattle.expand.proofs.Seeking.{Sought, sought-starts, sought-some, steps-of, sought-past, sought-inside, in-block, leaf-steps, found-leaf, inside-less}
+use Rattle.expand.proofs.Seeking.{Sought, sought-starts, sought-some, steps-of, sought-past, sought-inside, in-block, leaf-steps, leaf-step, found-leaf, inside-less}
 use Rattle.expand.proofs.seek.seek.Statement.{statement}
 use Rattle.expand.proofs.seek.seek.Tie as tie
 
@@ -31,7 +31,11 @@ part-write-step-end : tie.Need-part-write-step-end Inv-loop μ-loop
 part-write-step-end c = record-room _ (c .before .before .before .loop .inv .0 .packed) (sought-some (c .before .before .before .loop .inv .0))
 
 write-step-requires : tie.Need-write-step-requires Inv-loop μ-loop
-write-step-requires c κs = (leaf-record (first-leaf (c .before .before .before .before .before .loop .inv .0 .packed) (sought-some (c .before .before .before .before .before .loop .inv .0)) (c .before .before .before .before .kind .ensures) (c .before .before .before .if1 .taken)), omega (arith, ap length (c .before .before .before .before .before .loop .inv .1), c .before .before .before .before .before .before .before .before .pre .1 .1))
+write-step-requires c κs =
+    let tested = c .before .before .before in
+    let at-loop = tested .before .before in
+    let leaf = first-leaf (at-loop .loop .inv .0 .packed) (sought-some (at-loop .loop .inv .0)) (tested .before .kind .ensures) (tested .if1 .taken) in
+    ((leaf .step, leaf-step leaf), (leaf-record leaf, omega (arith, ap length (at-loop .loop .inv .1), at-loop .before .before .before .pre .1 .1)))
 
 same-length : tie.Need-same-length Inv-loop μ-loop
 same-length c = c .before .before .write-step .kept .1 .1 .0 ∙ ap length (c .before .before .before .before .before .before .before .before .loop .inv .1)

@@ -1,5 +1,5 @@
 -- `seek::write_step` meets its contract. Assumes nothing.
-use Rattle.expand.proofs.Seeking.{step-copied, step-undone}
+use Rattle.expand.proofs.Seeking.{step-copied, step-turned, copy-starts}
 use borrow.Author.Needs.{needs}
 use Rattle.expand.proofs.seek.write_step.Statement.{statement}
 use Rattle.expand.proofs.seek.write_step.Tie as tie
@@ -7,23 +7,21 @@ use Rattle.expand.proofs.seek.write_step.Tie as tie
 copy-requires : tie.Need-copy-requires
 copy-requires c κs = search needs
 
-sub-undo-record : tie.Need-sub-undo-record
-sub-undo-record c = search needs
-
-part-undo-record-start : tie.Need-part-undo-record-start
-part-undo-record-start c = search needs
-
-part-undo-record-end : tie.Need-part-undo-record-end
-part-undo-record-end c = search needs
-
 undo-record-requires : tie.Need-undo-record-requires
-undo-record-requires c κs = search needs
+undo-record-requires c κs =
+    let copied = c .before .before .before .before in
+    let start = copied .before .before .before .before in
+    copy-starts (start .args .from .now) (start .args .step .now) (start .pre .0) (copied .copy .ensures .1)
 
 same-length : tie.Need-same-length
 same-length c = search needs
 
 returns : tie.Need-returns
-returns c = λ x u e. step-undone (c .before .before .before .before .before .before .before .before .before .before .before .args .inverted) x (c .before .before .before .before .before .before .before .before .before .before .before .args .from .now) (c .before .before .before .before .before .before .before .before .before .before .before .args .step .now) (c .before .before .before .before .if1 .taken) u e (c .before .before .before .before .before .before .before .copy .ensures .1) (c .before .before .undo-record .ensures)
+returns c = λ x u e.
+    let undone = c .before .before in
+    let copied = undone .before .before .before .before .before in
+    let a = copied .before .before .before .before .args in
+    step-turned (a .inverted) x (a .from .now) (a .step .now) (undone .before .before .if1 .taken) u e (copied .copy .ensures .1) (undone .undo-record .ensures)
 
 same-length-2 : tie.Need-same-length-2
 same-length-2 c = search needs
@@ -36,9 +34,6 @@ write-step-spec =
     tie.close
     (tie.spec
     copy-requires
-    sub-undo-record
-    part-undo-record-start
-    part-undo-record-end
     undo-record-requires
     same-length
     returns

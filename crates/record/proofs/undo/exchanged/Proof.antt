@@ -1,4 +1,4 @@
--- `flatten::exchanged` meets its contract. Assumes nothing.
+-- `record::undo::exchanged` meets its contract. Assumes nothing.
 use Prim.Native.Nat.{ℕ}
 use mathlib.Core.Path.{_≡_, refl}
 use native.Mathlib.Omega.{arith}
@@ -7,8 +7,8 @@ use Rattle.notation.specs.Packed.{megaminxNumber}
 use Rattle.notation.specs.Invert.{exchanged}
 use Rattle.notation.specs.declared.common.MegaminxScrambleMove.{MegaminxScrambleMove}
 use Rattle.notation.specs.declared.common.MegaminxScrambleMove.the-variants.{Rpp, Rmm, Dpp, Dmm}
-use Rattle.expand.proofs.flatten.exchanged.Statement.{statement}
-use Rattle.expand.proofs.flatten.exchanged.Tie as tie
+use Rattle.record.proofs.undo.exchanged.Statement.{statement}
+use Rattle.record.proofs.undo.exchanged.Tie as tie
 
 abbrev Right : ℕ → ℕ → Type 0
 Right kind r = (k : MegaminxScrambleMove) → kind ≡ megaminxNumber k → r ≡ megaminxNumber (exchanged k)

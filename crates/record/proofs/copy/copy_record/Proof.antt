@@ -1,8 +1,9 @@
--- `flatten::copy_record` meets its contract. Assumes nothing.
+-- `record::copy::copy_record` meets its contract. Assumes nothing.
 use borrow.Author.Needs.{needs}
-use Rattle.expand.proofs.Flattening.{by-way}
-use Rattle.expand.proofs.flatten.copy_record.Statement.{statement}
-use Rattle.expand.proofs.flatten.copy_record.Tie as tie
+use Rattle.notation.specs.Packed.{RECORD}
+use Rattle.record.proofs.Copying.{copied-by-way}
+use Rattle.record.proofs.copy.copy_record.Statement.{statement}
+use Rattle.record.proofs.copy.copy_record.Tie as tie
 
 slice-aggregate-copy : tie.Need-slice-aggregate-copy
 slice-aggregate-copy c = search needs
@@ -21,8 +22,10 @@ same-length c = search needs
 
 returns : tie.Need-returns
 returns c =
-    let a = c .before .before .before .before .before .before .before .before .before .before .args in
-    by-way (a .from .now) _ _ (a .out .now) (search needs) (c .before .before .before .before .before .before .copy .ensures .1) (c .before .before .copy2 .ensures .1)
+    let second = c .before .before in
+    let first = second .before .before .before .before in
+    let start = first .before .before .before .before in
+    copied-by-way (start .args .from .now) _ _ (start .args .out .now) RECORD (start .pre .0) (search needs) (first .copy .ensures .1) (second .copy2 .ensures .1)
 
 pub copy-record-spec : {M : Type 1} → statement M
 copy-record-spec =

@@ -1,11 +1,11 @@
--- `invert::undo::pair_refusal` meets its contract: the law of pairs at the two tests. Assumes nothing.
+-- `invert::refusal::pair_refusal` meets its contract: the law of pairs at the two tests. Assumes nothing.
 use mathlib.Core.Path.{refl, sym, _∙_}
 use mathlib.Core.Bool.{true, false}
 use Rattle.record.specs.Meaning.{field}
-use Rattle.invert.proofs.Undoing.{is-min, not-min, pair-refusal, no-pair-refusal}
+use Rattle.invert.proofs.Refusing.{is-min, not-min, pair-refusal, no-pair-refusal}
 use borrow.Author.Needs.{needs}
-use Rattle.invert.proofs.undo.pair_refusal.Statement.{statement}
-use Rattle.invert.proofs.undo.pair_refusal.Tie as tie
+use Rattle.invert.proofs.refusal.pair_refusal.Statement.{statement}
+use Rattle.invert.proofs.refusal.pair_refusal.Tie as tie
 
 kind-requires : tie.Need-kind-requires
 kind-requires c κs = search needs

@@ -9,14 +9,14 @@ use lib.Seq.{sets, sets-eq, drop-at, length-take-le}
 use Rattle.notation.specs.Numbers.{bigEndian}
 use Rattle.notation.specs.Packed.{layOut}
 use Rattle.numbers.proofs.BigEndian.{length-bigEndian}
 use Rattle.record.proofs.Cut.{start}
 
 sets-cons : (x : ℕ) (l : List ℕ) (i : ℕ) (vs : List ℕ) → sets (x ∷ l) (suc i) vs ≡ x ∷ sets l i vs
 sets-cons x l i [] = refl
 sets-cons x l i (v ∷ vs) = sets-cons x (set l i v) (suc i) vs
 
 -- what stands before the stores is kept
-pub sets-past : (p l : List ℕ) (i : ℕ) (vs : List ℕ) → sets (p ++ l) (length p + i) vs ≡ p ++ sets l i vs
+sets-past : (p l : List ℕ) (i : ℕ) (vs : List ℕ) → sets (p ++ l) (length p + i) vs ≡ p ++ sets l i vs
 sets-past [] l i vs = ap (λ (k : ℕ). sets l k vs) (zero-add i)
 sets-past (x ∷ p) l i vs =
     ap (λ (k : ℕ). sets (x ∷ (p ++ l)) k vs) (suc-add (length p) i)

@@ -1,0 +1,197 @@
+-- A record undone: which of its fields change, by its kind. Assumes nothing.
+use Prim.Native.Nat.{ℕ, _+_, _*_, _/_, _<_, _≤_}
+use mathlib.Core.Path.{_≡_, refl, sym, _∙_, ap, ap₂, subst}
+use mathlib.Core.List.{List, _++_}
+use native.Mathlib.Omega.{arith}
+use lib.Dec.{lit<, lit≤}
+use lib.IntN.{ℤ, negℤ}
+use lib.ListN.{length, getD, take, drop, set, length-set, length-append}
+use lib.Seq.{sets, drop-at}
+use Rattle.notation.specs.Numbers.{bigEndian, fromBigEndian, toBits, fromBits}
+use Rattle.notation.specs.Tree.{rotation, move, pause, pair, slash, megaminx}
+use Rattle.notation.specs.Packed.{RECORD, widths, cut, layOut, Head, leafHead, groupHead, binaryHead, groupNumber, binaryNumber, megaminxNumber, headFields, record25, headAt}
+use Rattle.notation.specs.Invert.{exchanged}
+use Rattle.notation.specs.declared.common.MegaminxScrambleMove.{MegaminxScrambleMove}
+use Rattle.notation.specs.declared.common.GroupKind.the-variants.{Simple, Macro, Simultaneous, Niss}
+use Rattle.notation.specs.declared.common.BinaryGroupKind.the-variants.{Commutator, Conjugate}
+use Rattle.notation.specs.declared.common.MegaminxScrambleMove.the-variants.{Rpp, Rmm, Dpp, Dmm}
+use Rattle.numbers.proofs.BigEndian.{length-bigEndian}
+use Rattle.numbers.proofs.TwosComplement.{fromBits-toBits}
+use Rattle.record.specs.Meaning.{field}
+use Rattle.record.specs.Range.{FitsNumber, FitsHead}
+use Rattle.record.specs.Undone.{StartsRecord, undoneHead}
+use Rattle.record.proofs.Cut.{start}
+use Rattle.record.proofs.Packed.{field-at, bit-lt, layerForm-lt, present-lt}
+use Rattle.record.proofs.RoundTrip.{length-headFields, length-record25, cut-record25, headAt-record25}
+use Rattle.record.proofs.Storing.{store-field, drop-sets}
+
+-- The number of each kind of record.
+abbrev pub kindOf : Head → ℕ
+kindOf (leafHead (rotation f c m)) = 6
+kindOf (leafHead (move t l f c m)) = 7
+kindOf (leafHead pause) = 8
+kindOf (leafHead (pair u d)) = 9
+kindOf (leafHead slash) = 10
+kindOf (leafHead (megaminx k)) = megaminxNumber k
+kindOf (groupHead k n m) = groupNumber k
+kindOf (binaryHead k n n′ m) = binaryNumber k
+
+kind-field : (h : Head) → getD (headFields h) 0 0 / 16 ≡ kindOf h
+kind-field (leafHead (rotation f c m)) = omega (arith, present-lt c)
+kind-field (leafHead (move t l f c m)) = omega (arith, bit-lt t, layerForm-lt l, present-lt c)
+kind-field (leafHead pause) = refl
+kind-field (leafHead (pair u d)) = refl
+kind-field (leafHead slash) = refl
+kind-field (leafHead (megaminx Rpp)) = refl
+kind-field (leafHead (megaminx Rmm)) = refl
+kind-field (leafHead (megaminx Dpp)) = refl
+kind-field (leafHead (megaminx Dmm)) = refl
+kind-field (groupHead Simple n m) = refl
+kind-field (groupHead Macro n m) = refl
+kind-field (groupHead Simultaneous n m) = refl
+kind-field (groupHead Niss n m) = refl
+kind-field (binaryHead Commutator n n′ m) = refl
+kind-field (binaryHead Conjugate n n′ m) = refl
+
+-- the bits of a number negated
+abbrev negated : ℕ → ℕ
+negated bits = toBits 32 (negℤ (fromBits 32 bits))
+
+number-negated : (z : ℤ) → FitsNumber z → negated (toBits 32 z) ≡ toBits 32 (negℤ z)
+number-negated z h = ap (λ (y : ℤ). toBits 32 (negℤ y)) (fromBits-toBits 32 z (lit< tt) h)
+
+-- The fields of a record undone, by its kind. The number is negated in each, and 0 stays where there is none.
+abbrev halfFields : Head → List ℕ
+halfFields h = set (headFields h) 3 (negated (getD (headFields h) 3 0))
+
+half-undone : (h : Head) → FitsHead h → (kindOf h ≡ 9 → ⊥) → kindOf h ≤ 10 → halfFields h ≡ headFields (undoneHead h)
+half-undone (leafHead (rotation f c m)) h n l = rw (number-negated m (h .2))
+half-undone (leafHead (move t y f c m)) h n l = rw (number-negated m (h .3))
+half-undone (leafHead pause) h n l = refl
+half-undone (leafHead (pair u d)) h n l = absurd (n refl)
+half-undone (leafHead slash) h n l = refl
+half-undone (leafHead (megaminx Rpp)) h n l = absurd (omega arith)
+half-undone (leafHead (megaminx Rmm)) h n l = absurd (omega arith)
+half-undone (leafHead (megaminx Dpp)) h n l = absurd (omega arith)
+half-undone (leafHead (megaminx Dmm)) h n l = absurd (omega arith)
+half-undone (groupHead g a m) h n l = rw (number-negated m (h .1))
+half-undone (binaryHead g a b m) h n l = rw (number-negated m (h .2))
+
+-- of a pair also the other number
+both-undone : (h : Head) → FitsHead h → kindOf h ≡ 9 → set (halfFields h) 4 (negated (getD (headFields h) 4 0)) ≡ headFields (undoneHead h)
+both-undone (leafHead (rotation f c m)) h e = absurd (omega arith)
+both-undone (leafHead (move t l f c m)) h e = absurd (omega arith)
+both-undone (leafHead pause) h e = absurd (omega arith)
+both-undone (leafHead (pair u d)) h e = rw (number-negated u (h .0), number-negated d (h .1))
+both-undone (leafHead slash) h e = absurd (omega arith)
+both-undone (leafHead (megaminx Rpp)) h e = absurd (omega arith)
+both-undone (leafHead (megaminx Rmm)) h e = absurd (omega arith)
+both-undone (leafHead (megaminx Dpp)) h e = absurd (omega arith)
+both-undone (leafHead (megaminx Dmm)) h e = absurd (omega arith)
+both-undone (groupHead Simple n m) h e = absurd (omega arith)
+both-undone (groupHead Macro n m) h e = absurd (omega arith)
+both-undone (groupHead Simultaneous n m) h e = absurd (omega arith)
+both-undone (groupHead Niss n m) h e = absurd (omega arith)
+both-undone (binaryHead Commutator n n′ m) h e = absurd (omega arith)
+both-undone (binaryHead Conjugate n n′ m) h e = absurd (omega arith)
+
+-- of a Megaminx move the kind
+move-undone : (h : Head) → 10 < kindOf h → (r : ℕ) → ((k : MegaminxScrambleMove) → kindOf h ≡ megaminxNumber k → r ≡ megaminxNumber (exchanged k))
+    → set (halfFields h) 0 (r * 16) ≡ headFields (undoneHead h)
+move-undone (leafHead (rotation f c m)) l r e = absurd (omega arith)
+move-undone (leafHead (move t y f c m)) l r e = absurd (omega arith)
+move-undone (leafHead pause) l r e = absurd (omega arith)
+move-undone (leafHead (pair u d)) l r e = absurd (omega arith)
+move-undone (leafHead slash) l r e = absurd (omega arith)
+move-undone (leafHead (megaminx Rpp)) l r e = rw (e Rpp refl)
+move-undone (leafHead (megaminx Rmm)) l r e = rw (e Rmm refl)
+move-undone (leafHead (megaminx Dpp)) l r e = rw (e Dpp refl)
+move-undone (leafHead (megaminx Dmm)) l r e = rw (e Dmm refl)
+move-undone (groupHead Simple n m) l r e = absurd (omega arith)
+move-undone (groupHead Macro n m) l r e = absurd (omega arith)
+move-undone (groupHead Simultaneous n m) l r e = absurd (omega arith)
+move-undone (groupHead Niss n m) l r e = absurd (omega arith)
+move-undone (binaryHead Commutator n n′ m) l r e = absurd (omega arith)
+move-undone (binaryHead Conjugate n n′ m) l r e = absurd (omega arith)
+
+-- what undoing the first record of bs is to leave
+abbrev pub Undone : List ℕ → List ℕ → Type 0
+Undone bs out = out ≡ record25 (undoneHead (headAt bs)) ++ drop RECORD bs
+
+-- The fields of bytes that start with a record.
+module _ (bs : List ℕ) (s : StartsRecord bs) where
+  pub field-is : (i : ℕ) → field i bs ≡ getD (headFields (headAt bs)) i 0
+  field-is i =
+      ap (λ (l : List ℕ). getD (cut widths (take RECORD l)) i 0) (sym (s .whole))
+      ∙ ap (λ (l : List ℕ). getD l i 0) (cut-record25 (headAt bs) (drop RECORD bs) (s .fits))
+
+  pub kind-is : field 0 bs / 16 ≡ kindOf (headAt bs)
+  kind-is = ap (λ (k : ℕ). k / 16) (field-is 0) ∙ kind-field (headAt bs)
+
+  -- the fields of the record, some of them changed
+  abbrev laid : List ℕ → List ℕ
+  laid fs = layOut widths fs ++ drop RECORD bs
+
+  laid-whole : bs ≡ laid (headFields (headAt bs))
+  unfolding record25
+  laid-whole = sym (s .whole)
+
+  undone-of : {out : List ℕ} (fs : List ℕ) → out ≡ laid fs → fs ≡ headFields (undoneHead (headAt bs)) → Undone bs out
+  unfolding record25
+  undone-of fs o e = o ∙ ap laid e
+
+  stored : (fs : List ℕ) (i n : ℕ) → length fs ≡ 11 → i < 11 → sets (laid fs) (start widths i) (bigEndian (getD widths i 0) n) ≡ laid (set fs i n)
+  stored fs i n l h = store-field widths fs (drop RECORD bs) i n h l
+
+  -- The three ways through `undo_record`: the number was negated first.
+  module _ {k n n′ : ℕ} {r : List ℕ} (ek : k ≡ field 0 bs / 16) (en : n ≡ field 3 bs) (en′ : n′ ≡ negated n) (e : r ≡ sets bs 5 (bigEndian 4 n′)) where
+    half-is : r ≡ laid (halfFields (headAt bs))
+    half-is =
+        e ∙ ap₂ (λ (l : List ℕ) (m : ℕ). sets l 5 (bigEndian 4 m)) laid-whole (en′ ∙ ap negated (en ∙ field-is 3))
+        ∙ stored (headFields (headAt bs)) 3 _ (length-headFields (headAt bs)) (lit< tt)
+
+    half-long : length (halfFields (headAt bs)) ≡ 11
+    half-long = length-set (headFields (headAt bs)) 3 _ ∙ length-headFields (headAt bs)
+
+    kind-of : kindOf (headAt bs) ≡ k
+    kind-of = sym (ek ∙ kind-is)
+
+    pub number-undone : (k ≡ 9 → ⊥) → k ≤ 10 → Undone bs r
+    number-undone h l = undone-of _ half-is (half-undone (headAt bs) (s .fits) (λ z. h (sym kind-of ∙ z)) (rw kind-of l))
+
+    pub pair-undone : k ≡ 9 → {o o′ : ℕ} {r′ : List ℕ} → o ≡ field 4 r → o′ ≡ negated o → r′ ≡ sets r 9 (bigEndian 4 o′) → Undone bs r′
+    pair-undone h {o} {o′} eo eo′ e′ =
+        let place : 5 + length (bigEndian 4 n′) ≡ 9 = ap (λ (w : ℕ). 5 + w) (length-bigEndian 4 n′) in
+        let after : drop 9 r ≡ drop 9 bs = ap (drop 9) e ∙ rw place at (drop-sets bs 5 (bigEndian 4 n′) (omega (arith, s .long))) in
+        let other : o ≡ getD (headFields (headAt bs)) 4 0 =
+        eo ∙ field-at r 4 (lit< tt) (lit≤ tt) ∙ ap (λ (l : List ℕ). fromBigEndian (take 4 l)) after ∙ sym (field-at bs 4 (lit< tt) (lit≤ tt)) ∙ field-is 4
+        in
+        undone-of _
+        (e′ ∙ ap₂ (λ (l : List ℕ) (m : ℕ). sets l 9 (bigEndian 4 m)) half-is (eo′ ∙ ap negated other) ∙ stored (halfFields (headAt bs)) 4 _ half-long (lit< tt))
+        (both-undone (headAt bs) (s .fits) (kind-of ∙ h))
+
+    pub kind-undone : 10 < k → {x : ℕ} {r′ : List ℕ} → ((j : MegaminxScrambleMove) → k ≡ megaminxNumber j → x ≡ megaminxNumber (exchanged j))
+        → r′ ≡ sets r 0 (bigEndian 1 (x * 16)) → Undone bs r′
+    kind-undone h {x} ex e′ =
+        undone-of _
+        (e′ ∙ ap (λ (l : List ℕ). sets l 0 (bigEndian 1 (x * 16))) half-is ∙ stored (halfFields (headAt bs)) 0 _ half-long (lit< tt))
+        (move-undone (headAt bs) (rw kind-of h) x (λ j z. ex j (sym kind-of ∙ z)))
+
+-- Bytes that are a record and more: they start with it, and are undone by it.
+module _ (bs : List ℕ) (h : Head) (rest : List ℕ) (f : FitsHead h) (e : bs ≡ record25 h ++ rest) where
+  pub head-with : headAt bs ≡ h
+  head-with = ap headAt e ∙ headAt-record25 h rest f
+
+  rest-with : drop RECORD bs ≡ rest
+  rest-with = ap (drop RECORD) e ∙ drop-at (record25 h) rest RECORD (length-record25 h)
+
+  pub starts-with : StartsRecord bs
+  starts-with =
+      record {
+        whole = ap₂ (λ (g : Head) (s : List ℕ). record25 g ++ s) head-with rest-with ∙ sym e;
+        fits = subst FitsHead (sym head-with) f;
+        long = let z : length bs ≡ RECORD + length rest = (ap length e ∙ length-append (record25 h) rest ∙ ap (λ (k : ℕ). k + length rest) (length-record25 h)) in omega arith;
+      }
+
+  pub undone-with : {out : List ℕ} → Undone bs out → out ≡ record25 (undoneHead h) ++ rest
+  undone-with u = u ∙ ap₂ (λ (g : Head) (s : List ℕ). record25 (undoneHead g) ++ s) head-with rest-with
