@@ -13,6 +13,7 @@ ghost use Rattle.display.specs.Bound.{allowed};
 use numbers::signed::magnitude;
 use record::RECORD;
 use record::fields;
+use record::kinds;
 
 // `size` where the test holds.
 fn extra(test: bool, size: usize) -> usize
@@ -33,9 +34,9 @@ fn allowance(t: &[u8]) -> usize
     let n = magnitude(fields::number(t));
     let parts = fields::family(t).size as usize + fields::constraints(t).size as usize;
     4 + parts
-        + extra(kind < 6, 3)
+        + extra(kind < kinds::ROTATION, 3)
         + extra(9 < n, 9)
-        + extra(kind == 9, 23)
+        + extra(kind == kinds::PAIR, 23)
         + extra(fields::layer_form(t) != 0, 11)
 }
 

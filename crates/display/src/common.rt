@@ -15,6 +15,7 @@ use crate::write::put;
 use crate::write::put_number;
 use numbers::signed::is_negative;
 use numbers::signed::magnitude;
+use record::kinds;
 
 // A multiplier's magnitude, which is not printed where it is 1.
 fn put_magnitude(out: &mut [u8], at: usize, n: u32) -> usize
@@ -45,9 +46,9 @@ pub(crate) fn put_opening(out: &mut [u8], at: usize, kind: u8) -> usize
     ensures { λ r. ⌜ ((k : GroupKind) → kind ≡ groupNumber k → Wrote (now (out .entry)) (now (out .exit)) at r (λ rest. putPrefix k (40 ∷ rest))) ⌝ }
 {
     match kind {
-        0 => put(out, at, b'('),
-        1 => put_two(out, at, b'!', b'('),
-        2 => put_two(out, at, b'&', b'('),
+        kinds::SIMPLE => put(out, at, b'('),
+        kinds::MACRO => put_two(out, at, b'!', b'('),
+        kinds::SIMULTANEOUS => put_two(out, at, b'&', b'('),
         _ => put_two(out, at, b'^', b'('),
     }
 }
@@ -67,7 +68,7 @@ pub(crate) fn put_separator(out: &mut [u8], at: usize, kind: u8) -> usize
     ensures { λ r. ⌜ ((k : BinaryGroupKind) → kind ≡ binaryNumber k → Wrote (now (out .entry)) (now (out .exit)) at r (putSeparator k)) ⌝ }
 {
     match kind {
-        4 => put_two(out, at, b',', b' '),
+        kinds::COMMUTATOR => put_two(out, at, b',', b' '),
         _ => put_two(out, at, b':', b' '),
     }
 }
@@ -86,7 +87,7 @@ pub(crate) fn put_megaminx(out: &mut [u8], at: usize, kind: u8) -> usize
     requires { ⌜ at ≤ most ⌝ }
     ensures { λ r. ⌜ ((k : MegaminxScrambleMove) → kind ≡ megaminxNumber k → Wrote (now (out .entry)) (now (out .exit)) at r (putMegaminx k)) ⌝ }
 {
-    let letter = if kind < 13 { b'R' } else { b'D' };
+    let letter = if kind < kinds::D_PLUS { b'R' } else { b'D' };
     let sign = if kind % 2 == 1 { b'+' } else { b'-' };
     let next = put(out, at, letter);
     let last = put(out, next, sign);

@@ -31,6 +31,7 @@ use record::RECORD;
 use record::decode::family_of;
 use record::decode::layers;
 use record::fields;
+use record::kinds;
 use record::spanned::LayerPrefixContents;
 use record::spanned::Span;
 
@@ -100,7 +101,7 @@ fn put_before_family(out: &mut [u8], at: usize, text: &[u8], t: &[u8]) -> usize
     requires { ⌜ GoodTransform (now text) (now t) ⌝ }
     ensures { λ r. ⌜ Wrote (now (out .entry)) (now (out .exit)) at r (putBefore (now (text .entry)) (now (t .entry))) ⌝ }
 {
-    if fields::kind(t) == 6 {
+    if fields::kind(t) == kinds::ROTATION {
         return put(out, at, b'@');
     }
     let next = put_tilde(out, at, fields::tilde(t));
@@ -158,7 +159,7 @@ pub fn node_list(out: &mut [u8], at: usize, text: &[u8], tree: &[u8]) -> usize
     let mut t = tree;
     let mut next = at;
     while 0 < t.len() {
-        if 5 < fields::kind(t) {
+        if kinds::CONJUGATE < fields::kind(t) {
             next = leaf(out, next, text, t);
             t = &t[RECORD..];
         } else {
@@ -180,10 +181,10 @@ fn leaf(out: &mut [u8], at: usize, text: &[u8], t: &[u8]) -> usize
     ensures { λ r. ⌜ ((x : tree.Leaf) → headAt (now (t .entry)) ≡ leafHead x → Wrote (now (out .entry)) (now (out .exit)) at r (print.putStep (meaning.stepOf (now (text .entry)) x))) ⌝ }
 {
     match fields::kind(t) {
-        6 | 7 => put_transform(out, at, text, t),
-        8 => put(out, at, b'.'),
-        9 => put_pair(out, at, fields::number(t), fields::other(t)),
-        10 => put(out, at, b'/'),
+        kinds::ROTATION | kinds::MOVE => put_transform(out, at, text, t),
+        kinds::PAUSE => put(out, at, b'.'),
+        kinds::PAIR => put_pair(out, at, fields::number(t), fields::other(t)),
+        kinds::SLASH => put(out, at, b'/'),
         k => put_megaminx(out, at, k),
     }
 }
@@ -197,7 +198,7 @@ fn group(out: &mut [u8], at: usize, text: &[u8], bytes: &[u8]) -> usize
 {
     let multiplier = fields::number(bytes);
     let kind = fields::kind(bytes);
-    if kind < 4 {
+    if kind < kinds::COMMUTATOR {
         let open = put_opening(out, at, kind);
         let close = node_list(out, open, text, &bytes[RECORD..]);
         return put_closing(out, close, b')', multiplier);

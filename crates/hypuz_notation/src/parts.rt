@@ -11,6 +11,7 @@ use record::RECORD;
 use record::decode::family_of;
 use record::decode::layers;
 use record::fields;
+use record::kinds;
 use record::spanned::Span;
 
 const MAX_LAYER: u32 = 32767;
@@ -18,11 +19,6 @@ const MAX_LAYER: u32 = 32767;
 const NO_SUCH_LAYER_COUNT: u8 = 11;
 
 const NO_SUCH_RECORD: u8 = 12;
-
-// The kinds of records that name a family.
-const ROTATION: u8 = 6;
-
-const MOVE: u8 = 7;
 
 // A part of the text, or why there is none.
 pub enum PartAnswer {
@@ -57,7 +53,7 @@ pub fn simplify(
     }
     let from = RECORD * (record as usize);
     let found = &tree[from..];
-    if fields::kind(found) != MOVE {
+    if fields::kind(found) != kinds::MOVE {
         return Answer::Refused(NO_SUCH_RECORD);
     }
     let layers = layers(found);
@@ -79,10 +75,10 @@ pub fn family_part(text: &[u8], tree: &[u8], record: u64) -> PartAnswer
     let from = RECORD * (record as usize);
     let found = &tree[from..];
     let kind = fields::kind(found);
-    if kind < ROTATION {
+    if kind < kinds::ROTATION {
         return PartAnswer::Refused(NO_SUCH_RECORD);
     }
-    if MOVE < kind {
+    if kinds::MOVE < kind {
         return PartAnswer::Refused(NO_SUCH_RECORD);
     }
     PartAnswer::Part(family_of(found))

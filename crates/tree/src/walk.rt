@@ -12,6 +12,7 @@ use record::encode::rotation_fields;
 use record::encode::same_fields;
 use record::encode::without_parts;
 use record::fields;
+use record::kinds;
 ghost use mathlib.Core.Path.{_≡_};
 ghost use mathlib.Core.Bool.{_&&_, _||_};
 ghost use Prim.Native.Nat.{ℕ, _+_, _*_, _/_, _≤_, _<_};
@@ -41,7 +42,7 @@ fn list_ok(text: &[u8], list: &[u8], depth: usize) -> bool
         if t.len() < RECORD {
             return false;
         }
-        if fields::kind(t) < 6 {
+        if fields::kind(t) < kinds::ROTATION {
             let end = RECORD + RECORD * (fields::first(t) as usize + fields::second(t) as usize);
             if t.len() < end {
                 return false;
@@ -106,7 +107,7 @@ fn group_record_ok(t: &[u8]) -> bool
 fn second_ok(kind: u8, second: u16) -> bool
     ensures { λ r. ⌜ r ≡ (leb 4 kind || eqb second 0) ⌝ }
 {
-    4 <= kind || second == 0
+    kinds::COMMUTATOR <= kind || second == 0
 }
 
 // Whether the first node, which is no group, is what packing writes and in bounds. Packing writes no kind above 14.
@@ -117,16 +118,16 @@ fn leaf_ok(text: &[u8], t: &[u8]) -> bool
 {
     let kind = fields::kind(t);
     match kind {
-        7 => {
+        kinds::MOVE => {
             let x = layered_move(t);
             same_fields(move_fields(x), fields_at(t)) && move_ok(text, x)
         }
-        6 => {
+        kinds::ROTATION => {
             let x = rotation(t);
             same_fields(rotation_fields(x), fields_at(t)) && rotation_ok(text, x)
         }
-        9 => same_fields(
-            without_parts(9, 0, 0, fields::number(t), fields::other(t)),
+        kinds::PAIR => same_fields(
+            without_parts(kinds::PAIR, 0, 0, fields::number(t), fields::other(t)),
             fields_at(t),
         ),
         15 => false,
