@@ -66,6 +66,7 @@ pub fn inv(tree: &[u8], out: &mut [u8])
     }
 }
 
+// Of a leaf, whose one record is copied as such: that is quicker than a copy of any length.
 fn inv_leaf(node: &[u8], out: &mut [u8])
     requires { ⌜ OneNode (now node) ⌝ }
     requires { ⌜ (length (now node) ≡ recordSize) × (length (now out) ≡ length (now node)) ⌝ }

@@ -1,12 +1,11 @@
 -- `invert::exchange_lists` meets its contract: three parts copied, two counts written. Assumes nothing.
 use Prim.Native.Nat.{ℕ, _+_, _*_}
 use mathlib.Core.Path.{_≡_, refl, sym, ap, _∙_}
-use mathlib.Core.List.{List, _++_}
+use mathlib.Core.List.{List}
 use native.Mathlib.Omega.{arith}
-use lib.ListN.{length, take, drop}
+use lib.ListN.{length, take}
 use lib.Seq.{sets, length-take-le}
 use Rattle.notation.specs.Numbers.{bigEndian}
-use Rattle.invert.proofs.Loops.{putPart, same-length-parts}
 use Rattle.invert.proofs.Exchanging.{lists-long, second-place, third-place, exchanged-lists}
 use borrow.Author.Needs.{needs}
 use Rattle.invert.proofs.exchange_lists.Statement.{statement}

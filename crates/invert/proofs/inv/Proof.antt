@@ -4,6 +4,9 @@ use mathlib.Core.Path.{sym}
 use native.Mathlib.Omega.{arith}
 use borrow.Author.Needs.{needs}
 use lib.ListN.{length}
+use Rattle.notation.specs.Tree.{Leaf, Node, Tree}
+use Rattle.notation.specs.Packed.{RECORD}
+use Rattle.laws.proofs.Walking.{Step}
 use Rattle.laws.proofs.Inverses.{inverted}
 use Rattle.invert.proofs.Nodes.{packed-starts, step-one, first-leaf}
 use Rattle.invert.proofs.Loops.{Wrote, wrote-none, wrote-more, wrote-all, node-room, step-count, inverted-reverses}
@@ -22,19 +25,17 @@ loop-holds c = wrote-none inverted (c .before .before .args .tree .now) (c .befo
 kind-requires : tie.Need-kind-requires Inv-loop μ-loop
 kind-requires c κs = packed-starts (c .before .loop .t .now) (c .before .loop .inv .packed) (c .loop-test .taken) .long
 
+-- the leaf in front of what is left
+leaf-at : (c : tie.Then1 Inv-loop μ-loop) → (n : Node Leaf) × (l : Tree) × Step (c .before .before .before .loop .t .now) n l RECORD
+leaf-at c =
+    let at-loop = c .before .before .before in
+    first-leaf (at-loop .loop .t .now) (at-loop .loop .inv .packed) (c .before .before .loop-test .taken) (c .before .kind .ensures) (c .if1 .taken)
+
 sub-to : tie.Need-sub-to Inv-loop μ-loop
-sub-to c =
-    let tested = c in
-    let at-loop = tested .before .before .before in
-    let leaf = first-leaf (at-loop .loop .t .now) (at-loop .loop .inv .packed) (tested .before .before .loop-test .taken) (tested .before .kind .ensures) (tested .if1 .taken) .2 in
-    omega (arith, leaf .most, at-loop .loop .inv .place)
+sub-to c = omega (arith, leaf-at c .2 .most, c .before .before .before .loop .inv .place)
 
 slice-aggregate-inv-leaf : tie.Need-slice-aggregate-inv-leaf Inv-loop μ-loop
-slice-aggregate-inv-leaf c =
-    let tested = c .before in
-    let at-loop = tested .before .before .before in
-    let leaf = first-leaf (at-loop .loop .t .now) (at-loop .loop .inv .packed) (tested .before .before .loop-test .taken) (tested .before .kind .ensures) (tested .if1 .taken) .2 in
-    step-count leaf
+slice-aggregate-inv-leaf c = step-count (leaf-at (c .before) .2)
 
 sub-inv-leaf : tie.Need-sub-inv-leaf Inv-loop μ-loop
 sub-inv-leaf c = search needs
@@ -48,23 +49,14 @@ part-inv-leaf-end c = search needs
 inv-leaf-requires : tie.Need-inv-leaf-requires Inv-loop μ-loop
 inv-leaf-requires c κs =
     let tested = c .before .before in
-    let at-loop = tested .before .before .before in
-    let leaf = first-leaf (at-loop .loop .t .now) (at-loop .loop .inv .packed) (tested .before .before .loop-test .taken) (tested .before .kind .ensures) (tested .if1 .taken) .2 in
-    (step-one leaf, (sym (step-count leaf), node-room (at-loop .loop .inv) leaf))
+    let leaf = leaf-at tested .2 in
+    (step-one leaf, (sym (step-count leaf), node-room (tested .before .before .before .loop .inv) leaf))
 
 sub-t : tie.Need-sub-t Inv-loop μ-loop
-sub-t c =
-    let tested = c .before .before .before .before .before in
-    let at-loop = tested .before .before .before in
-    let leaf = first-leaf (at-loop .loop .t .now) (at-loop .loop .inv .packed) (tested .before .before .loop-test .taken) (tested .before .kind .ensures) (tested .if1 .taken) .2 in
-    omega (arith, leaf .most)
+sub-t c = leaf-at (c .before .before .before .before .before) .2 .most
 
 part-t-start : tie.Need-part-t-start Inv-loop μ-loop
-part-t-start c =
-    let tested = c .before .before .before .before .before in
-    let at-loop = tested .before .before .before in
-    let leaf = first-leaf (at-loop .loop .t .now) (at-loop .loop .inv .packed) (tested .before .before .loop-test .taken) (tested .before .kind .ensures) (tested .if1 .taken) .2 in
-    omega (arith, leaf .most)
+part-t-start c = leaf-at (c .before .before .before .before .before) .2 .most
 
 part-t-end : tie.Need-part-t-end Inv-loop μ-loop
 part-t-end c = search needs
@@ -76,9 +68,7 @@ loop-again : tie.Need-loop-again Inv-loop μ-loop
 loop-again c =
     let called = c .before .before .before in
     let tested = called .before .before .before in
-    let at-loop = tested .before .before .before in
-    let leaf = first-leaf (at-loop .loop .t .now) (at-loop .loop .inv .packed) (tested .before .before .loop-test .taken) (tested .before .kind .ensures) (tested .if1 .taken) .2 in
-    wrote-more inverted-reverses (at-loop .loop .inv) leaf _ (called .inv-leaf .kept .1 .0) (called .inv-leaf .ensures)
+    wrote-more inverted-reverses (tested .before .before .before .loop .inv) (leaf-at tested .2) _ (called .inv-leaf .kept .1 .0) (called .inv-leaf .ensures)
 
 node-end-requires : tie.Need-node-end-requires Inv-loop μ-loop
 node-end-requires c κs = (c .before .before .before .loop .inv .packed, c .before .before .loop-test .taken)
