@@ -12,6 +12,7 @@ use Rattle.notation.specs.Tree.{leaf, block, group, binaryGroup, append, Tree}
 use Rattle.notation.specs.Packed.{RECORD, widths, binaryHead, headFields, record25, size, packNode, packBody, pack, unpack}
 use Rattle.notation.specs.declared.common.BinaryGroupKind.the-variants.{Commutator, Conjugate}
 use Rattle.record.specs.Meaning.{field}
+use Rattle.record.proofs.Copying.{copied-whole}
 use Rattle.record.proofs.RoundTrip.{length-record25}
 use Rattle.laws.proofs.Packing.{length-pack}
 use Rattle.laws.proofs.Walking.{two-lists}
@@ -19,7 +20,7 @@ use Rattle.laws.proofs.Inverses.{deeply, deeplyNode, deeplyBody}
 use Rattle.invert.specs.Nodes.{OneNode}
 use Rattle.record.proofs.Storing.{store-field}
 use Rattle.invert.proofs.Nodes.{ByNode, by-node, leaf-kind, group-kind}
-use Rattle.invert.proofs.Loops.{putPart, put-last, rest-is}
+use Rattle.invert.proofs.Loops.{putPart, length-putPart, put-last, same-length-fronts, same-length-parts, rest-is}
 
 -- a list written in three parts, the first p long, the second from p to k
 pub three-parts : (out a b c : List ℕ) (p k : ℕ) → p ≤ k → length a ≡ p → length b ≡ k - p → (out₂ : List ℕ) → out₂ ≡ putPart p k (a ++ drop p out) b
@@ -79,19 +80,54 @@ module _ (bs : List ℕ) (o : OneNode bs) (kind : field 0 bs / 16 ≡ 4) where
           ∙ sym (append-nil (record25 (binaryHead Commutator (size b) (size a) m) ++ (pack b ++ pack a)))
           ∙ sym (ap (λ (t : Tree). pack (deeply t)) u))
 
-  -- the three copies and the two counts, as the code makes them
-  pub exchanged-lists : (out l₁ l₂ l₃ : List ℕ) (n n′ : ℕ) → n ≡ field 1 bs → n′ ≡ field 2 bs
-      → l₁ ≡ take RECORD bs → l₂ ≡ take (length bs - (RECORD + RECORD * n)) (drop (RECORD + RECORD * n) bs) → l₃ ≡ take (RECORD + RECORD * n - RECORD) (drop RECORD bs)
-      → (out₂ : List ℕ) → out₂ ≡ putPart RECORD (RECORD + RECORD * n′) (l₁ ++ drop RECORD out) l₂
-      → sets (sets (putPart (RECORD + RECORD * n′) (length out₂) out₂ l₃) 1 (bigEndian 2 n′)) 3 (bigEndian 2 n) ≡ pack (deeply (unpack bs))
-  exchanged-lists out l₁ l₂ l₃ n n′ en en′ e₁ e₂ e₃ out₂ e =
-      let m = RECORD + RECORD * n in
-      let second : l₂ ≡ drop m bs = e₂ ∙ rest-is m bs in
-      let z : RECORD + RECORD * n - RECORD ≡ RECORD * n = omega arith in
-      let first : l₃ ≡ take (RECORD * n) (drop RECORD bs) = e₃ ∙ ap (λ (k : ℕ). take k (drop RECORD bs)) z in
-      let long₁ : length l₁ ≡ RECORD = ap length e₁ ∙ length-take-le RECORD bs (o .long) in
-      let long₂ : length l₂ ≡ RECORD + RECORD * n′ - RECORD = ap length second ∙ length-drop m bs ∙ omega (arith, lists-long, en, en′) in
-      ap (λ (l : List ℕ). sets (sets l 1 (bigEndian 2 n′)) 3 (bigEndian 2 n))
-      (three-parts out l₁ l₂ l₃ RECORD (RECORD + RECORD * n′) (omega arith) long₁ long₂ out₂ e
-      ∙ ap₂ (λ (x y : List ℕ). x ++ y) e₁ (ap₂ (λ (x y : List ℕ). x ++ y) second first))
-      ∙ exchanged n n′ en en′
+  -- The three copies and the two counts, as the code makes them: each part is as long as its place.
+  module _ (out : List ℕ) (long : length out ≡ length bs) (n n′ : ℕ) (en : n ≡ field 1 bs) (en′ : n′ ≡ field 2 bs) where
+    abbrev m : ℕ
+    m = RECORD + RECORD * n
+
+    abbrev k : ℕ
+    k = RECORD + RECORD * n′
+
+    pub first-place : length (take RECORD out) ≡ length (take RECORD bs)
+    first-place = same-length-fronts out bs RECORD (omega (arith, long, o .long)) (o .long)
+
+    module _ (l₁ : List ℕ) (h₁ : length l₁ ≡ length (take RECORD out)) where
+      abbrev out₁ : List ℕ
+      out₁ = l₁ ++ drop RECORD out
+
+      long₁ : length l₁ ≡ RECORD
+      long₁ = h₁ ∙ first-place ∙ length-take-le RECORD bs (o .long)
+
+      whole₁ : length out₁ ≡ length bs
+      whole₁ = length-append l₁ (drop RECORD out) ∙ omega (arith, long₁, length-drop RECORD out, long, o .long)
+
+      pub second-place : length (take (k - RECORD) (drop RECORD out₁)) ≡ length (take (length bs - m) (drop m bs))
+      second-place = same-length-parts out₁ bs RECORD k m (length bs) (omega (arith, whole₁, lists-long, en′)) (omega arith) (omega (arith, lists-long, en, en′))
+
+      module _ (l₂ : List ℕ) (h₂ : length l₂ ≡ length (take (k - RECORD) (drop RECORD out₁))) (out₂ : List ℕ) (e : out₂ ≡ putPart RECORD k out₁ l₂) where
+        whole₂ : length out₂ ≡ length bs
+        whole₂ =
+            ap length e
+            ∙ length-putPart RECORD k out₁ l₂ (omega arith) (omega (arith, whole₁, lists-long, en′))
+            (h₂ ∙ length-take-le (k - RECORD) (drop RECORD out₁) (omega (arith, length-drop RECORD out₁, whole₁, lists-long, en′)))
+            ∙ whole₁
+
+        pub third-place : length (take (length out₂ - k) (drop k out₂)) ≡ length (take (m - RECORD) (drop RECORD bs))
+        third-place = same-length-parts out₂ bs k (length out₂) RECORD m (omega arith) (omega (arith, lists-long, en)) (omega (arith, whole₂, lists-long, en, en′))
+
+        pub exchanged-lists : (l₃ : List ℕ)
+            → (let f = take RECORD bs in l₁ ≡ take (length f) f ++ drop (length f) (take RECORD out))
+            → (let f = take (length bs - m) (drop m bs) in l₂ ≡ take (length f) f ++ drop (length f) (take (k - RECORD) (drop RECORD out₁)))
+            → (let f = take (m - RECORD) (drop RECORD bs) in l₃ ≡ take (length f) f ++ drop (length f) (take (length out₂ - k) (drop k out₂)))
+            → sets (sets (putPart k (length out₂) out₂ l₃) 1 (bigEndian 2 n′)) 3 (bigEndian 2 n) ≡ pack (deeply (unpack bs))
+        exchanged-lists l₃ c₁ c₂ c₃ =
+            let z : m - RECORD ≡ RECORD * n = omega arith in
+            let e₁ : l₁ ≡ take RECORD bs = copied-whole (take RECORD bs) (take RECORD out) first-place c₁ in
+            let e₂ : l₂ ≡ drop m bs = copied-whole (take (length bs - m) (drop m bs)) (take (k - RECORD) (drop RECORD out₁)) second-place c₂ ∙ rest-is m bs in
+            let e₃ : l₃ ≡ take (RECORD * n) (drop RECORD bs) =
+            copied-whole (take (m - RECORD) (drop RECORD bs)) (take (length out₂ - k) (drop k out₂)) third-place c₃ ∙ ap (λ (j : ℕ). take j (drop RECORD bs)) z
+            in
+            let long₂ : length l₂ ≡ k - RECORD = ap length e₂ ∙ length-drop m bs ∙ omega (arith, lists-long, en, en′) in
+            ap (λ (l : List ℕ). sets (sets l 1 (bigEndian 2 n′)) 3 (bigEndian 2 n))
+            (three-parts out l₁ l₂ l₃ RECORD k (omega arith) long₁ long₂ out₂ e ∙ ap₂ (λ (x y : List ℕ). x ++ y) e₁ (ap₂ (λ (x y : List ℕ). x ++ y) e₂ e₃))
+            ∙ exchanged n n′ en en′

@@ -60,7 +60,10 @@ two-parts out a b m e =
     put-last m (a ++ drop m out) b (omega (arith, length-append a (drop m out)))
     ∙ ap (λ (s : List ℕ). s ++ b) (take-at a (drop m out) m e)
 
--- two parts of the same length
+-- two fronts, and two parts, of the same length
+pub same-length-fronts : (l l′ : List ℕ) (m : ℕ) → m ≤ length l → m ≤ length l′ → length (take m l) ≡ length (take m l′)
+same-length-fronts l l′ m h h′ = length-take-le m l h ∙ sym (length-take-le m l′ h′)
+
 pub same-length-parts : (l l′ : List ℕ) (a e a′ e′ : ℕ) → e ≤ length l → e′ ≤ length l′ → e - a ≡ e′ - a′
     → length (take (e - a) (drop a l)) ≡ length (take (e′ - a′) (drop a′ l′))
 same-length-parts l l′ a e a′ e′ h h′ k =

@@ -1,16 +1,16 @@
 -- The node at the front of a packed list, and the bytes of one node: its record, its inverses, a group's lists. Assumes nothing.
 use Prim.Native.Nat.{ℕ, _+_, _-_, _*_, _/_, _≤_, _<_}
-use mathlib.Core.Path.{_≡_, refl, sym, ap, ap₂, _∙_}
+use mathlib.Core.Path.{_≡_, refl, sym, ap, ap₂, _∙_, subst}
 use mathlib.Core.List.{List, [], _++_, append-nil, append-assoc}
 use mathlib.Core.Option.{Option, none, some}
 use native.Mathlib.Omega.{arith}
 use lib.Dec.{lit<, lit≤}
 use lib.IntN.{ℤ, negℤ}
-use lib.ListN.{length, take, drop, length-append, length-drop}
-use lib.Seq.{take-at, length-take-le}
+use lib.ListN.{length, getD, take, drop, length-append, length-drop}
+use lib.Seq.{take-at, take-take, length-take-le}
 use Rattle.notation.specs.Refusals.{NISS}
 use Rattle.notation.specs.Tree.{Leaf, rotation, move, pause, pair, slash, megaminx, Node, leaf, block, Body, group, binaryGroup, nil, cons, append, Tree}
-use Rattle.notation.specs.Packed.{RECORD, Head, leafHead, groupHead, binaryHead, record25, groupNumber, size, bodyHead, packNode, packBody, pack, headAt, unpack}
+use Rattle.notation.specs.Packed.{RECORD, widths, cut, Head, leafHead, groupHead, binaryHead, record25, groupNumber, size, bodyHead, packNode, packBody, pack, headAt, unpack}
 use Rattle.notation.specs.declared.common.GroupKind.{GroupKind}
 use Rattle.notation.specs.declared.common.GroupKind.the-variants.{Simple, Macro, Simultaneous, Niss}
 use Rattle.notation.specs.declared.common.BinaryGroupKind.the-variants.{Commutator, Conjugate}
@@ -21,7 +21,7 @@ use Rattle.record.specs.Undone.{StartsRecord, undoneHead}
 use Rattle.record.proofs.RoundTrip.{length-record25}
 use Rattle.record.proofs.Undoing.{kindOf, kind-is, Undone, head-with, starts-with, undone-with}
 use Rattle.laws.proofs.Packing.{FitsNode, FitsTree, length-pack}
-use Rattle.laws.proofs.Walking.{Packed, nodeHead, inside, Step, first-node, one-list, two-lists}
+use Rattle.laws.proofs.Walking.{Packed, nodeHead, inside, nodeEnd, Step, first-node, one-list, two-lists}
 use Rattle.laws.proofs.Inverses.{inverted, deeply, deeplyNode, deeplyBody, deepRefusal, deepRefusalNode, deepRefusalBody, nissFirst}
 use Rattle.laws.proofs.WellFormedInverses.{deeply-size}
 use Rattle.invert.specs.Nodes.{OneNode, headRefusal, Inner}
@@ -103,11 +103,16 @@ unfolding pack packNode inverted append
 undone-node (leaf x) = refl
 undone-node (block b m) = ap (λ (h : Head). record25 h ++ packBody b) (undone-body b m) ∙ sym (append-nil (record25 (bodyHead b (negℤ m)) ++ packBody b))
 
-pub inverted-one : (bs out : List ℕ) → OneNode bs → Undone bs out → out ≡ pack (inverted (unpack bs))
-inverted-one bs out o u =
-    undone-with bs (nodeHead (o .node)) (inside (o .node)) (node-head-fits (o .node) (one-fits bs o)) (one-parts bs o) u
-    ∙ undone-node (o .node)
-    ∙ sym (ap (λ (t : Tree). pack (inverted t)) (o .unpacks))
+-- the node copied, and its first record undone
+module _ (bs copy : List ℕ) (o : OneNode bs) (e : copy ≡ bs) where
+  pub copy-starts : StartsRecord copy
+  copy-starts = subst StartsRecord (sym e) (one-starts bs o)
+
+  pub copy-inverted : {out : List ℕ} → Undone copy out → out ≡ pack (inverted (unpack bs))
+  copy-inverted {out} u =
+      undone-with bs (nodeHead (o .node)) (inside (o .node)) (node-head-fits (o .node) (one-fits bs o)) (one-parts bs o) (subst (λ (s : List ℕ). Undone s out) e u)
+      ∙ undone-node (o .node)
+      ∙ sym (ap (λ (t : Tree). pack (inverted t)) (o .unpacks))
 
 -- what the laws below go by: the node behind the bytes
 abbrev pub ByNode : List ℕ → Type 0 → Type 0
@@ -126,6 +131,25 @@ leaf-deeply bs o h = by-node bs o go
     go (block (group g a) m) f e u k = absurd (omega (arith, group-kind g))
     go (block (binaryGroup Commutator a b) m) f e u k = absurd (omega arith)
     go (block (binaryGroup Conjugate a b) m) f e u k = absurd (omega arith)
+
+-- A leaf is one record.
+pub leaf-long : (bs : List ℕ) {k : ℕ} → OneNode bs → k ≡ field 0 bs / 16 → 5 < k → length bs ≡ RECORD
+unfolding packNode
+leaf-long bs o q h = by-node bs o go
+  where
+    go : ByNode bs (length bs ≡ RECORD)
+    go (leaf x) f e u k = ap length (sym e) ∙ length-record25 (leafHead x)
+    go (block (group g a) m) f e u k = absurd (omega (arith, group-kind g))
+    go (block (binaryGroup Commutator a b) m) f e u k = absurd (omega arith)
+    go (block (binaryGroup Conjugate a b) m) f e u k = absurd (omega arith)
+
+pub first-leaf : (t : List ℕ) {k : ℕ} → Packed t → 0 < length t → k ≡ field 0 t / 16 → 5 < k → (n : Node Leaf) × (l : Tree) × Step t n l RECORD
+first-leaf t p h q k =
+    let first = first-node t p h in
+    let step = first .2 in
+    let kind = ap (λ (s : List ℕ). getD (cut widths s) 0 0 / 16) (sym (take-take RECORD (nodeEnd t) t (step .least))) in
+    let end : nodeEnd t ≡ RECORD = sym (length-take-le (nodeEnd t) t (step .most)) ∙ leaf-long (take (nodeEnd t) t) (step-one step) (q ∙ kind) k in
+    (first .0, first .1, subst (Step t (first .0) (first .1)) end step)
 
 -- The list that the deep inverse enters.
 not-niss : (g : GroupKind) (q : Option ℕ) → (groupNumber g ≡ 3 → ⊥) → nissFirst g q ≡ q

@@ -7,16 +7,17 @@ pub mod refusal;
 ghost use mathlib.Core.Path.{_≡_};
 ghost use Prim.Native.Nat.{_/_};
 ghost use lib.ListN.{length};
-ghost use Rattle.notation.specs.Packed.{pack, unpack};
+ghost use Rattle.notation.specs.Packed.{RECORD as recordSize, pack, unpack};
 ghost use Rattle.record.specs.Meaning.{field};
 ghost use Rattle.laws.proofs.Walking.{Packed};
 ghost use Rattle.laws.proofs.Inverses.{inverted, invRefusal, deeply, deepRefusal};
 ghost use Rattle.invert.specs.Nodes.{OneNode, over};
+use bytes::copy;
 use numbers::big_endian::write_u16;
-use parts::copy;
 use parts::inner_start;
 use parts::node_end;
 use record::RECORD;
+use record::copy::copy_record;
 use record::fields;
 use record::kinds;
 use record::undo::undo_record;
@@ -49,12 +50,30 @@ pub fn inv(tree: &[u8], out: &mut [u8])
     let mut t = tree;
     let mut at = out.len();
     while 0 < t.len() {
-        let e = node_end(t);
-        let to = at - e;
-        inv_node(&t[..e], &mut out[to..at]);
-        at = to;
-        t = &t[e..];
+        // A leaf is one record.
+        if kinds::CONJUGATE < fields::kind(t) {
+            let to = at - RECORD;
+            inv_leaf(&t[..RECORD], &mut out[to..at]);
+            at = to;
+            t = &t[RECORD..];
+        } else {
+            let e = node_end(t);
+            let to = at - e;
+            inv_node(&t[..e], &mut out[to..at]);
+            at = to;
+            t = &t[e..];
+        }
     }
+}
+
+// Of a leaf, whose one record is copied as such: that is quicker than a copy of any length.
+fn inv_leaf(node: &[u8], out: &mut [u8])
+    requires { ⌜ OneNode (now node) ⌝ }
+    requires { ⌜ (length (now node) ≡ recordSize) × (length (now out) ≡ length (now node)) ⌝ }
+    ensures { λ _. ⌜ now (out .exit) ≡ pack (inverted (unpack (now (node .entry)))) ⌝ }
+{
+    copy_record(node, out);
+    undo_record(out);
 }
 
 fn inv_node(node: &[u8], out: &mut [u8])
@@ -132,7 +151,7 @@ fn inv_deep_node(node: &[u8], out: &mut [u8])
 {
     let kind = fields::kind(node);
     if kinds::CONJUGATE < kind {
-        inv_node(node, out);
+        inv_leaf(node, out);
         return;
     }
     if kind == kinds::COMMUTATOR {

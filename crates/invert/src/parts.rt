@@ -1,4 +1,4 @@
-// The parts of a packed list, and a part copied.
+// The parts of a packed list.
 ghost use mathlib.Core.Path.{_≡_};
 ghost use Prim.Native.Nat.{_/_, _≤_, _<_};
 ghost use lib.ListN.{length};
@@ -33,16 +33,5 @@ pub fn inner_start(node: &[u8]) -> usize
         RECORD + RECORD * (first as usize)
     } else {
         RECORD
-    }
-}
-
-pub fn copy(from: &[u8], to: &mut [u8])
-    requires { ⌜ length (now to) ≡ length (now from) ⌝ }
-    ensures { λ _. ⌜ now (to .exit) ≡ now (from .entry) ⌝ }
-{
-    let mut i = 0;
-    while i < from.len() {
-        to[i] = from[i];
-        i += 1;
     }
 }

@@ -5,11 +5,12 @@ use mathlib.Core.Path.{sym, ap, ap₂, _∙_}
 use mathlib.Core.List.{List, _++_}
 use native.Mathlib.Omega.{arith}
 use borrow.Author.Needs.{needs}
-use lib.ListN.{length, drop}
+use lib.ListN.{length, take, drop}
 use lib.Seq.{length-take-le}
+use Rattle.record.proofs.Copying.{copied-whole}
 use Rattle.laws.proofs.Inverses.{deeply}
-use Rattle.invert.proofs.Nodes.{step-one, leaf-deeply, inner-packed, inner-shorter, inner-deep}
-use Rattle.invert.proofs.Loops.{Wrote, wrote-none, wrote-more, wrote-all, node-room, step-count, deeply-reverses, same-length-parts, two-parts}
+use Rattle.invert.proofs.Nodes.{step-one, leaf-long, leaf-deeply, inner-packed, inner-shorter, inner-deep}
+use Rattle.invert.proofs.Loops.{Wrote, wrote-none, wrote-more, wrote-all, node-room, step-count, deeply-reverses, same-length-fronts, same-length-parts, two-parts}
 use borrow.Fn.Kinds.{In}
 use borrow.Fn.PlainCycle.{Measures, is, falls, and}
 use Rattle.invert.proofs.inv_deep.Reads as inv-deep
@@ -19,8 +20,8 @@ use Rattle.invert.proofs.inv_deep_node.Reads as inv-deep-node
 use Rattle.invert.proofs.inv_deep_node.Kinds as inv-deep-node-kinds
 use Rattle.invert.proofs.+inv_deep+inv_deep_node.Lts-inv_deep_node as inv-deep-node-lts
 use Rattle.invert.proofs.exchange_lists.Reads as exchange-lists-reads
-use Rattle.invert.proofs.inv_node.Reads as inv-node-reads
-use Rattle.invert.proofs.parts.copy.Reads as copy-reads
+use Rattle.invert.proofs.inv_leaf.Reads as inv-leaf-reads
+use Rattle.bytes.proofs.copy.Reads as copy-reads
 use Rattle.invert.proofs.parts.inner_start.Reads as inner-start-reads
 use Rattle.invert.proofs.parts.node_end.Reads as node-end-reads
 use Rattle.record.proofs.fields.kind.Reads as kind-reads
@@ -57,7 +58,7 @@ abbrev list-claims : ℕ → inv-deep-lts.Claims
 list-claims t = (node-end-reads.Asked, node-end-reads.Learnt, inv-deep-node-below t, inv-deep-node.Post)
 
 abbrev node-claims : ℕ → inv-deep-node-lts.Claims
-node-claims t = (kind-reads.Asked, kind-reads.Learnt, inv-node-reads.Asked, inv-node-reads.Learnt, exchange-lists-reads.Asked, exchange-lists-reads.Learnt, inner-start-reads.Asked, inner-start-reads.Learnt, copy-reads.Asked, copy-reads.Learnt, inv-deep-below t, inv-deep.Post)
+node-claims t = (kind-reads.Asked, kind-reads.Learnt, inv-leaf-reads.Asked, inv-leaf-reads.Learnt, exchange-lists-reads.Asked, exchange-lists-reads.Learnt, inner-start-reads.Asked, inner-start-reads.Learnt, copy-reads.Asked, copy-reads.Learnt, inv-deep-below t, inv-deep.Post)
 
 abbrev inv-deep-Inv-loop : inv-deep-lts.InvT-loop
 inv-deep-Inv-loop tree out₀ t₀ at₀ out t at = Wrote deeply tree t at out
@@ -121,8 +122,11 @@ inv-deep-returns t c = wrote-all deeply _ _ _ _ deeply-reverses (c .before .loop
 inv-deep-node-kind-requires : (t : ℕ) → inv-deep-node-lts.Need-kind-requires (node-claims t) (inv-deep-node-at t) inv-deep-node.Post
 inv-deep-node-kind-requires t c κs = c .before .before .pre .1 .0 .long
 
-inv-deep-node-inv-node-requires : (t : ℕ) → inv-deep-node-lts.Need-inv-node-requires (node-claims t) (inv-deep-node-at t) inv-deep-node.Post
-inv-deep-node-inv-node-requires t c κs = c .before .before .before .before .before .pre .1
+inv-deep-node-inv-leaf-requires : (t : ℕ) → inv-deep-node-lts.Need-inv-leaf-requires (node-claims t) (inv-deep-node-at t) inv-deep-node.Post
+inv-deep-node-inv-leaf-requires t c κs =
+    let arm = c .before in
+    let start = arm .before .before .before .before in
+    (start .pre .1 .0, (leaf-long (start .args .node .now) (start .pre .1 .0) (arm .before .kind .ensures) (arm .if1 .taken), start .pre .1 .1))
 
 inv-deep-node-same-length : (t : ℕ) → inv-deep-node-lts.Need-same-length (node-claims t) (inv-deep-node-at t) inv-deep-node.Post
 inv-deep-node-same-length t c = search needs
@@ -132,7 +136,7 @@ inv-deep-node-returns t c =
     let arm = c .before .before .before .before in
     let kind = arm .before in
     let start = kind .before .before .before in
-    c .before .before .inv-node .ensures
+    c .before .before .inv-leaf .ensures
     ∙ leaf-deeply (start .args .node .now) (start .pre .1 .0) (omega (arith, kind .kind .ensures, arm .if1 .taken))
 
 inv-deep-node-exchange-lists-requires : (t : ℕ) → inv-deep-node-lts.Need-exchange-lists-requires (node-claims t) (inv-deep-node-at t) inv-deep-node.Post
@@ -186,7 +190,7 @@ inv-deep-node-copy-requires t c κs =
     let bs = start .args .node .now in
     let m = inner .inner-start .result in
     let law = inner .inner-start .ensures in
-    length-take-le m (start .args .out .now) (omega (arith, law .most, start .pre .1 .1)) ∙ sym (length-take-le m bs (law .most))
+    omega (arith, same-length-fronts bs (start .args .out .now) m (law .most) (omega (arith, law .most, start .pre .1 .1)))
 
 inv-deep-node-sub-inv-deep : (t : ℕ) → inv-deep-node-lts.Need-sub-inv-deep (node-claims t) (inv-deep-node-at t) inv-deep-node.Post
 inv-deep-node-sub-inv-deep t c = search needs
@@ -234,8 +238,9 @@ inv-deep-node-returns-3 t c =
     let law = inner .inner-start .ensures in
     let called = c .before .before in
     let copied = called .before .before .before .before .before in
-    two-parts (start .args .out .now) (copied .copy .last .1 .0) (called .inv-deep .last .1 .0) m (ap length (copied .copy .ensures) ∙ length-take-le m bs (law .most))
-    ∙ ap₂ (λ (x y : List ℕ). x ++ y) (copied .copy .ensures) (called .inv-deep .ensures)
+    let front = copied-whole (take m bs) (take m (start .args .out .now)) (same-length-fronts (start .args .out .now) bs m (omega (arith, law .most, start .pre .1 .1)) (law .most)) (copied .copy .ensures .1) in
+    two-parts (start .args .out .now) (copied .copy .last .1 .0) (called .inv-deep .last .1 .0) m (ap length front ∙ length-take-le m bs (law .most))
+    ∙ ap₂ (λ (x y : List ℕ). x ++ y) front (called .inv-deep .ensures)
     ∙ inner-deep bs m law
 
 pub +inv-deep+inv-deep-node-spec : {M : Type 1} → statement M
@@ -263,7 +268,7 @@ pub +inv-deep+inv-deep-node-spec : {M : Type 1} → statement M
     (inv-deep-node-at t)
     inv-deep-node.Post
     (inv-deep-node-kind-requires t)
-    (inv-deep-node-inv-node-requires t)
+    (inv-deep-node-inv-leaf-requires t)
     (inv-deep-node-same-length t)
     (inv-deep-node-returns t)
     (inv-deep-node-exchange-lists-requires t)

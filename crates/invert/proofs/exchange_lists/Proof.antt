@@ -1,13 +1,12 @@
 -- `invert::exchange_lists` meets its contract: three parts copied, two counts written. Assumes nothing.
 use Prim.Native.Nat.{ℕ, _+_, _*_}
 use mathlib.Core.Path.{_≡_, refl, sym, ap, _∙_}
-use mathlib.Core.List.{List, _++_}
+use mathlib.Core.List.{List}
 use native.Mathlib.Omega.{arith}
-use lib.ListN.{length, take, drop}
+use lib.ListN.{length, take}
 use lib.Seq.{sets, length-take-le}
 use Rattle.notation.specs.Numbers.{bigEndian}
-use Rattle.invert.proofs.Loops.{putPart, same-length-parts}
-use Rattle.invert.proofs.Exchanging.{lists-long, exchanged-lists}
+use Rattle.invert.proofs.Exchanging.{lists-long, second-place, third-place, exchanged-lists}
 use borrow.Author.Needs.{needs}
 use Rattle.invert.proofs.exchange_lists.Statement.{statement}
 use Rattle.invert.proofs.exchange_lists.Tie as tie
@@ -62,7 +61,7 @@ slice-aggregate-copy-2 : tie.Need-slice-aggregate-copy-2
 slice-aggregate-copy-2 c = front-count-out (c .before .before)
 
 copy-requires : tie.Need-copy-requires
-copy-requires c κs = sym (front-count-out (c .before .before)) ∙ front-count (c .before .before)
+copy-requires c κs = omega (arith, front-count (c .before .before), front-count-out (c .before .before))
 
 sub-copy : tie.Need-sub-copy
 sub-copy c = omega (arith, bounds (c .before .before .before .before .before))
@@ -87,11 +86,11 @@ copy-requires-2 c κs =
     let copied = c .before .before .before .before in
     let counts = copied .before .before .before in
     let start = counts .before .before .before .before in
-    same-length-parts (copied .copy .last .1 .0 ++ drop 25 (start .args .out .now)) (start .args .node .now)
-    25 (25 + 25 * counts .second .result) (25 + 25 * counts .before .first .result) (length (start .args .node .now))
-    (omega (arith, bounds counts, start .pre .1 .1, c .before .before .before .out .given .1))
-    (omega arith)
-    (omega (arith, bounds counts))
+    omega (
+      arith,
+      second-place (start .args .node .now) (start .pre .0) (start .pre .1 .0) (start .args .out .now) (start .pre .1 .1) _ _ (counts .before .first .ensures) (counts .second .ensures)
+      (copied .copy .last .1 .0) (copied .copy .kept .1 .0),
+    )
 
 sub-copy-3 : tie.Need-sub-copy-3
 sub-copy-3 c = search needs
@@ -117,13 +116,11 @@ copy-requires-3 c κs =
     let copied-first = copied-second .before .before .before .before .before in
     let counts = copied-first .before .before .before in
     let start = counts .before .before .before .before in
-    let front = copied-first .copy .last .1 .0 ++ drop 25 (start .args .out .now) in
-    let out = putPart 25 (25 + 25 * counts .second .result) front (copied-second .copy2 .last .1 .0) in
-    same-length-parts out (start .args .node .now)
-    (25 + 25 * counts .second .result) (length out) 25 (25 + 25 * counts .before .first .result)
-    (omega arith)
-    (omega (arith, bounds counts))
-    (omega (arith, bounds counts, start .pre .1 .1, c .before .before .before .out2 .given .1, copied-first .before .before))
+    omega (
+      arith,
+      third-place (start .args .node .now) (start .pre .0) (start .pre .1 .0) (start .args .out .now) (start .pre .1 .1) _ _ (counts .before .first .ensures) (counts .second .ensures)
+      (copied-first .copy .last .1 .0) (copied-first .copy .kept .1 .0) (copied-second .copy2 .last .1 .0) (copied-second .copy2 .kept .1 .0) _ refl,
+    )
 
 write-u16-requires : tie.Need-write-u16-requires
 write-u16-requires c κs = search needs
@@ -145,8 +142,9 @@ returns c =
     let start = counts .before .before .before .before in
     second .write-u162 .ensures
     ∙ ap (λ (l : List ℕ). sets l 3 (bigEndian 2 (counts .before .first .result))) (first .write-u16 .ensures)
-    ∙ exchanged-lists (start .args .node .now) (start .pre .0) (start .pre .1 .0) (start .args .out .now) _ _ _ _ _ (counts .before .first .ensures) (counts .second .ensures)
-    (first-copy .copy .ensures) (second-copy .copy2 .ensures) (third-copy .copy3 .ensures) _ refl
+    ∙ exchanged-lists (start .args .node .now) (start .pre .0) (start .pre .1 .0) (start .args .out .now) (start .pre .1 .1) _ _ (counts .before .first .ensures) (counts .second .ensures)
+    (first-copy .copy .last .1 .0) (first-copy .copy .kept .1 .0) (second-copy .copy2 .last .1 .0) (second-copy .copy2 .kept .1 .0) _ refl
+    _ (first-copy .copy .ensures .1) (second-copy .copy2 .ensures .1) (third-copy .copy3 .ensures .1)
 
 pub exchange-lists-spec : {M : Type 1} → statement M
 exchange-lists-spec =

@@ -1,10 +1,6 @@
 -- `invert::inv_node` meets its contract: the copy with its first record undone. Assumes nothing.
-use Prim.Native.Nat.{ℕ}
-use mathlib.Core.Path.{sym, subst}
-use mathlib.Core.List.{List}
-use Rattle.record.specs.Undone.{StartsRecord}
-use Rattle.record.proofs.Undoing.{Undone}
-use Rattle.invert.proofs.Nodes.{one-starts, inverted-one}
+use Rattle.record.proofs.Copying.{copied-whole}
+use Rattle.invert.proofs.Nodes.{copy-starts, copy-inverted}
 use borrow.Author.Needs.{needs}
 use Rattle.invert.proofs.inv_node.Statement.{statement}
 use Rattle.invert.proofs.inv_node.Tie as tie
@@ -16,7 +12,7 @@ undo-record-requires : tie.Need-undo-record-requires
 undo-record-requires c κs =
     let copied = c .before .before .before in
     let start = copied .before .before .before .before in
-    subst StartsRecord (sym (copied .copy .ensures)) (one-starts (start .args .node .now) (start .pre .0))
+    copy-starts (start .args .node .now) _ (start .pre .0) (copied-whole (start .args .node .now) (start .args .out .now) (start .pre .1) (copied .copy .ensures .1))
 
 same-length : tie.Need-same-length
 same-length c = search needs
@@ -26,7 +22,8 @@ returns c =
     let undone = c .before .before in
     let copied = undone .before .before .before .before in
     let start = copied .before .before .before .before in
-    inverted-one (start .args .node .now) _ (start .pre .0) (subst (λ (s : List ℕ). Undone s (undone .undo-record .last .0)) (copied .copy .ensures) (undone .undo-record .ensures))
+    copy-inverted (start .args .node .now) _ (start .pre .0) (copied-whole (start .args .node .now) (start .args .out .now) (start .pre .1) (copied .copy .ensures .1))
+    (undone .undo-record .ensures)
 
 pub inv-node-spec : {M : Type 1} → statement M
 inv-node-spec = tie.close (tie.spec copy-requires undo-record-requires same-length returns)
