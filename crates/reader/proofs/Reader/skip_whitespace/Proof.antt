@@ -27,7 +27,7 @@ use sound.WpLaws.{FmC, fmOf, WpFn-mono}
 use denote.RattleType.{RattleType, owns}
 use denote.Laws.{Is, shows}
 use denote.Memory.{mem, cellAt}
-use denote.Plain.{uint-makes, uint-lawful}
+use denote.Plain.{uint-lawful, nothing-makes}
 use denote.Builtin.{u8, usize}
 use denote.Ref.{RefT, NamedLft, MutRef, ptr-vals, mut-tells}
 use denote.Signature.{Slot, plain, namedLft}
@@ -80,7 +80,7 @@ module _ {M : Type 1} (𝓤 : URA M) (H : Heap 𝓤) (A : Atoms 𝓤) (W : Given
     to = (((κ′, tt), (q′, tt), tt, (h .text, (h .at, tt)), (text-val l ∷ [], (vint w64 (h .at) ∷ [], tt))), tt)
 
     exits : (r : ℕ) → Says r → ent 𝓤 (⋆ 𝓤 H A (Left l r)) (Exit vunit)
-    exits r e = leaves alone 𝓤 H A W (skip-whitespace.signature .result) (skip-whitespace.clauses 𝓤 H A mem run) l bounds tt tt r vunit tt tt tt (id⊢ 𝓤 _) (qed W [] ∵ feqI ! (List Val) (vunit ∷ []) (vunit ∷ []) refl $ done !) (factI 𝓤 _ _ (whitespace-moves h r inside e))
+    exits r e = leaves alone 𝓤 H A W (skip-whitespace.signature .result) (skip-whitespace.clauses 𝓤 H A mem run) l bounds tt tt r vunit tt tt tt (id⊢ 𝓤 _) (nothing-makes 𝓤 H A W tt _ refl) (factI 𝓤 _ _ (whitespace-moves h r inside e))
 
     module _ (C : Calls 𝓤 H) (Λ : Loops 𝓤 H) (fm : FmC 𝓤 H (W .laws) C) (known : Triple 𝓤 (C #charsets·whitespace-end) (WhitespaceEnd 𝓤 H A mem run)) where
       walk : ent 𝓤 (⋆ 𝓤 H A (Left l (h .at))) (WpFn 𝓤 H C Λ code.function (vptr b o ∷ []) Exit)
