@@ -28,7 +28,7 @@ use denote.Triple.Clauses.{Ended, Clauses, atExit, closing}
 use denote.Triple.End.{Kepts, Fins}
 use denote.Triple.Entry.{onEntry}
 use denote.Triple.Spec.{Meets}
-use denote.Triple.Walked.{says, Stays, stay-ref, goes-ref, AllGo, fitsOf, hasOf, walkOf, ends-at, walked, walk-meets}
+use denote.Triple.Walked.{Stays, stay-ref, goes-ref, AllGo, fitsOf, hasOf, walkOf, ends-at, walked, walk-meets}
 use Rattle.reader.specs.Cursor.{moved}
 use Rattle.reader.specs.declared.Reader.{Reader}
 use Rattle.reader.proofs.Lent.{Loan, Token, Left}
