@@ -70,14 +70,14 @@ module _ {M : Type 1} (𝓤 : URA M) (H : Heap 𝓤) (A : Atoms 𝓤) (W : Given
     open Loan l using (b, o, h)
 
     abbrev Exit : Val → SProp 𝓤
-    Exit = Post alone 𝓤 H A W (constraint-set.signature .result) (constraint-set.clauses 𝓤 H A mem run) l bounds tt tt
+    Exit = Post alone 𝓤 H A (constraint-set.signature .result) (constraint-set.clauses 𝓤 H A mem run) l bounds tt tt
 
     -- what `parse::constraint_set` says of its answer
     abbrev Says : Taken → Type 0
     Says a = means.told (text h) a ≡ means.forget (reads rule.constraintSet h)
 
     exits : (a : Taken) (u : Val) → Is S.the-row a (u ∷ []) → (n : ℕ) → Says a → n ≡ afterSet (h .at) a → ent 𝓤 (⋆ 𝓤 H A (Left l n)) (Exit u)
-    exits a u is n e c = leaves alone 𝓤 H A W (constraint-set.signature .result) (constraint-set.clauses 𝓤 H A mem run) l bounds tt tt n u a tt tt (id⊢ 𝓤 _)
+    exits a u is n e c = leaves alone 𝓤 H A (constraint-set.signature .result) (constraint-set.clauses 𝓤 H A mem run) l bounds tt tt W n u a tt tt (id⊢ 𝓤 _)
         (EL.makes S.the-type S′.the-plain 𝓤 H A a _ is) (factI 𝓤 _ _ (e, set-moves h a n inside e c))
 
     module _ (C : Calls 𝓤 H) (Λ : Loops 𝓤 H) (fm : FmC 𝓤 H (W .laws) C) (known : Triple 𝓤 (C #parse·constraint-set) (Parsed 𝓤 H A mem run)) (known-after : Triple 𝓤 (C #reader·after-set) (AfterSet 𝓤 H A mem run)) where
@@ -110,7 +110,7 @@ module _ {M : Type 1} (𝓤 : URA M) (H : Heap 𝓤) (A : Atoms 𝓤) (W : Given
 
   constraint-set-meets : (𝓣 : Tables 𝓤 H) → Triple 𝓤 (𝓣 .C #parse·constraint-set) (Parsed 𝓤 H A mem run) → Triple 𝓤 (𝓣 .C #reader·after-set) (AfterSet 𝓤 H A mem run)
       → Meets 𝓤 H A constraint-set.signature (WpFn 𝓤 H (𝓣 .C) (𝓣 .Λ) code.function) (constraint-set.spec 𝓤 H A mem run)
-  constraint-set-meets 𝓣 known known-after = meets alone 𝓤 H A W (constraint-set.signature .result) (constraint-set.clauses 𝓤 H A mem run) 𝓣 code.function
+  constraint-set-meets 𝓣 known known-after = meets alone 𝓤 H A (constraint-set.signature .result) (constraint-set.clauses 𝓤 H A mem run) W 𝓣 code.function
       (λ l bounds _ _ _. needs 𝓤 _ _ (λ inside. walk l bounds inside (𝓣 .C) (𝓣 .Λ) (fmOf 𝓤 H (W .laws) 𝓣) known known-after))
 
 pub constraint-set-spec : {M : Type 1} → stated.statement M

@@ -1,5 +1,5 @@
 -- `Reader::leaf` meets its contract: a walk of its MIR, by hand. The borrow is opened, `parse::leaf` is called on the text and the cursor, `after_leaf` says where its answer leaves the cursor, that is stored, and the borrow is closed at the reader with the new cursor.
--- The struct is Copy: what it owns is had twice, and of one copy what the text owns goes to the callee. What the features and the answer own is plain, and is made anew. All that the proof knows of the callees is that each meets its contract.
+-- `Lent.antt` opens and closes the borrow, and `Method.antt` begins and ends the walk. What the features and the answer own is plain, and is made anew. All that the proof knows of the callees is that each meets its contract.
 -- Assumes nothing.
 use mathlib.Core.Path.{_≡_, refl, ap}
 use Prim.Native.Nat.{ℕ, _<_, _≤_, _^_}
@@ -64,8 +64,14 @@ use Rattle.reader.proofs.Reader.leaf.Code as code
 
 -- what the method takes beside the reader
 abbrev features : Beside
-features = record { slots = plain (λ _. F.the-row) ∷ []; kept = (yes, tt); stays = (stay-none (λ _. F.the-row) yes, tt); spells = λ κs. (LL.vals F.the-type F′.the-laws, tt); tells = λ κs. (LL.tells F.the-type F′.the-laws, tt);
-  goes = λ 𝓤 H A W. (goes-none 𝓤 H A W 2 (λ _. F.the-row) yes (λ κs x f. refl), tt) }
+features = record {
+  slots = plain (λ _. F.the-row) ∷ [];
+  kept = (yes, tt);
+  stays = (stay-none (λ _. F.the-row) yes, tt);
+  spells = λ κs. (LL.vals F.the-type F′.the-laws, tt);
+  tells = λ κs. (LL.tells F.the-type F′.the-laws, tt);
+  goes = λ 𝓤 H A W. (goes-none 𝓤 H A W 2 (λ _. F.the-row) yes (λ κs x f. refl), tt);
+}
 
 -- the body, whole and from its fourth statement on
 abbrev at-field : ℕ → Place
@@ -99,7 +105,7 @@ module _ {M : Type 1} (𝓤 : URA M) (H : Heap 𝓤) (A : Atoms 𝓤) (W : Given
     mf = F′.lowered f
 
     abbrev Exit : Val → SProp 𝓤
-    Exit = Post features 𝓤 H A W (leaf.signature .result) (leaf.clauses 𝓤 H A mem run) l bounds (f, tt) tt
+    Exit = Post features 𝓤 H A (leaf.signature .result) (leaf.clauses 𝓤 H A mem run) l bounds (f, tt) tt
 
     -- what `parse::leaf` says of its answer, and what it is passed
     abbrev Means : LeafAnswer → Type 0
@@ -115,7 +121,7 @@ module _ {M : Type 1} (𝓤 : URA M) (H : Heap 𝓤) (A : Atoms 𝓤) (W : Given
     made set = qed W [] ∵ nothing ! $ owned ! F.the-row (Is F.the-row) (LL.makes F.the-type F′.the-plain 𝓤 H A) f _ set $ fjoin ! $ done !
 
     exits : Is F.the-row f (mf ∷ []) → (a : LeafAnswer) (u : Val) → Is S.the-row a (u ∷ []) → (n : ℕ) → Means a × Ends a → n ≡ afterLeaf (h .at) a → ent 𝓤 (⋆ 𝓤 H A (Left l n)) (Exit u)
-    exits set a u is n e c = leaves features 𝓤 H A W (leaf.signature .result) (leaf.clauses 𝓤 H A mem run) l bounds (f, tt) tt n u a (tt, tt) (tt, tt) (made set)
+    exits set a u is n e c = leaves features 𝓤 H A (leaf.signature .result) (leaf.clauses 𝓤 H A mem run) l bounds (f, tt) tt W n u a (tt, tt) (tt, tt) (made set)
         (EL.makes S.the-type S′.the-plain 𝓤 H A a _ is) (factI 𝓤 _ _ (e .0, leaf-moves f h a n inside (e .0) (e .1) c))
 
     module _ (C : Calls 𝓤 H) (Λ : Loops 𝓤 H) (fm : FmC 𝓤 H (W .laws) C) (known : Triple 𝓤 (C #parse·leaf) (Parsed 𝓤 H A mem run)) (known-after : Triple 𝓤 (C #reader·after-leaf) (AfterLeaf 𝓤 H A mem run)) where
@@ -171,7 +177,7 @@ module _ {M : Type 1} (𝓤 : URA M) (H : Heap 𝓤) (A : Atoms 𝓤) (W : Given
 
   leaf-meets : (𝓣 : Tables 𝓤 H) → Triple 𝓤 (𝓣 .C #parse·leaf) (Parsed 𝓤 H A mem run) → Triple 𝓤 (𝓣 .C #reader·after-leaf) (AfterLeaf 𝓤 H A mem run)
       → Meets 𝓤 H A leaf.signature (WpFn 𝓤 H (𝓣 .C) (𝓣 .Λ) code.function) (leaf.spec 𝓤 H A mem run)
-  leaf-meets 𝓣 known known-after = meets features 𝓤 H A W (leaf.signature .result) (leaf.clauses 𝓤 H A mem run) 𝓣 code.function
+  leaf-meets 𝓣 known known-after = meets features 𝓤 H A (leaf.signature .result) (leaf.clauses 𝓤 H A mem run) W 𝓣 code.function
       (λ l bounds a _ are. needs 𝓤 _ _ (λ asked. walk l bounds (a .0) (asked .0) (asked .1) (𝓣 .C) (𝓣 .Λ) (fmOf 𝓤 H (W .laws) 𝓣) known known-after (are .0)))
 
 pub leaf-spec : {M : Type 1} → stated.statement M

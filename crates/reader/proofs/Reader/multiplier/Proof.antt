@@ -1,5 +1,5 @@
 -- `Reader::multiplier` meets its contract: a walk of its MIR, by hand. The borrow is opened, `parse::multiplier` is called on the text and the cursor, the offset that it returns is stored as the cursor, and the borrow is closed at the reader with the new cursor.
--- The struct is Copy: what it owns is had twice, and of one copy what the text owns goes to the callee. All that the proof knows of the callee is that it meets its contract.
+-- `Lent.antt` opens and closes the borrow, and `Method.antt` begins and ends the walk. All that the proof knows of the callee is that it meets its contract.
 -- Assumes nothing.
 use mathlib.Core.Path.{_≡_, refl, ap}
 use Prim.Native.Nat.{_<_, _^_}
@@ -64,14 +64,14 @@ module _ {M : Type 1} (𝓤 : URA M) (H : Heap 𝓤) (A : Atoms 𝓤) (W : Given
     open Loan l using (b, o, h)
 
     abbrev Exit : Val → SProp 𝓤
-    Exit = Post alone 𝓤 H A W (multiplier.signature .result) (multiplier.clauses 𝓤 H A mem run) l bounds tt tt
+    Exit = Post alone 𝓤 H A (multiplier.signature .result) (multiplier.clauses 𝓤 H A mem run) l bounds tt tt
 
     -- what the callee says
     abbrev Says : Multiplied → Type 0
     Says m = multiplierReading (text h) m ≡ reads rule.multiplier h
 
     exits : (m : Multiplied) → m .bits < 2 ^ 32 → Says m → ent 𝓤 (⋆ 𝓤 H A (Left l (m .next))) (Exit (vint w32 (m .bits)))
-    exits m fits e = leaves alone 𝓤 H A W (multiplier.signature .result) (multiplier.clauses 𝓤 H A mem run) l bounds tt tt (m .next) (vint w32 (m .bits)) (m .bits) tt tt (id⊢ 𝓤 _)
+    exits m fits e = leaves alone 𝓤 H A (multiplier.signature .result) (multiplier.clauses 𝓤 H A mem run) l bounds tt tt W (m .next) (vint w32 (m .bits)) (m .bits) tt tt (id⊢ 𝓤 _)
         (uint-makes 𝓤 H A W w32 (m .bits) _ (refl, fits)) (factI 𝓤 _ _ (e, multiplier-moves h m inside e))
 
     module _ (C : Calls 𝓤 H) (Λ : Loops 𝓤 H) (fm : FmC 𝓤 H (W .laws) C) (known : Triple 𝓤 (C #parse·multiplier) (Times 𝓤 H A mem run)) where
@@ -97,7 +97,7 @@ module _ {M : Type 1} (𝓤 : URA M) (H : Heap 𝓤) (A : Atoms 𝓤) (W : Given
           keep ! (0 ∷ 1 ∷ 2 ∷ 4 ∷ []) $ by ! (exits m (bits-fit m u is) e))))))))))
 
   multiplier-meets : (𝓣 : Tables 𝓤 H) → Triple 𝓤 (𝓣 .C #parse·multiplier) (Times 𝓤 H A mem run) → Meets 𝓤 H A multiplier.signature (WpFn 𝓤 H (𝓣 .C) (𝓣 .Λ) code.function) (multiplier.spec 𝓤 H A mem run)
-  multiplier-meets 𝓣 known = meets alone 𝓤 H A W (multiplier.signature .result) (multiplier.clauses 𝓤 H A mem run) 𝓣 code.function
+  multiplier-meets 𝓣 known = meets alone 𝓤 H A (multiplier.signature .result) (multiplier.clauses 𝓤 H A mem run) W 𝓣 code.function
       (λ l bounds _ _ _. needs 𝓤 _ _ (λ inside. walk l bounds inside (𝓣 .C) (𝓣 .Λ) (fmOf 𝓤 H (W .laws) 𝓣) known))
 
 pub multiplier-spec : {M : Type 1} → stated.statement M

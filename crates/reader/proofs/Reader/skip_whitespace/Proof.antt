@@ -1,5 +1,5 @@
 -- `Reader::skip_whitespace` meets its contract: a walk of its MIR, by hand. The borrow is opened, `whitespace_end` is called on the text and the cursor, what it returns is stored as the cursor, and the borrow is closed at the reader with the new cursor.
--- The struct is Copy: what it owns is had twice, and of one copy what the text owns goes to the callee. All that the proof knows of `whitespace_end` is that it meets its contract.
+-- `Lent.antt` opens and closes the borrow, and `Method.antt` begins and ends the walk. All that the proof knows of `whitespace_end` is that it meets its contract.
 -- Assumes nothing.
 use mathlib.Core.Path.{_≡_, refl, ap}
 use Prim.Native.Nat.{ℕ, _+_}
@@ -55,14 +55,14 @@ module _ {M : Type 1} (𝓤 : URA M) (H : Heap 𝓤) (A : Atoms 𝓤) (W : Given
     open Loan l using (b, o, h)
 
     abbrev Exit : Val → SProp 𝓤
-    Exit = Post alone 𝓤 H A W (skip-whitespace.signature .result) (skip-whitespace.clauses 𝓤 H A mem run) l bounds tt tt
+    Exit = Post alone 𝓤 H A (skip-whitespace.signature .result) (skip-whitespace.clauses 𝓤 H A mem run) l bounds tt tt
 
     -- what the callee says
     abbrev Says : ℕ → Type 0
     Says r = r ≡ h .at + run-of whiteSpace (from-place (h .at) (text h))
 
     exits : (r : ℕ) → Says r → ent 𝓤 (⋆ 𝓤 H A (Left l r)) (Exit vunit)
-    exits r e = leaves alone 𝓤 H A W (skip-whitespace.signature .result) (skip-whitespace.clauses 𝓤 H A mem run) l bounds tt tt r vunit tt tt tt (id⊢ 𝓤 _) (nothing-makes 𝓤 H A W tt _ refl) (factI 𝓤 _ _ (whitespace-moves h r inside e))
+    exits r e = leaves alone 𝓤 H A (skip-whitespace.signature .result) (skip-whitespace.clauses 𝓤 H A mem run) l bounds tt tt W r vunit tt tt tt (id⊢ 𝓤 _) (nothing-makes 𝓤 H A W tt _ refl) (factI 𝓤 _ _ (whitespace-moves h r inside e))
 
     module _ (C : Calls 𝓤 H) (Λ : Loops 𝓤 H) (fm : FmC 𝓤 H (W .laws) C) (known : Triple 𝓤 (C #charsets·whitespace-end) (WhitespaceEnd 𝓤 H A mem run)) where
       walk : ent 𝓤 (⋆ 𝓤 H A (Left l (h .at))) (WpFn 𝓤 H C Λ code.function (vptr b o ∷ []) Exit)
@@ -87,7 +87,7 @@ module _ {M : Type 1} (𝓤 : URA M) (H : Heap 𝓤) (A : Atoms 𝓤) (W : Given
           keep ! (0 ∷ 1 ∷ 2 ∷ 4 ∷ []) $ by ! (exits r e))))))))))
 
   skip-whitespace-meets : (𝓣 : Tables 𝓤 H) → Triple 𝓤 (𝓣 .C #charsets·whitespace-end) (WhitespaceEnd 𝓤 H A mem run) → Meets 𝓤 H A skip-whitespace.signature (WpFn 𝓤 H (𝓣 .C) (𝓣 .Λ) code.function) (skip-whitespace.spec 𝓤 H A mem run)
-  skip-whitespace-meets 𝓣 known = meets alone 𝓤 H A W (skip-whitespace.signature .result) (skip-whitespace.clauses 𝓤 H A mem run) 𝓣 code.function
+  skip-whitespace-meets 𝓣 known = meets alone 𝓤 H A (skip-whitespace.signature .result) (skip-whitespace.clauses 𝓤 H A mem run) W 𝓣 code.function
       (λ l bounds _ _ _. needs 𝓤 _ _ (λ inside. walk l bounds inside (𝓣 .C) (𝓣 .Λ) (fmOf 𝓤 H (W .laws) 𝓣) known))
 
 pub skip-whitespace-spec : {M : Type 1} → stated.statement M
