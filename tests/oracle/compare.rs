@@ -227,9 +227,12 @@ struct Read<'a> {
 }
 
 impl Read<'_> {
-    /// Some records printed; `size` is what the Rust's text takes.
+    /// Some records printed; `size` is what the Rust's text takes. Also into a buffer so large that printing need not measure first.
     fn printed(&self, records: &[u8], size: usize) -> Answer<String> {
-        lent(size, |b| ours::display(self.text, records, b), 1).map(|b| String::from_utf8(b).unwrap())
+        let roomy = size + self.text.len() + 50 * (records.len() / RECORD);
+        let [exact, large] = [size, roomy].map(|n| lent(n, |b| ours::display(self.text, records, b), 1));
+        assert!(exact == large, "a larger buffer prints something else");
+        exact.map(|b| String::from_utf8(b).unwrap())
     }
 }
 
