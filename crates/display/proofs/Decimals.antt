@@ -1,33 +1,16 @@
 -- Decimal digits found from the last one on. Assumes nothing.
 use Prim.Native.Nat.{ℕ, zero, suc, _+_, _-_, _/_, _%_, _^_, _≤_, _<_}
 use mathlib.Core.Path.{_≡_, refl, sym, ap, _∙_}
-use mathlib.Core.Bool.{Bool, true, false}
-use mathlib.Core.List.{List, [], _∷_, _++_, append-assoc}
+use mathlib.Core.List.{List, [], _∷_, _++_}
 use native.Mathlib.Omega.{arith}
 use native.Mathlib.Nat.{pow-suc}
 use borrow.Author.Tests.{lt-ltb, le-ltb}
-use lib.Dec.{ltb}
 use lib.ListN.{length, take, drop, set, length-set, length-drop}
 use lib.Seq.{set-split, drop-at, length-take-le, take-all}
-use Rattle.notation.specs.Basics.{pick}
 use Rattle.notation.specs.Numbers.{showFrom, show}
+use Rattle.laws.proofs.ReadBack.Numbers.{show-apart}
 
 -- the digits stand in front of what follows
-show-apart : (k n : ℕ) (rest : List ℕ) → showFrom k n rest ≡ showFrom k n [] ++ rest
-unfolding showFrom
-show-apart zero n rest = refl
-show-apart (suc k) n rest = go (ltb n 10) (λ m s. show-apart k m s)
-  where
-    d : ℕ
-    d = 48 + n % 10
-
-    go : (t : Bool) → ((m : ℕ) (s : List ℕ) → showFrom k m s ≡ showFrom k m [] ++ s) →
-        pick t ((48 + n) ∷ rest) (showFrom k (n / 10) (d ∷ rest)) ≡ pick t ((48 + n) ∷ []) (showFrom k (n / 10) (d ∷ [])) ++ rest
-    go true f = refl
-    go false f =
-        f (n / 10) (d ∷ rest)
-        ∙ sym (ap (λ (l : List ℕ). l ++ rest) (f (n / 10) (d ∷ [])) ∙ append-assoc (showFrom k (n / 10) []) (d ∷ []) rest)
-
 pub show-adds : (n : ℕ) (rest : List ℕ) → show n [] ++ rest ≡ show n rest
 show-adds n rest = sym (show-apart 10 n rest)
 

@@ -24,7 +24,7 @@ digit-is : (n : ℕ) → n < 10 → isDigit (48 + n) ≡ true
 digit-is n h = and-both (leb 48 (48 + n)) (leb (48 + n) 57) (le-leb 48 (48 + n) (omega arith)) (le-leb (48 + n) 57 (omega arith))
 
 -- the digits stand in front of what follows
-show-apart : (k n : ℕ) (rest : List ℕ) → showFrom k n rest ≡ showFrom k n [] ++ rest
+pub show-apart : (k n : ℕ) (rest : List ℕ) → showFrom k n rest ≡ showFrom k n [] ++ rest
 unfolding showFrom
 show-apart zero n rest = refl
 show-apart (suc k) n rest = go (ltb n 10) (λ m s. show-apart k m s)
