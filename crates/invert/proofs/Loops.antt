@@ -1,17 +1,20 @@
 -- The two loops over a packed list: one writes what each node gives from the end, one keeps the last refusal. Each invariant is kept
 -- by a turn, whatever the nodes are inverted to or refused for. Assumes nothing.
-use Prim.Native.Nat.{ℕ, _+_, _-_, _≤_}
-use mathlib.Core.Path.{_≡_, refl, sym, ap, ap₂, _∙_}
+use Prim.Native.Nat.{ℕ, _+_, _-_, _/_, _≤_}
+use mathlib.Core.Path.{_≡_, refl, sym, ap, _∙_, subst}
 use mathlib.Core.List.{List, [], _++_, append-nil, append-assoc}
 use mathlib.Core.Option.{Option, none, some}
 use native.Mathlib.Omega.{arith}
 use lib.ListN.{length, take, drop, length-append, length-drop}
-use lib.Seq.{take-all, take-at, drop-length, drop-at, drop-drop, length-take-le}
+use lib.Seq.{take-at, drop-length, drop-at, drop-drop, length-take-le}
 use Rattle.notation.specs.Tree.{Leaf, Node, leaf, block, group, binaryGroup, nil, cons, append, Tree}
-use Rattle.notation.specs.Packed.{packNode, pack, unpack, headAt}
+use Rattle.notation.specs.Packed.{RECORD, packNode, pack, unpack, headAt}
+use Rattle.record.specs.Meaning.{field}
 use Rattle.laws.proofs.Unrolling.{first}
-use Rattle.laws.proofs.Inverses.{inverted, invRefusal, deeply, deepRefusal}
-use Rattle.laws.proofs.Walking.{Packed, Step, no-node, nodeHead}
+use Rattle.laws.proofs.Inverses.{inverted, invRefusal, deeply, deeplyNode, deepRefusal}
+use Rattle.laws.proofs.Walking.{Packed, no-node, nodeHead}
+use Rattle.nodes.specs.Nodes.{IsNode, part, FirstNode}
+use Rattle.nodes.proofs.Nodes.{part-length, length-part, part-front, alone, first-low, first-head, FirstLeaf, leaf-node}
 use Rattle.invert.specs.Nodes.{over, headRefusal}
 
 pub pack-append : (a b : Tree) → pack (append a b) ≡ pack a ++ pack b
@@ -19,18 +22,19 @@ unfolding pack append
 pack-append nil b = refl
 pack-append (cons n a) b = ap (λ (s : List ℕ). packNode n ++ s) (pack-append a b) ∙ sym (append-assoc (packNode n) (pack a) (pack b))
 
--- An inverse: the last node's comes first.
+-- An inverse: the last node's comes first, and a leaf is inverted alike by both.
 pub record Reverses (f : Tree → Tree) : Type 0 where
   pub empty : f nil ≡ nil
   pub more : (n : Node Leaf) (l : Tree) → f (cons n l) ≡ append (f l) (f (cons n nil))
+  pub step : (x : Leaf) → inverted (cons (leaf x) nil) ≡ f (cons (leaf x) nil)
 
 pub inverted-reverses : Reverses inverted
 unfolding inverted append
-inverted-reverses = record { empty = refl; more = λ n l. refl }
+inverted-reverses = record { empty = refl; more = λ n l. refl; step = λ x. refl }
 
 pub deeply-reverses : Reverses deeply
-unfolding deeply append
-deeply-reverses = record { empty = refl; more = λ n l. refl }
+unfolding inverted deeply deeplyNode append
+deeply-reverses = record { empty = refl; more = λ n l. refl; step = λ x. refl }
 
 -- A list with its elements from a to e written anew, as a part that was lent gives it back.
 abbrev pub putPart : ℕ → ℕ → List ℕ → List ℕ → List ℕ
@@ -71,9 +75,16 @@ same-length-parts l l′ a e a′ e′ h h′ k =
     ∙ k
     ∙ sym (length-take-le (e′ - a′) (drop a′ l′) (omega (arith, length-drop a′ l′)))
 
--- the part that is left is taken to the list's end
-pub rest-is : (e : ℕ) (t : List ℕ) → take (length t - e) (drop e t) ≡ drop e t
-rest-is e t = take-all (length t - e) (drop e t) (omega (arith, length-drop e t))
+-- the first node as the code takes it
+module _ {t : List ℕ} {e : ℕ} (s : FirstNode t e) where
+  pub front-node : IsNode (take e t) (s .node)
+  front-node = subst (λ (l : List ℕ). IsNode l (s .node)) (part-front e t) (s .isNode)
+
+  pub front-long : length (take e t) ≡ e
+  front-long = length-take-le e t (s .most)
+
+  pub front-low : {k : ℕ} → k ≡ field 0 t / 16 → k ≤ 5 → field 0 (take e t) / 16 ≤ 5
+  front-low q h = subst (λ (l : List ℕ). field 0 l / 16 ≤ 5) (part-front e t) (first-low s q h)
 
 -- t is what is left of tree, and out holds what is done from `at` on.
 pub record Wrote (f : Tree → Tree) (tree t : List ℕ) (at : ℕ) (out : List ℕ) : Type 0 where
@@ -94,38 +105,41 @@ wrote-none f tree out p e =
     }
 
 -- a node's place in out is as long as the node
-pub node-room : {f : Tree → Tree} {tree t : List ℕ} {at : ℕ} {out : List ℕ} {n : Node Leaf} {l : Tree} {e : ℕ} → Wrote f tree t at out → Step t n l e
+pub node-place : {f : Tree → Tree} {tree t : List ℕ} {at : ℕ} {out : List ℕ} {e : ℕ} → Wrote f tree t at out → FirstNode t e
     → length (take (at - (at - e)) (drop (at - e) out)) ≡ length (take e t)
-node-room {f} {tree} {t} {at} {out} {n} {l} {e} w s =
-    let z : length (drop (at - e) out) ≡ length out - (at - e) = length-drop (at - e) out in
-    length-take-le (at - (at - e)) (drop (at - e) out) (omega (arith, w .place, w .short, w .long, s .most))
+node-place {f} {tree} {t} {at} {out} {e} w s =
+    length-take-le (at - (at - e)) (drop (at - e) out) (omega (arith, length-drop (at - e) out, w .place, w .short, w .long, s .most))
     ∙ omega (arith, w .place, s .most)
-    ∙ sym (length-take-le e t (s .most))
+    ∙ sym (front-long s)
 
-pub step-count : {t : List ℕ} {n : Node Leaf} {l : Tree} {e : ℕ} → Step t n l e → e ≡ length (take e t)
-step-count {t} {n} {l} {e} s = sym (length-take-le e t (s .most))
-
-pub wrote-more : {f : Tree → Tree} {tree t : List ℕ} {at : ℕ} {out : List ℕ} {n : Node Leaf} {l : Tree} {e : ℕ} → Reverses f → Wrote f tree t at out → Step t n l e
+pub wrote-more : {f : Tree → Tree} {tree t : List ℕ} {at : ℕ} {out : List ℕ} {e : ℕ} → Reverses f → Wrote f tree t at out → FirstNode t e
     → (new : List ℕ) → length new ≡ length (take (at - (at - e)) (drop (at - e) out)) → new ≡ pack (f (unpack (take e t)))
-    → Wrote f tree (take (length t - e) (drop e t)) (at - e) (putPart (at - e) at out new)
-wrote-more {f} {tree} {t} {at} {out} {n} {l} {e} r w s new h q =
-    let z : length (drop e t) ≡ length t - e = length-drop e t in
-    let rest : take (length t - e) (drop e t) ≡ drop e t = rest-is e t in
+    → Wrote f tree (part e (length t) t) (at - e) (putPart (at - e) at out new)
+wrote-more {f} {tree} {t} {at} {out} {e} r w s new h q =
+    let l : Tree = unpack (part e (length t) t) in
+    let one : Tree = cons (s .node) nil in
     record {
-      packed = rw rest (s .packedBack);
-      short = rw rest (omega (arith, w .short));
-      place = rw rest (omega (arith, w .place));
-      long = length-putPart (at - e) at out new (omega arith) (omega (arith, w .place, w .short, w .long)) (h ∙ node-room w s ∙ length-take-le e t (s .most) ∙ omega (arith, w .place, s .most)) ∙ w .long;
+      packed = s .packedRest;
+      short = omega (arith, w .short, part-length e (length t) t);
+      place = ap (λ (k : ℕ). k - e) (w .place) ∙ sym (length-part e (length t) t (omega arith));
+      long = length-putPart (at - e) at out new (omega arith) (omega (arith, w .place, w .short, w .long)) (h ∙ node-place w s ∙ front-long s ∙ omega (arith, w .place, s .most)) ∙ w .long;
       done =
-          ap₂ (λ (x : Tree) (y : List ℕ). pack (f x) ++ y) (ap unpack rest ∙ s .unpacksBack) (drop-putPart (at - e) at out new (omega arith) (omega (arith, w .place, w .short, w .long)))
+          ap (λ (y : List ℕ). pack (f l) ++ y) (drop-putPart (at - e) at out new (omega arith) (omega (arith, w .place, w .short, w .long)))
           ∙ sym (append-assoc (pack (f l)) new (drop at out))
           ∙ ap (λ (y : List ℕ). y ++ drop at out)
-          (ap (λ (y : List ℕ). pack (f l) ++ y) (q ∙ ap (λ (x : Tree). pack (f x)) (s .unpacksFront))
-          ∙ sym (pack-append (f l) (f (cons n nil)))
-          ∙ sym (ap pack (r .more n l))
+          (ap (λ (y : List ℕ). pack (f l) ++ y) (q ∙ ap (λ (x : Tree). pack (f x)) (alone (front-node s)))
+          ∙ sym (pack-append (f l) (f one))
+          ∙ sym (ap pack (r .more (s .node) l))
           ∙ sym (ap (λ (x : Tree). pack (f x)) (s .unpacks)))
           ∙ w .done;
     }
+
+pub wrote-leaf : {f : Tree → Tree} {tree t : List ℕ} {at : ℕ} {out : List ℕ} → Reverses f → Wrote f tree t at out → FirstLeaf t
+    → (new : List ℕ) → length new ≡ length (take (at - (at - RECORD)) (drop (at - RECORD) out)) → new ≡ pack (inverted (unpack (take RECORD t)))
+    → Wrote f tree (part RECORD (length t) t) (at - RECORD) (putPart (at - RECORD) at out new)
+wrote-leaf {f} r w l new h q =
+    let one = alone (leaf-node l) in
+    wrote-more r w (l .first) new h (q ∙ ap pack (ap inverted one ∙ r .step (l .step) ∙ sym (ap f one)))
 
 pub wrote-all : (f : Tree → Tree) (tree t : List ℕ) (at : ℕ) (out : List ℕ) → Reverses f → Wrote f tree t at out → length t ≤ 0 → out ≡ pack (f (unpack tree))
 unfolding pack
@@ -161,17 +175,17 @@ pub record Looked (g : Tree → Option ℕ) (tree t : List ℕ) (before found : 
 pub looked-none : (g : Tree → Option ℕ) (tree : List ℕ) (before : ℕ) → Packed tree → Looked g tree tree before before
 looked-none g tree before p = record { packed = p; short = omega arith; done = refl }
 
-pub looked-more : {g : Tree → Option ℕ} {tree t : List ℕ} {before found : ℕ} {n : Node Leaf} {l : Tree} {e : ℕ} → Latest g → Looked g tree t before found → Step t n l e
-    → (found′ : ℕ) → found′ ≡ over (g (cons n nil)) found → Looked g tree (take (length t - e) (drop e t)) before found′
-looked-more {g} {tree} {t} {before} {found} {n} {l} {e} r w s found′ q =
-    let rest : take (length t - e) (drop e t) ≡ drop e t = rest-is e t in
+pub looked-more : {g : Tree → Option ℕ} {tree t : List ℕ} {before found : ℕ} {e : ℕ} → Latest g → Looked g tree t before found → (s : FirstNode t e)
+    → (found′ : ℕ) → found′ ≡ over (g (cons (s .node) nil)) found → Looked g tree (part e (length t) t) before found′
+looked-more {g} {tree} {t} {before} {found} {e} r w s found′ q =
+    let l : Tree = unpack (part e (length t) t) in
     record {
-      packed = rw rest (s .packedBack);
-      short = rw rest (omega (arith, w .short, length-drop e t));
+      packed = s .packedRest;
+      short = omega (arith, w .short, part-length e (length t) t);
       done =
-          ap₂ (λ (x : Tree) (k : ℕ). over (g x) k) (ap unpack rest ∙ s .unpacksBack) q
-          ∙ sym (over-first (g l) (g (cons n nil)) found)
-          ∙ sym (ap (λ (o : Option ℕ). over o found) (r .more n l))
+          ap (over (g l)) q
+          ∙ sym (over-first (g l) (g (cons (s .node) nil)) found)
+          ∙ sym (ap (λ (o : Option ℕ). over o found) (r .more (s .node) l))
           ∙ sym (ap (λ (x : Tree). over (g x) found) (s .unpacks))
           ∙ w .done;
     }
@@ -182,9 +196,9 @@ looked-all g tree t before found r w h =
     sym (ap (λ (x : Tree). over (g x) found) (no-node t (w .packed) none) ∙ ap (λ (o : Option ℕ). over o found) (r .empty)) ∙ w .done
 
 -- the shallow walk looks only at the first record
-pub inv-one : (t : List ℕ) {n : Node Leaf} {l : Tree} {e : ℕ} → Step t n l e → headRefusal (headAt t) ≡ invRefusal (cons n nil)
+pub inv-one : {t : List ℕ} {e : ℕ} (s : FirstNode t e) → headRefusal (headAt t) ≡ invRefusal (cons (s .node) nil)
 unfolding invRefusal
-inv-one t {n} s = ap headRefusal (s .head) ∙ go n
+inv-one s = ap headRefusal (first-head s) ∙ go (s .node)
   where
     go : (n : Node Leaf) → headRefusal (nodeHead n) ≡ invRefusal (cons n nil)
     go (leaf x) = refl

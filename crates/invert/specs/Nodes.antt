@@ -3,19 +3,12 @@ use Prim.Native.Nat.{ℕ, _/_, _≤_}
 use mathlib.Core.Path.{_≡_}
 use mathlib.Core.List.{List, _++_}
 use mathlib.Core.Option.{Option, none, some}
-use lib.ListN.{length, take, drop}
-use Rattle.notation.specs.Tree.{Leaf, Node, nil, cons}
+use lib.ListN.{length, take}
 use Rattle.notation.specs.Packed.{RECORD, Head, leafHead, groupHead, binaryHead, pack, unpack}
 use Rattle.record.specs.Meaning.{field}
 use Rattle.laws.proofs.Inverses.{leafRefusal, deeply, deepRefusal}
 use Rattle.laws.proofs.Walking.{Packed}
-
--- the bytes of one node
-pub record OneNode (bs : List ℕ) : Type 0 where
-  pub node : Node Leaf
-  pub packed : Packed bs
-  pub unpacks : unpack bs ≡ cons node nil
-  pub long : RECORD ≤ length bs
+use Rattle.nodes.specs.Nodes.{part}
 
 -- a refusal, or else what was found before
 abbrev pub over : Option ℕ → ℕ → ℕ
@@ -31,6 +24,6 @@ headRefusal (binaryHead k n n′ m) = none
 pub record Inner (bs : List ℕ) (m : ℕ) : Type 0 where
   pub least : RECORD ≤ m
   pub most : m ≤ length bs
-  pub packed : Packed (drop m bs)
-  pub deep : pack (deeply (unpack bs)) ≡ take m bs ++ pack (deeply (unpack (drop m bs)))
-  pub refusal : (field 0 bs / 16 ≡ 3 → ⊥) → deepRefusal (unpack bs) ≡ deepRefusal (unpack (drop m bs))
+  pub packed : Packed (part m (length bs) bs)
+  pub deep : take m bs ++ pack (deeply (unpack (part m (length bs) bs))) ≡ pack (deeply (unpack bs))
+  pub refusal : (field 0 bs / 16 ≡ 3 → ⊥) → deepRefusal (unpack (part m (length bs) bs)) ≡ deepRefusal (unpack bs)

@@ -5,17 +5,20 @@ pub mod parts;
 pub mod refusal;
 
 ghost use mathlib.Core.Path.{_≡_};
-ghost use Prim.Native.Nat.{_/_};
+ghost use Prim.Native.Nat.{_/_, _≤_};
 ghost use lib.ListN.{length};
+ghost use Rattle.notation.specs.Tree.{Leaf, Node};
 ghost use Rattle.notation.specs.Packed.{RECORD as recordSize, pack, unpack};
 ghost use Rattle.record.specs.Meaning.{field};
 ghost use Rattle.laws.proofs.Walking.{Packed};
 ghost use Rattle.laws.proofs.Inverses.{inverted, invRefusal, deeply, deepRefusal};
-ghost use Rattle.invert.specs.Nodes.{OneNode, over};
+ghost use Rattle.nodes.specs.Nodes.{IsNode};
+ghost use Rattle.invert.specs.Nodes.{over};
 use bytes::copy;
+use nodes::first_end;
+use nodes::node_end;
 use numbers::big_endian::write_u16;
 use parts::inner_start;
-use parts::node_end;
 use record::RECORD;
 use record::copy::copy_record;
 use record::fields;
@@ -68,7 +71,7 @@ pub fn inv(tree: &[u8], out: &mut [u8])
 
 // Of a leaf, whose one record is copied as such: that is quicker than a copy of any length.
 fn inv_leaf(node: &[u8], out: &mut [u8])
-    requires { ⌜ OneNode (now node) ⌝ }
+    requires { ⌜ ((n : Node Leaf) × IsNode (now node) n) ⌝ }
     requires { ⌜ (length (now node) ≡ recordSize) × (length (now out) ≡ length (now node)) ⌝ }
     ensures { λ _. ⌜ now (out .exit) ≡ pack (inverted (unpack (now (node .entry)))) ⌝ }
 {
@@ -77,7 +80,7 @@ fn inv_leaf(node: &[u8], out: &mut [u8])
 }
 
 fn inv_node(node: &[u8], out: &mut [u8])
-    requires { ⌜ OneNode (now node) ⌝ }
+    requires { ⌜ ((n : Node Leaf) × IsNode (now node) n) ⌝ }
     requires { ⌜ length (now out) ≡ length (now node) ⌝ }
     ensures { λ _. ⌜ now (out .exit) ≡ pack (inverted (unpack (now (node .entry)))) ⌝ }
 {
@@ -110,7 +113,7 @@ fn list_refusal(tree: &[u8], before: u8) -> u8
 
 // Of a commutator no list is entered, of a conjugate the second.
 fn node_refusal(node: &[u8], before: u8) -> u8
-    requires { ⌜ OneNode (now node) ⌝ }
+    requires { ⌜ ((n : Node Leaf) × IsNode (now node) n) ⌝ }
     ensures { λ r. ⌜ r ≡ over (deepRefusal (unpack (now (node .entry)))) before ⌝ }
 {
     let kind = fields::kind(node);
@@ -136,25 +139,30 @@ pub fn inv_deep(tree: &[u8], out: &mut [u8])
     let mut t = tree;
     let mut at = out.len();
     while 0 < t.len() {
-        let e = node_end(t);
-        let to = at - e;
-        inv_deep_node(&t[..e], &mut out[to..at]);
-        at = to;
-        t = &t[e..];
+        // A leaf is one record.
+        if kinds::CONJUGATE < fields::kind(t) {
+            let to = at - RECORD;
+            inv_leaf(&t[..RECORD], &mut out[to..at]);
+            at = to;
+            t = &t[RECORD..];
+        } else {
+            let e = node_end(t);
+            let to = at - e;
+            inv_deep_node(&t[..e], &mut out[to..at]);
+            at = to;
+            t = &t[e..];
+        }
     }
 }
 
+// Of a group.
 fn inv_deep_node(node: &[u8], out: &mut [u8])
-    requires { ⌜ OneNode (now node) ⌝ }
+    requires { ⌜ ((n : Node Leaf) × IsNode (now node) n) ⌝ }
+    requires { ⌜ field 0 (now node) / 16 ≤ 5 ⌝ }
     requires { ⌜ length (now out) ≡ length (now node) ⌝ }
     ensures { λ _. ⌜ now (out .exit) ≡ pack (deeply (unpack (now (node .entry)))) ⌝ }
 {
-    let kind = fields::kind(node);
-    if kinds::CONJUGATE < kind {
-        inv_leaf(node, out);
-        return;
-    }
-    if kind == kinds::COMMUTATOR {
+    if fields::kind(node) == kinds::COMMUTATOR {
         exchange_lists(node, out);
         return;
     }
@@ -165,15 +173,15 @@ fn inv_deep_node(node: &[u8], out: &mut [u8])
 
 // A commutator's inverse: its lists exchanged.
 fn exchange_lists(node: &[u8], out: &mut [u8])
-    requires { ⌜ OneNode (now node) ⌝ }
+    requires { ⌜ ((n : Node Leaf) × IsNode (now node) n) ⌝ }
     requires { ⌜ field 0 (now node) / 16 ≡ 4 ⌝ }
     requires { ⌜ length (now out) ≡ length (now node) ⌝ }
     ensures { λ _. ⌜ now (out .exit) ≡ pack (deeply (unpack (now (node .entry)))) ⌝ }
 {
     let first = fields::first(node);
     let second = fields::second(node);
-    let m = RECORD + RECORD * (first as usize);
-    let n = RECORD + RECORD * (second as usize);
+    let m = first_end(node);
+    let n = RECORD + (node.len() - m);
     copy(&node[..RECORD], &mut out[..RECORD]);
     copy(&node[m..], &mut out[RECORD..n]);
     copy(&node[RECORD..m], &mut out[n..]);

@@ -44,12 +44,12 @@ abbrev pub inside : Node Leaf → List ℕ
 inside (leaf x) = []
 inside (block b m) = packBody b
 
-node-bytes : (n : Node Leaf) → packNode n ≡ record25 (nodeHead n) ++ inside n
+pub node-bytes : (n : Node Leaf) → packNode n ≡ record25 (nodeHead n) ++ inside n
 unfolding packNode
 node-bytes (leaf x) = sym (append-nil _)
 node-bytes (block b m) = refl
 
-node-head-fits : (n : Node Leaf) → FitsNode n → FitsHead (nodeHead n)
+pub node-head-fits : (n : Node Leaf) → FitsNode n → FitsHead (nodeHead n)
 unfolding FitsNode
 node-head-fits (leaf x) f = f
 node-head-fits (block b m) f = f .0

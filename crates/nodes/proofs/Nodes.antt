@@ -45,7 +45,7 @@ list-less bs a e t h l p = omega (arith, part-length a e bs)
 pub rest-less : (bs : List ℕ) (e : ℕ) → RECORD ≤ e → e ≤ length bs → length (part e (length bs) bs) < length bs
 rest-less bs e h l = omega (arith, part-length e (length bs) bs)
 
-part-front : (e : ℕ) (bs : List ℕ) → part 0 e bs ≡ take e bs
+pub part-front : (e : ℕ) (bs : List ℕ) → part 0 e bs ≡ take e bs
 part-front e bs = let z : e - 0 ≡ e = omega arith in ap (λ (k : ℕ). take k bs) z
 
 -- the law of `node_end`
@@ -218,6 +218,9 @@ front-field bs e h i = ap (λ (l : List ℕ). getD (cut widths l) i 0) (front-re
 pub first-low : {bs : List ℕ} {e k : ℕ} → FirstNode bs e → k ≡ field 0 bs / 16 → k ≤ 5 → field 0 (part 0 e bs) / 16 ≤ 5
 first-low {bs} {e} f q h = omega (arith, front-field bs e (f .least) 0)
 
+pub first-head : {bs : List ℕ} {e : ℕ} (f : FirstNode bs e) → headAt bs ≡ nodeHead (f .node)
+first-head {bs} {e} f = ap (λ (b : List ℕ). headOf (cut widths b)) (sym (front-record bs e (f .least))) ∙ node-head (f .isNode)
+
 -- a leaf, which is one record
 pub record FirstLeaf (bs : List ℕ) : Type 0 where
   pub step : Leaf
@@ -247,4 +250,4 @@ pub leaf-record : {bs : List ℕ} (l : FirstLeaf bs) → length (part 0 RECORD b
 leaf-record l = leaf-long (l .step) (leaf-node l)
 
 pub leaf-head : {bs : List ℕ} (l : FirstLeaf bs) → headAt bs ≡ leafHead (l .step)
-leaf-head {bs} l = ap (λ (b : List ℕ). headOf (cut widths b)) (sym (front-record bs RECORD (lit≤ tt))) ∙ node-head (leaf-node l)
+leaf-head l = first-head (l .first) ∙ ap nodeHead (l .isStep)

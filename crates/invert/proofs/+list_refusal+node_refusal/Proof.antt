@@ -9,8 +9,9 @@ use lib.ListN.{length}
 use Rattle.notation.specs.Tree.{Tree}
 use Rattle.laws.proofs.Inverses.{deepRefusal}
 use Rattle.invert.specs.Nodes.{over}
-use Rattle.invert.proofs.Nodes.{step-one, one-starts, inner-packed, inner-shorter, inner-refused, niss-refused, commutator-refused, leaf-refused}
-use Rattle.invert.proofs.Loops.{Looked, looked-none, looked-more, looked-all, deep-latest, step-count}
+use Rattle.nodes.proofs.Nodes.{list-less, node-room, alone}
+use Rattle.invert.proofs.Nodes.{node-starts, niss-refused, commutator-refused, leaf-refused}
+use Rattle.invert.proofs.Loops.{Looked, looked-none, looked-more, looked-all, deep-latest, front-node, front-long}
 use borrow.Fn.Kinds.{In}
 use borrow.Fn.PlainCycle.{Measures, is, falls, and}
 use Rattle.invert.proofs.list_refusal.Reads as list-refusal
@@ -20,7 +21,7 @@ use Rattle.invert.proofs.node_refusal.Reads as node-refusal
 use Rattle.invert.proofs.node_refusal.Kinds as node-refusal-kinds
 use Rattle.invert.proofs.+list_refusal+node_refusal.Lts-node_refusal as node-refusal-lts
 use Rattle.invert.proofs.parts.inner_start.Reads as inner-start-reads
-use Rattle.invert.proofs.parts.node_end.Reads as node-end-reads
+use Rattle.nodes.proofs.node_end.Reads as node-end-reads
 use Rattle.invert.proofs.refusal.pair_refusal.Reads as pair-refusal-reads
 use Rattle.record.proofs.fields.kind.Reads as kind-reads
 use Rattle.invert.proofs.+list_refusal+node_refusal.{statement}
@@ -77,14 +78,14 @@ list-refusal-node-end-requires t c κs = (c .before .loop .inv .packed, c .loop-
 
 list-refusal-slice-aggregate-node-refusal :
     (t : ℕ) → list-refusal-lts.Need-slice-aggregate-node-refusal (list-claims t) (list-refusal-at t) list-refusal.Post list-refusal-Inv-loop list-refusal-μ-loop
-list-refusal-slice-aggregate-node-refusal t c = step-count (c .before .node-end .ensures .2)
+list-refusal-slice-aggregate-node-refusal t c = sym (front-long (c .before .node-end .ensures))
 
 list-refusal-node-refusal-requires : (t : ℕ) → list-refusal-lts.Need-node-refusal-requires (list-claims t) (list-refusal-at t) list-refusal.Post list-refusal-Inv-loop list-refusal-μ-loop
 list-refusal-node-refusal-requires t c κs =
     let ended = c .before in
     let at-loop = ended .before .before in
-    let step = ended .node-end .ensures .2 in
-    (omega (arith, step-count step, step .most, at-loop .loop .inv .short, at-loop .before .before .pre .0), step-one step)
+    let step = ended .node-end .ensures in
+    (omega (arith, front-long step, step .most, at-loop .loop .inv .short, at-loop .before .before .pre .0), (_, front-node step))
 
 list-refusal-sub-t : (t : ℕ) → list-refusal-lts.Need-sub-t (list-claims t) (list-refusal-at t) list-refusal.Post list-refusal-Inv-loop list-refusal-μ-loop
 list-refusal-sub-t t c = search needs
@@ -103,36 +104,35 @@ list-refusal-loop-again t c =
     let called = c .before in
     let ended = called .before .before in
     let loop = ended .before .before .loop in
-    let step = ended .node-end .ensures .2 in
-    looked-more deep-latest (loop .inv) step _ (called .node-refusal .ensures ∙ ap (λ (x : Tree). over (deepRefusal x) (loop .found)) (step .unpacksFront))
+    let step = ended .node-end .ensures in
+    looked-more deep-latest (loop .inv) step _ (called .node-refusal .ensures ∙ ap (λ (x : Tree). over (deepRefusal x) (loop .found)) (alone (front-node step)))
 
 list-refusal-returns : (t : ℕ) → list-refusal-lts.Need-returns (list-claims t) (list-refusal-at t) list-refusal.Post list-refusal-Inv-loop list-refusal-μ-loop
 list-refusal-returns t c = looked-all deepRefusal _ _ _ _ deep-latest (c .before .loop .inv) (c .loop-test .left)
 
 node-refusal-kind-requires : (t : ℕ) → node-refusal-lts.Need-kind-requires (node-claims t) (node-refusal-at t) node-refusal.Post
-node-refusal-kind-requires t c κs = c .before .pre .1 .long
+node-refusal-kind-requires t c κs = node-room (c .before .pre .1 .1)
 
 node-refusal-returns : (t : ℕ) → node-refusal-lts.Need-returns (node-claims t) (node-refusal-at t) node-refusal.Post
 node-refusal-returns t c =
     let start = c .before .before .before in
-    sym (ap (λ (o : Option ℕ). over o (start .args .before)) (niss-refused (start .args .node .now) (start .pre .1) (sym (c .before .kind .ensures) ∙ c .if1 .taken)))
+    sym (ap (λ (o : Option ℕ). over o (start .args .before)) (niss-refused _ (start .pre .1 .1) (sym (c .before .kind .ensures) ∙ c .if1 .taken)))
 
 node-refusal-returns-2 : (t : ℕ) → node-refusal-lts.Need-returns-2 (node-claims t) (node-refusal-at t) node-refusal.Post
 node-refusal-returns-2 t c =
     let start = c .before .before .before .before in
-    sym (ap (λ (o : Option ℕ). over o (start .args .before)) (commutator-refused (start .args .node .now) (start .pre .1) (sym (c .before .before .kind .ensures) ∙ c .if2 .taken)))
+    sym (ap (λ (o : Option ℕ). over o (start .args .before)) (commutator-refused _ (start .pre .1 .1) (sym (c .before .before .kind .ensures) ∙ c .if2 .taken)))
 
 node-refusal-pair-refusal-requires : (t : ℕ) → node-refusal-lts.Need-pair-refusal-requires (node-claims t) (node-refusal-at t) node-refusal.Post
 node-refusal-pair-refusal-requires t c κs =
-    let start = c .before .before .before .before .before in
-    one-starts (start .args .node .now) (start .pre .1)
+    node-starts (c .before .before .before .before .before .pre .1 .1)
 
 node-refusal-returns-3 : (t : ℕ) → node-refusal-lts.Need-returns-3 (node-claims t) (node-refusal-at t) node-refusal.Post
 node-refusal-returns-3 t c =
     let kind = c .before .before .before .before in
     let start = kind .before .before in
     c .pair-refusal .ensures
-    ∙ ap (λ (o : Option ℕ). over o (start .args .before)) (leaf-refused (start .args .node .now) (start .pre .1) (omega (arith, kind .kind .ensures, c .before .if3 .taken)))
+    ∙ ap (λ (o : Option ℕ). over o (start .args .before)) (leaf-refused _ (start .pre .1 .1) (omega (arith, kind .kind .ensures, c .before .if3 .taken)))
 
 node-refusal-inner-start-requires : (t : ℕ) → node-refusal-lts.Need-inner-start-requires (node-claims t) (node-refusal-at t) node-refusal.Post
 node-refusal-inner-start-requires t c κs =
@@ -152,10 +152,8 @@ node-refusal-list-refusal-requires : (t : ℕ) → node-refusal-lts.Need-list-re
 node-refusal-list-refusal-requires t c κs =
     let inner = c .before in
     let start = inner .before .before .before .before .before .before in
-    let bs = start .args .node .now in
-    let m = inner .inner-start .result in
     let law = inner .inner-start .ensures in
-    (omega (arith, inner-shorter bs m law, start .pre .0), inner-packed bs m law)
+    (list-less (start .args .node .now) _ _ _ (law .least) (node-room (start .pre .1 .1)) (start .pre .0), law .packed)
 
 node-refusal-returns-4 : (t : ℕ) → node-refusal-lts.Need-returns-4 (node-claims t) (node-refusal-at t) node-refusal.Post
 node-refusal-returns-4 t c =
@@ -164,7 +162,7 @@ node-refusal-returns-4 t c =
     let start = first-test .before .before .before in
     c .list-refusal .ensures
     ∙ ap (λ (o : Option ℕ). over o (start .args .before))
-    (inner-refused (start .args .node .now) (inner .inner-start .result) (inner .inner-start .ensures) (λ e. first-test .if1 .left (first-test .before .kind .ensures ∙ e)))
+    (inner .inner-start .ensures .refusal (λ e. first-test .if1 .left (first-test .before .kind .ensures ∙ e)))
 
 pub +list-refusal+node-refusal-spec : {M : Type 1} → statement M
 +list-refusal+node-refusal-spec = close μ-list-refusal μ-node-refusal (λ t. list-refusal-lts.spec (list-claims t)

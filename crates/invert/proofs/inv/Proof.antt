@@ -4,12 +4,9 @@ use mathlib.Core.Path.{sym}
 use native.Mathlib.Omega.{arith}
 use borrow.Author.Needs.{needs}
 use lib.ListN.{length}
-use Rattle.notation.specs.Tree.{Leaf, Node, Tree}
-use Rattle.notation.specs.Packed.{RECORD}
-use Rattle.laws.proofs.Walking.{Step}
 use Rattle.laws.proofs.Inverses.{inverted}
-use Rattle.invert.proofs.Nodes.{packed-starts, step-one, first-leaf}
-use Rattle.invert.proofs.Loops.{Wrote, wrote-none, wrote-more, wrote-all, node-room, step-count, inverted-reverses}
+use Rattle.nodes.proofs.Nodes.{record-room, FirstLeaf, first-leaf, leaf-node, leaf-record}
+use Rattle.invert.proofs.Loops.{Wrote, wrote-none, wrote-leaf, wrote-more, wrote-all, node-place, front-node, front-long, inverted-reverses}
 use Rattle.invert.proofs.inv.Statement.{statement}
 use Rattle.invert.proofs.inv.Tie as tie
 
@@ -23,19 +20,17 @@ loop-holds : tie.Need-loop-holds Inv-loop μ-loop
 loop-holds c = wrote-none inverted (c .before .before .args .tree .now) (c .before .before .args .out .now) (c .before .before .pre .0) (c .before .before .pre .1)
 
 kind-requires : tie.Need-kind-requires Inv-loop μ-loop
-kind-requires c κs = packed-starts (c .before .loop .t .now) (c .before .loop .inv .packed) (c .loop-test .taken) .long
+kind-requires c κs = record-room _ (c .before .loop .inv .packed) (c .loop-test .taken)
 
 -- the leaf in front of what is left
-leaf-at : (c : tie.Then1 Inv-loop μ-loop) → (n : Node Leaf) × (l : Tree) × Step (c .before .before .before .loop .t .now) n l RECORD
-leaf-at c =
-    let at-loop = c .before .before .before in
-    first-leaf (at-loop .loop .t .now) (at-loop .loop .inv .packed) (c .before .before .loop-test .taken) (c .before .kind .ensures) (c .if1 .taken)
+leaf-at : (c : tie.Then1 Inv-loop μ-loop) → FirstLeaf (c .before .before .before .loop .t .now)
+leaf-at c = first-leaf (c .before .before .before .loop .inv .packed) (c .before .before .loop-test .taken) (c .before .kind .ensures) (c .if1 .taken)
 
 sub-to : tie.Need-sub-to Inv-loop μ-loop
-sub-to c = omega (arith, leaf-at c .2 .most, c .before .before .before .loop .inv .place)
+sub-to c = omega (arith, leaf-at c .first .most, c .before .before .before .loop .inv .place)
 
 slice-aggregate-inv-leaf : tie.Need-slice-aggregate-inv-leaf Inv-loop μ-loop
-slice-aggregate-inv-leaf c = step-count (leaf-at (c .before) .2)
+slice-aggregate-inv-leaf c = sym (leaf-record (leaf-at (c .before)))
 
 sub-inv-leaf : tie.Need-sub-inv-leaf Inv-loop μ-loop
 sub-inv-leaf c = search needs
@@ -49,14 +44,14 @@ part-inv-leaf-end c = search needs
 inv-leaf-requires : tie.Need-inv-leaf-requires Inv-loop μ-loop
 inv-leaf-requires c κs =
     let tested = c .before .before in
-    let leaf = leaf-at tested .2 in
-    (step-one leaf, (sym (step-count leaf), node-room (tested .before .before .before .loop .inv) leaf))
+    let front = leaf-at tested in
+    ((_, leaf-node front), (leaf-record front, node-place (tested .before .before .before .loop .inv) (front .first)))
 
 sub-t : tie.Need-sub-t Inv-loop μ-loop
-sub-t c = leaf-at (c .before .before .before .before .before) .2 .most
+sub-t c = leaf-at (c .before .before .before .before .before) .first .most
 
 part-t-start : tie.Need-part-t-start Inv-loop μ-loop
-part-t-start c = leaf-at (c .before .before .before .before .before) .2 .most
+part-t-start c = leaf-at (c .before .before .before .before .before) .first .most
 
 part-t-end : tie.Need-part-t-end Inv-loop μ-loop
 part-t-end c = search needs
@@ -68,7 +63,7 @@ loop-again : tie.Need-loop-again Inv-loop μ-loop
 loop-again c =
     let called = c .before .before .before in
     let tested = called .before .before .before in
-    wrote-more inverted-reverses (tested .before .before .before .loop .inv) (leaf-at tested .2) _ (called .inv-leaf .kept .1 .0) (called .inv-leaf .ensures)
+    wrote-leaf inverted-reverses (tested .before .before .before .loop .inv) (leaf-at tested) _ (called .inv-leaf .kept .1 .0) (called .inv-leaf .ensures)
 
 node-end-requires : tie.Need-node-end-requires Inv-loop μ-loop
 node-end-requires c κs = (c .before .before .before .loop .inv .packed, c .before .before .loop-test .taken)
@@ -77,7 +72,7 @@ sub-to-2 : tie.Need-sub-to-2 Inv-loop μ-loop
 sub-to-2 c = search needs
 
 slice-aggregate-inv-node : tie.Need-slice-aggregate-inv-node Inv-loop μ-loop
-slice-aggregate-inv-node c = step-count (c .before .node-end .ensures .2)
+slice-aggregate-inv-node c = sym (front-long (c .before .node-end .ensures))
 
 sub-inv-node : tie.Need-sub-inv-node Inv-loop μ-loop
 sub-inv-node c = search needs
@@ -92,8 +87,8 @@ inv-node-requires : tie.Need-inv-node-requires Inv-loop μ-loop
 inv-node-requires c κs =
     let ended = c .before .before in
     let at-loop = ended .before .before .before .before in
-    let step = ended .node-end .ensures .2 in
-    (step-one step, node-room (at-loop .loop .inv) step)
+    let step = ended .node-end .ensures in
+    ((_, front-node step), node-place (at-loop .loop .inv) step)
 
 sub-t-2 : tie.Need-sub-t-2 Inv-loop μ-loop
 sub-t-2 c = search needs
@@ -112,7 +107,7 @@ loop-again-2 c =
     let called = c .before .before .before in
     let ended = called .before .before .before in
     let at-loop = ended .before .before .before .before in
-    wrote-more inverted-reverses (at-loop .loop .inv) (ended .node-end .ensures .2) _ (called .inv-node .kept .1 .0) (called .inv-node .ensures)
+    wrote-more inverted-reverses (at-loop .loop .inv) (ended .node-end .ensures) _ (called .inv-node .kept .1 .0) (called .inv-node .ensures)
 
 same-length : tie.Need-same-length Inv-loop μ-loop
 same-length c = search needs

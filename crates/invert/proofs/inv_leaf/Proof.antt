@@ -14,7 +14,7 @@ undo-record-requires : tie.Need-undo-record-requires
 undo-record-requires c κs =
     let copied = c .before .before .before in
     let start = copied .before .before .before .before in
-    copy-starts (start .args .node .now) _ (start .pre .0) (over-all (start .args .node .now) (start .args .out .now) RECORD (start .pre .1 .1 ∙ start .pre .1 .0) (copied .copy-record .ensures))
+    copy-starts (start .pre .0 .1) (over-all (start .args .node .now) (start .args .out .now) RECORD (start .pre .1 .1 ∙ start .pre .1 .0) (copied .copy-record .ensures))
 
 same-length : tie.Need-same-length
 same-length c = search needs
@@ -24,7 +24,7 @@ returns c =
     let undone = c .before .before in
     let copied = undone .before .before .before .before in
     let start = copied .before .before .before .before in
-    copy-inverted (start .args .node .now) _ (start .pre .0) (over-all (start .args .node .now) (start .args .out .now) RECORD (start .pre .1 .1 ∙ start .pre .1 .0) (copied .copy-record .ensures))
+    copy-inverted (start .pre .0 .1) (over-all (start .args .node .now) (start .args .out .now) RECORD (start .pre .1 .1 ∙ start .pre .1 .0) (copied .copy-record .ensures))
     (undone .undo-record .ensures)
 
 pub inv-leaf-spec : {M : Type 1} → statement M

@@ -12,7 +12,7 @@ undo-record-requires : tie.Need-undo-record-requires
 undo-record-requires c κs =
     let copied = c .before .before .before in
     let start = copied .before .before .before .before in
-    copy-starts (start .args .node .now) _ (start .pre .0) (copied-whole (start .args .node .now) (start .args .out .now) (start .pre .1) (copied .copy .ensures .1))
+    copy-starts (start .pre .0 .1) (copied-whole (start .args .node .now) (start .args .out .now) (start .pre .1) (copied .copy .ensures .1))
 
 same-length : tie.Need-same-length
 same-length c = search needs
@@ -22,7 +22,7 @@ returns c =
     let undone = c .before .before in
     let copied = undone .before .before .before .before in
     let start = copied .before .before .before .before in
-    copy-inverted (start .args .node .now) _ (start .pre .0) (copied-whole (start .args .node .now) (start .args .out .now) (start .pre .1) (copied .copy .ensures .1))
+    copy-inverted (start .pre .0 .1) (copied-whole (start .args .node .now) (start .args .out .now) (start .pre .1) (copied .copy .ensures .1))
     (undone .undo-record .ensures)
 
 pub inv-node-spec : {M : Type 1} → statement M

@@ -44,8 +44,8 @@ loop-again c =
     let ended = c .before in
     let seen = ended .before in
     let loop = seen .before .before .loop in
-    let step = ended .node-end .ensures .2 in
-    looked-more inv-latest (loop .inv) step _ (seen .pair-refusal .ensures ∙ ap (λ (o : Option ℕ). over o (loop .found)) (inv-one (loop .t .now) step))
+    let step = ended .node-end .ensures in
+    looked-more inv-latest (loop .inv) step _ (seen .pair-refusal .ensures ∙ ap (λ (o : Option ℕ). over o (loop .found)) (inv-one step))
 
 returns : tie.Need-returns Inv-loop μ-loop
 returns c = looked-all invRefusal _ _ _ _ inv-latest (c .before .loop .inv) (c .loop-test .left)
