@@ -6,13 +6,15 @@ root=$(cd "$(dirname "$0")/../.." && pwd)
 kit=$(dirname "$(dirname "$(readlink -f "$(command -v rt)")")")
 own=$kit/on/$(uname -m)
 out=$root/target/forms
-crates="notation charsets numbers layer record laws parse tree display simplify invert expand hypuz_notation reader ranges"
+crates="notation charsets numbers layer record laws nodes parse tree display simplify invert expand hypuz_notation reader ranges"
 rm -rf "$out" && mkdir -p "$out/main/src"
 for c in $crates; do mkdir -p "$out/$c" && cp -r "$root/crates/$c/src" "$out/$c/src"; done
-# Handed over as sources, a library may not have a module with another library's name: notation's `charsets` gets another one here.
+# Handed over as sources, a library may not have a module with another library's name: notation's `charsets` and parse's `nodes` get other ones here.
 mv "$out/notation/src/charsets.rt" "$out/notation/src/character_sets.rt"
+mv "$out/parse/src/nodes.rt" "$out/parse/src/node_lists.rt"
 sed -i 's/mod charsets;/mod character_sets;/' "$out/notation/src/lib.rt"
-find "$out" -name '*.rt' -exec sed -i 's/notation::charsets/notation::character_sets/' {} +
+sed -i 's/mod nodes;/mod node_lists;/' "$out/parse/src/lib.rt"
+find "$out" -name '*.rt' -exec sed -i 's/notation::charsets/notation::character_sets/; s/crate::nodes::/crate::node_lists::/' {} +
 cat >"$out/main/src/main.rt" <<'PROGRAM'
 use layer::Layer;
 use layer::LayerRange;
