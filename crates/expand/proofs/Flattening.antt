@@ -27,7 +27,7 @@ use Rattle.laws.proofs.Counting.{countBinary, countNode, countBody, count, coun
 use Rattle.expand.specs.Meaning.{binaryKind}
 use Rattle.nodes.specs.Nodes.{IsNode, part, FirstNode, firstList, secondList}
 use Rattle.expand.specs.Steps.{AllUndoable, Wrote, Room, Pair, either}
-use Rattle.nodes.proofs.Nodes.{part-rest, node-unique, FirstLeaf, leaf-node}
+use Rattle.nodes.proofs.Nodes.{part-rest, part-length, node-unique, FirstLeaf, leaf-node}
 use Rattle.expand.proofs.Shapes.{Shape, isLeaf, isGroup, isBinary, shape-of}
 use Rattle.expand.proofs.Steps.{length-records, records-append, all-flat, all-flatBody}
 
