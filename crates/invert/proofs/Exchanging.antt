@@ -21,7 +21,7 @@ use Rattle.invert.proofs.Nodes.{record-is, list-is}
 use Rattle.invert.proofs.Loops.{putPart, length-putPart, put-last, same-length-fronts, same-length-parts}
 
 -- a list written in three parts, the first p long, the second from p to k
-pub three-parts : (out a b c : List ℕ) (p k : ℕ) → p ≤ k → length a ≡ p → length b ≡ k - p → (out₂ : List ℕ) → out₂ ≡ putPart p k (a ++ drop p out) b
+three-parts : (out a b c : List ℕ) (p k : ℕ) → p ≤ k → length a ≡ p → length b ≡ k - p → (out₂ : List ℕ) → out₂ ≡ putPart p k (a ++ drop p out) b
     → putPart k (length out₂) out₂ c ≡ a ++ (b ++ c)
 three-parts out a b c p k h ea eb out₂ e =
     let tail = drop (k - p) (drop p (a ++ drop p out)) in
@@ -73,7 +73,7 @@ module _ {bs : List ℕ} {n : Node Leaf} {m : ℕ} (s : IsNode bs n) (kind : fie
     whole₁ : length out₁ ≡ length bs
     whole₁ = length-append l₁ (drop RECORD out) ∙ omega (arith, long₁, length-drop RECORD out, long, node-room s)
 
-    pub second-place : length (part RECORD k out₁) ≡ length (part m (length bs) bs)
+    second-place : length (part RECORD k out₁) ≡ length (part m (length bs) bs)
     second-place = same-length-parts out₁ bs RECORD k m (length bs) (omega (arith, whole₁, l .least, l .most)) (omega arith) (omega arith)
 
     module _ (l₂ : List ℕ) (h₂ : length l₂ ≡ length (part RECORD k out₁)) (out₂ : List ℕ) (e : out₂ ≡ putPart RECORD k out₁ l₂) where
@@ -83,7 +83,7 @@ module _ {bs : List ℕ} {n : Node Leaf} {m : ℕ} (s : IsNode bs n) (kind : fie
       whole₂ : length out₂ ≡ length bs
       whole₂ = ap length e ∙ length-putPart RECORD k out₁ l₂ (omega arith) (omega (arith, whole₁, l .least, l .most)) long₂ ∙ whole₁
 
-      pub third-place : length (part k (length out₂) out₂) ≡ length (part RECORD m bs)
+      third-place : length (part k (length out₂) out₂) ≡ length (part RECORD m bs)
       third-place = same-length-parts out₂ bs k (length out₂) RECORD m (omega arith) (l .most) (omega (arith, whole₂, l .least, l .most))
 
       pub exchanged-lists : (c c′ : ℕ) → c ≡ field 1 bs → c′ ≡ field 2 bs → (l₃ : List ℕ)

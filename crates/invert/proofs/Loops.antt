@@ -17,7 +17,7 @@ use Rattle.nodes.specs.Nodes.{IsNode, part, FirstNode}
 use Rattle.nodes.proofs.Nodes.{part-length, length-part, part-front, alone, first-low, first-head, FirstLeaf, leaf-node}
 use Rattle.invert.specs.Nodes.{over, headRefusal}
 
-pub pack-append : (a b : Tree) → pack (append a b) ≡ pack a ++ pack b
+pack-append : (a b : Tree) → pack (append a b) ≡ pack a ++ pack b
 unfolding pack append
 pack-append nil b = refl
 pack-append (cons n a) b = ap (λ (s : List ℕ). packNode n ++ s) (pack-append a b) ∙ sym (append-assoc (packNode n) (pack a) (pack b))
@@ -45,7 +45,7 @@ length-putPart a e out new h k n =
     length-append (take a out) (new ++ drop (e - a) (drop a out))
     ∙ omega (arith, length-take-le a out (omega arith), length-append new (drop (e - a) (drop a out)), length-drop (e - a) (drop a out), length-drop a out)
 
-pub drop-putPart : (a e : ℕ) (out new : List ℕ) → a ≤ e → e ≤ length out → drop a (putPart a e out new) ≡ new ++ drop e out
+drop-putPart : (a e : ℕ) (out new : List ℕ) → a ≤ e → e ≤ length out → drop a (putPart a e out new) ≡ new ++ drop e out
 drop-putPart a e out new h k =
     let z : a + (e - a) ≡ e = omega arith in
     drop-at (take a out) (new ++ drop (e - a) (drop a out)) a (length-take-le a out (omega arith))
@@ -68,12 +68,8 @@ two-parts out a b m e =
 pub same-length-fronts : (l l′ : List ℕ) (m : ℕ) → m ≤ length l → m ≤ length l′ → length (take m l) ≡ length (take m l′)
 same-length-fronts l l′ m h h′ = length-take-le m l h ∙ sym (length-take-le m l′ h′)
 
-pub same-length-parts : (l l′ : List ℕ) (a e a′ e′ : ℕ) → e ≤ length l → e′ ≤ length l′ → e - a ≡ e′ - a′
-    → length (take (e - a) (drop a l)) ≡ length (take (e′ - a′) (drop a′ l′))
-same-length-parts l l′ a e a′ e′ h h′ k =
-    length-take-le (e - a) (drop a l) (omega (arith, length-drop a l))
-    ∙ k
-    ∙ sym (length-take-le (e′ - a′) (drop a′ l′) (omega (arith, length-drop a′ l′)))
+pub same-length-parts : (l l′ : List ℕ) (a e a′ e′ : ℕ) → e ≤ length l → e′ ≤ length l′ → e - a ≡ e′ - a′ → length (part a e l) ≡ length (part a′ e′ l′)
+same-length-parts l l′ a e a′ e′ h h′ k = length-part a e l h ∙ k ∙ sym (length-part a′ e′ l′ h′)
 
 -- the first node as the code takes it
 module _ {t : List ℕ} {e : ℕ} (s : FirstNode t e) where

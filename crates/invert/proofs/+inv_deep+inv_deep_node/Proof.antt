@@ -10,9 +10,7 @@ use lib.Seq.{length-take-le}
 use Rattle.record.proofs.Copying.{copied-whole}
 use Rattle.laws.proofs.Inverses.{deeply}
 use Rattle.nodes.proofs.Nodes.{record-room, list-less, node-room, FirstLeaf, first-leaf, leaf-node, leaf-record}
-use Rattle.invert.proofs.Loops.{
-  Wrote, wrote-none, wrote-leaf, wrote-more, wrote-all, node-place, front-node, front-long, front-low, deeply-reverses, same-length-fronts, same-length-parts, two-parts
-}
+use Rattle.invert.proofs.Loops.{Wrote, wrote-none, wrote-leaf, wrote-more, wrote-all, node-place, front-node, front-long, front-low, deeply-reverses, same-length-fronts, same-length-parts, two-parts}
 use borrow.Fn.Kinds.{In}
 use borrow.Fn.PlainCycle.{Measures, is, falls, and}
 use Rattle.invert.proofs.inv_deep.Reads as inv-deep
