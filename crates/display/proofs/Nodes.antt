@@ -19,8 +19,9 @@ use Rattle.record.specs.Meaning.{field}
 use Rattle.laws.proofs.Bools.{and-left, and-right}
 use Rattle.laws.proofs.Walking.{Packed, no-node, one-list}
 use Rattle.nodes.specs.Nodes.{IsNode, part, FirstNode, Lists}
+use Rattle.record.proofs.Numbered.{kindOf}
 use Rattle.nodes.proofs.Nodes.{
-  part-rest, part-length, rest-less, first-of, alone, kindOf, kind-of, leaf-kind, group-kind, binary-kind, multiplier-of, front-field, FirstLeaf, leaf-node, leaf-head
+  part-rest, part-length, rest-less, first-of, alone, kind-of, leaf-kind, group-kind, binary-kind, multiplier-of, front-field, FirstLeaf, leaf-node, leaf-head
 }
 use Rattle.display.specs.Written.{MOST, Wrote}
 use Rattle.display.specs.Nodes.{GoodNode, GoodLeaf}

@@ -24,7 +24,8 @@ use Rattle.laws.proofs.Counting.{blockSummary, binarySummary, joinSummary, visi
 use Rattle.expand.specs.Meaning.{summary, Held, leafSum, overflowsAt, binaryKind}
 use Rattle.nodes.specs.Nodes.{IsNode, part, FirstNode, firstList, secondList}
 use Rattle.expand.specs.declared.visit.Summary.{Summary}
-use Rattle.nodes.proofs.Nodes.{part-length, fields-of, kindOf, kind-of, front-field, FirstLeaf, leaf-node}
+use Rattle.record.proofs.Numbered.{kindOf}
+use Rattle.nodes.proofs.Nodes.{part-length, fields-of, kind-of, front-field, FirstLeaf, leaf-node}
 use Rattle.expand.proofs.Shapes.{Shape, isLeaf, isGroup, isBinary, shape-of}
 use Rattle.expand.proofs.Summaries.{same}
 

@@ -17,7 +17,8 @@ use Rattle.notation.specs.Invert.{isMin}
 use Rattle.record.specs.Meaning.{field}
 use Rattle.record.specs.Undone.{StartsRecord}
 use Rattle.record.proofs.Packed.{headAt-kind}
-use Rattle.record.proofs.Undoing.{kindOf, kind-is}
+use Rattle.record.proofs.Numbered.{kindOf}
+use Rattle.record.proofs.Undoing.{kind-is}
 use Rattle.invert.specs.Nodes.{headRefusal, over}
 
 -- −2147483648 by its bits

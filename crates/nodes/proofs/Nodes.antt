@@ -10,7 +10,7 @@ use lib.Seq.{take-all, take-take, length-take-le}
 use Rattle.notation.specs.Numbers.{fromBits, toBits}
 use Rattle.notation.specs.Tree.{Leaf, rotation, move, pause, pair, slash, megaminx, Node, leaf, block, Body, group, binaryGroup, nil, cons, Tree}
 use Rattle.notation.specs.Packed.{
-  RECORD, widths, cut, Head, leafHead, groupHead, binaryHead, bodyHead, headFields, packNode, unpack, pack, headOf, headAt, megaminxNumber, groupNumber, binaryNumber
+  RECORD, widths, cut, leafHead, bodyHead, headFields, packNode, unpack, pack, headOf, headAt, groupNumber, binaryNumber
 }
 use Rattle.notation.specs.declared.common.GroupKind.{GroupKind}
 use Rattle.notation.specs.declared.common.GroupKind.the-variants.{Simple, Macro, Simultaneous, Niss}
@@ -20,7 +20,7 @@ use Rattle.notation.specs.declared.common.MegaminxScrambleMove.the-variants.{Rp
 use Rattle.numbers.proofs.TwosComplement.{fromBits-toBits}
 use Rattle.record.specs.Meaning.{field}
 use Rattle.record.specs.Range.{FitsNumber, FitsHead}
-use Rattle.record.proofs.Packed.{bit-lt, present-lt, layerForm-lt}
+use Rattle.record.proofs.Numbered.{kindOf, kind-field}
 use Rattle.record.proofs.RoundTrip.{length-record25}
 use Rattle.laws.proofs.Packing.{FitsNode, FitsTree, unpack-pack}
 use Rattle.laws.proofs.Walking.{Packed, packed, packed-nil, no-node, nodeHead, nodeEnd, Step, first-node, one-list, two-lists}
@@ -108,26 +108,6 @@ pub node-unique : {bs : List ℕ} {n n₀ : Node Leaf} → IsNode bs n → IsNod
 node-unique {bs} {n} {n₀} s s₀ = let e : cons n nil ≡ cons n₀ nil = sym (alone s) ∙ alone s₀ in cc
 
 -- The kind of each record.
-abbrev pub kindOf : Head → ℕ
-kindOf (leafHead (rotation f c m)) = 6
-kindOf (leafHead (move t l f c m)) = 7
-kindOf (leafHead pause) = 8
-kindOf (leafHead (pair u d)) = 9
-kindOf (leafHead slash) = 10
-kindOf (leafHead (megaminx k)) = megaminxNumber k
-kindOf (groupHead k n m) = groupNumber k
-kindOf (binaryHead k n n′ m) = binaryNumber k
-
-pub kind-field : (h : Head) → getD (headFields h) 0 0 / 16 ≡ kindOf h
-kind-field (leafHead (rotation f c m)) = omega (arith, present-lt c)
-kind-field (leafHead (move t l f c m)) = omega (arith, bit-lt t, layerForm-lt l, present-lt c)
-kind-field (leafHead pause) = refl
-kind-field (leafHead (pair u d)) = refl
-kind-field (leafHead slash) = refl
-kind-field (leafHead (megaminx k)) = omega arith
-kind-field (groupHead k n m) = omega arith
-kind-field (binaryHead k n n′ m) = omega arith
-
 pub leaf-kind : (x : Leaf) → (5 < kindOf (leafHead x)) × (kindOf (leafHead x) < 15)
 leaf-kind (rotation f c m) = (lit< tt, lit< tt)
 leaf-kind (move t l f c m) = (lit< tt, lit< tt)

@@ -1,8 +1,9 @@
--- The laws of fields of any widths, of the packed record's places, and of writing and reading it.
+-- The laws of fields of any widths, of the packed record's places, of writing and reading it, and of its kinds.
 pub mod Cut
 pub mod Packed
 pub mod RoundTrip
 pub mod Same
+pub mod Numbered
 -- A record copied, a field stored in it, and a record undone.
 pub mod Copying
 pub mod Storing

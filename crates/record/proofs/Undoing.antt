@@ -9,7 +9,7 @@ use lib.ListN.{length, getD, take, drop, set, length-set, length-append}
 use lib.Seq.{sets, drop-at}
 use Rattle.notation.specs.Numbers.{bigEndian, fromBigEndian, toBits, fromBits}
 use Rattle.notation.specs.Tree.{rotation, move, pause, pair, slash, megaminx}
-use Rattle.notation.specs.Packed.{RECORD, widths, cut, layOut, Head, leafHead, groupHead, binaryHead, groupNumber, binaryNumber, megaminxNumber, headFields, record25, headAt}
+use Rattle.notation.specs.Packed.{RECORD, widths, cut, layOut, Head, leafHead, groupHead, binaryHead, megaminxNumber, headFields, record25, headAt}
 use Rattle.notation.specs.Invert.{exchanged}
 use Rattle.notation.specs.declared.common.MegaminxScrambleMove.{MegaminxScrambleMove}
 use Rattle.notation.specs.declared.common.GroupKind.the-variants.{Simple, Macro, Simultaneous, Niss}
@@ -21,37 +21,10 @@ use Rattle.record.specs.Meaning.{field}
 use Rattle.record.specs.Range.{FitsNumber, FitsHead}
 use Rattle.record.specs.Undone.{StartsRecord, undoneHead}
 use Rattle.record.proofs.Cut.{start}
-use Rattle.record.proofs.Packed.{field-at, bit-lt, layerForm-lt, present-lt}
+use Rattle.record.proofs.Numbered.{kindOf, kind-field}
+use Rattle.record.proofs.Packed.{field-at}
 use Rattle.record.proofs.RoundTrip.{length-headFields, length-record25, cut-record25, headAt-record25}
 use Rattle.record.proofs.Storing.{store-field, drop-sets}
-
--- The number of each kind of record.
-abbrev pub kindOf : Head → ℕ
-kindOf (leafHead (rotation f c m)) = 6
-kindOf (leafHead (move t l f c m)) = 7
-kindOf (leafHead pause) = 8
-kindOf (leafHead (pair u d)) = 9
-kindOf (leafHead slash) = 10
-kindOf (leafHead (megaminx k)) = megaminxNumber k
-kindOf (groupHead k n m) = groupNumber k
-kindOf (binaryHead k n n′ m) = binaryNumber k
-
-kind-field : (h : Head) → getD (headFields h) 0 0 / 16 ≡ kindOf h
-kind-field (leafHead (rotation f c m)) = omega (arith, present-lt c)
-kind-field (leafHead (move t l f c m)) = omega (arith, bit-lt t, layerForm-lt l, present-lt c)
-kind-field (leafHead pause) = refl
-kind-field (leafHead (pair u d)) = refl
-kind-field (leafHead slash) = refl
-kind-field (leafHead (megaminx Rpp)) = refl
-kind-field (leafHead (megaminx Rmm)) = refl
-kind-field (leafHead (megaminx Dpp)) = refl
-kind-field (leafHead (megaminx Dmm)) = refl
-kind-field (groupHead Simple n m) = refl
-kind-field (groupHead Macro n m) = refl
-kind-field (groupHead Simultaneous n m) = refl
-kind-field (groupHead Niss n m) = refl
-kind-field (binaryHead Commutator n n′ m) = refl
-kind-field (binaryHead Conjugate n n′ m) = refl
 
 -- the bits of a number negated
 abbrev negated : ℕ → ℕ

@@ -56,7 +56,7 @@ pub fn family_of(t: &[u8]) -> Span
     family_at(fields::family(t))
 }
 
-pub fn constraints_of(t: &[u8]) -> SpanOption
+fn constraints_of(t: &[u8]) -> SpanOption
     requires { ⌜ RECORD ≤ length (now t) ⌝ }
     ensures { λ r. ⌜ meaning.spanOption r ≡ meaning.constraintsAt (now (t .entry)) ⌝ }
 {

@@ -1,0 +1,85 @@
+#!/usr/bin/env python3
+"""Calls of the two forms after the core and the lines that they are to write, for run.sh.
+
+cases.py CALLS LINES writes Rattle statements to the one file and the expected output to the other. What is expected comes from tests/reference/notation.py."""
+import os
+import random
+import sys
+
+sys.path.insert(0, os.path.join(os.path.dirname(os.path.abspath(__file__)), "..", "reference"))
+import notation as n
+
+ROOM = 3
+KEPT = "7 77 "
+LAYERS = ["", "2", "7", "3-5", "9-2", "{1,3..5,-2}", "{-1..4}", "{2,-4..-2,8}", "{1-3,7}", "{1,3,5,7}", "{}", "{ 4 , 4 }", "{-9..-7,9}", "32767", "{32767,-32767}"]
+FAMILIES = ["R", "U", "Rw", "\u03a9\u03c9", "x_y", "IR"]
+SETS = ["", "", "{}", "{a->b}", "{ R<>U , F }", "{R->}", "{a,b", "{R -> F,L<>B}"]
+TIMES = ["", "2", "'", "3'", "0", "007", "2147483647'", "2147483648"]
+LEAVES = [".", "/", "(1, -2)", "( -2147483648 , 0 )", "(1,2", "R++", "D--", "@", "@R", "(R U)", "[R, U]", ")", "-", "^(R)"]
+SPACES = ["", " ", "\n\t", "\u00a0", "\u3000 "]
+
+
+def literal(text):
+    return 'b"' + "".join(chr(b) if 0x20 <= b < 0x7F and chr(b) not in '"\\' else f"\\x{b:02x}" for b in text) + '"'
+
+
+def ranges_of(text, record, max_layer, negatives):
+    """Three entries are lent, each filled with 7 and 77."""
+    tree = n.pack(n.read(text, n.MAXIMAL))
+    call = f"ranges_of({literal(text)}, {record}, {max_layer}, {str(negatives).lower()});"
+    try:
+        found = n.lend(n.simplify(text, tree, record, max_layer, negatives), 4 * ROOM, 4)
+    except n.Refused as e:
+        return call, f"refused {e.number} " + KEPT * ROOM
+    ends = [int.from_bytes(found[i:i + 2], "big") for i in range(0, len(found), 2)]
+    return call, f"{len(ends) // 2} " + "".join(f"{i} " for i in ends) + KEPT * (ROOM - len(ends) // 2)
+
+
+def leaf(r):
+    """A leaf at the cursor, which stays where there is none."""
+    start = r.i
+    found = r.node()
+    if found is None or found.kind < n.ROTATION:
+        r.i = start
+        return "nothing "
+    b = n.record(found)
+    return f"{b[0]} {int.from_bytes(b[5:9], 'big')} {found.family[0]} {found.family[1]} {r.offset[r.i]} "
+
+
+def walked(text, features):
+    """White space, a leaf, a constraint set, a multiplier, and whether that was all."""
+    r = n.Reader(text, features)
+    r.spaces()
+    line = leaf(r)
+    found = r.braces(r.constraint)
+    line += "none " if found is None else f"{r.offset[r.i]} "
+    line += f"{r.multiplier() % 2**32} " + ("end" if r.i == len(r.s) else "")
+    name = "maximal" if features == n.MAXIMAL else "wca"
+    return f"walked({literal(text)}, features::{name}());", line
+
+
+def cases(r):
+    for text, record, max_layer, negatives in [("{1,3..5,-2}R2'", 0, 9, True), ("{1,3..5,-2}R2'", 0, 9, False), ("{1,3,5,7}R", 0, 9, True), ("U R", 1, 0, True),
+                                               ("(U)2 R", 0, 9, True), ("(U)2 2-4R", 2, 3, True), ("R", 0, 32768, True), ("R", 1, 9, True)]:
+        yield ranges_of(text.encode(), record, max_layer, negatives)
+    for _ in range(250):
+        moves = [r.choice(["", "~"]) + r.choice(LAYERS) + r.choice(FAMILIES) for _ in range(r.randint(1, 3))] + r.choice([[], ["(R)2"], ["@"]])
+        r.shuffle(moves)
+        yield ranges_of(" ".join(moves).encode(), r.randint(0, 4), r.choice([0, 1, 2, 5, 9, 9, 9, 32767, 32768]), r.random() < 0.6)
+    for text in ["  Rw2'", " ({a->b, c}3'", "@ ", ""]:
+        yield walked(text.encode(), n.MAXIMAL)
+    for _ in range(250):
+        first = r.choice(LEAVES) if r.random() < 0.4 else r.choice(["", "~", "@"]) + r.choice(LAYERS) + r.choice(FAMILIES) + r.choice(SETS)
+        text = r.choice(SPACES) + first + r.choice(TIMES) + r.choice(["", "", " "]) + r.choice(SETS) + r.choice(TIMES) + r.choice(["", "", " "])
+        yield walked(text.encode(), r.choice([n.MAXIMAL, n.WCA]))
+
+
+def main():
+    found = list(cases(random.Random(7)))
+    with open(sys.argv[1], "w") as calls, open(sys.argv[2], "w") as lines:
+        for call, line in found:
+            calls.write(f"    {call}\n")
+            lines.write(line + "\n")
+
+
+main()
