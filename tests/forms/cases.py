@@ -58,7 +58,16 @@ def walked(text, features):
     return f"walked({literal(text)}, features::{name}());", line
 
 
+def first(text):
+    """The leaf that a text begins with, after white space."""
+    r = n.Reader(text, n.MAXIMAL)
+    r.spaces()
+    return f"first({literal(text)});", leaf(r)
+
+
 def cases(r):
+    for text in ["\n(1, -2)x", ")", "", " ~3-1R{a}2' U", "\u3000@"]:
+        yield first(text.encode())
     for text, record, max_layer, negatives in [("{1,3..5,-2}R2'", 0, 9, True), ("{1,3..5,-2}R2'", 0, 9, False), ("{1,3,5,7}R", 0, 9, True), ("U R", 1, 0, True),
                                                ("(U)2 R", 0, 9, True), ("(U)2 2-4R", 2, 3, True), ("R", 0, 32768, True), ("R", 1, 9, True)]:
         yield ranges_of(text.encode(), record, max_layer, negatives)
@@ -69,8 +78,8 @@ def cases(r):
     for text in ["  Rw2'", " ({a->b, c}3'", "@ ", ""]:
         yield walked(text.encode(), n.MAXIMAL)
     for _ in range(250):
-        first = r.choice(LEAVES) if r.random() < 0.4 else r.choice(["", "~", "@"]) + r.choice(LAYERS) + r.choice(FAMILIES) + r.choice(SETS)
-        text = r.choice(SPACES) + first + r.choice(TIMES) + r.choice(["", "", " "]) + r.choice(SETS) + r.choice(TIMES) + r.choice(["", "", " "])
+        start = r.choice(LEAVES) if r.random() < 0.4 else r.choice(["", "~", "@"]) + r.choice(LAYERS) + r.choice(FAMILIES) + r.choice(SETS)
+        text = r.choice(SPACES) + start + r.choice(TIMES) + r.choice(["", "", " "]) + r.choice(SETS) + r.choice(TIMES) + r.choice(["", "", " "])
         yield walked(text.encode(), r.choice([n.MAXIMAL, n.WCA]))
 
 

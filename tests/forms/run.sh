@@ -1,13 +1,13 @@
 #!/usr/bin/env bash
 # Runs the two forms after the core, `Reader` and `ranges::simplify`, on inputs: a small program over the proved sources, on the kit's interpreter
-# and compiled three ways, without a proof of the program itself. Expected lines are worked out by hand from document 01.
+# and compiled three ways, without a proof of the program itself. The calls and the lines that they are to write come from cases.py.
 set -euo pipefail
 root=$(cd "$(dirname "$0")/../.." && pwd)
 kit=$(dirname "$(dirname "$(readlink -f "$(command -v rt)")")")
 own=$kit/on/$(uname -m)
 out=$root/target/forms
 crates="notation charsets numbers layer record laws nodes parse tree display simplify invert expand hypuz_notation reader ranges"
-rm -rf "$out" && mkdir -p "$out/main/src"
+rm -rf "$out" && mkdir -p "$out"
 for c in $crates; do mkdir -p "$out/$c" && cp -r "$root/crates/$c/src" "$out/$c/src"; done
 # Handed over as sources, a library may not have a module with another library's name: notation's `charsets` and parse's `nodes` get other ones here.
 mv "$out/notation/src/charsets.rt" "$out/notation/src/character_sets.rt"
@@ -15,12 +15,13 @@ mv "$out/parse/src/nodes.rt" "$out/parse/src/node_lists.rt"
 sed -i 's/mod charsets;/mod character_sets;/' "$out/notation/src/lib.rt"
 sed -i 's/mod nodes;/mod node_lists;/' "$out/parse/src/lib.rt"
 find "$out" -name '*.rt' -exec sed -i 's/notation::charsets/notation::character_sets/; s/crate::nodes::/crate::node_lists::/' {} +
-cat >"$out/main/src/main.rt" <<'PROGRAM'
+cat >"$out/program" <<'PROGRAM'
 use layer::Layer;
 use layer::LayerRange;
 use libc::STDOUT_FILENO;
 use notation::answer::Answer;
 use notation::features;
+use notation::features::Features;
 use parse::parse_notation;
 use parse::parts::LeafAnswer;
 use parse::parts::Taken;
@@ -79,10 +80,10 @@ fn leaf(a: LeafAnswer) {
     }
 }
 
-fn walked(text: &[u8]) {
+fn walked(text: &[u8], features: Features) {
     let mut r = Reader::new(text);
     r.skip_whitespace();
-    leaf(r.leaf(features::maximal()));
+    leaf(r.leaf(features));
     match r.constraint_set() {
         Taken::To(next) => number(next as u64),
         Taken::Nothing => {
@@ -96,38 +97,23 @@ fn walked(text: &[u8]) {
     line();
 }
 
-fn main() {
-    ranges_of(b"{1,3..5,-2}R2'", 0, 9, true);
-    ranges_of(b"{1,3..5,-2}R2'", 0, 9, false);
-    ranges_of(b"{1,3,5,7}R", 0, 9, true);
-    ranges_of(b"U R", 1, 0, true);
-    ranges_of(b"(U)2 R", 0, 9, true);
-    ranges_of(b"(U)2 2-4R", 2, 3, true);
-    walked(b"  Rw2'");
-    walked(b" ({a->b, c}3'");
-    walked(b"@ ");
-    leaf(reader::first_leaf(b"\n(1, -2)x", features::maximal()));
-    leaf(reader::first_leaf(b")", features::maximal()));
+fn first(text: &[u8]) {
+    leaf(reader::first_leaf(text, features::maximal()));
     line();
 }
+
+fn main() {
 PROGRAM
-# {1,3..5,-2} on 9 layers: 1, 3 to 5, 8; without negatives −2 names none. Four ranges do not fit into three (5). No layer count 0 (11), a group has
-# no layers (12), what is refused leaves the run. 2-4 on 3 layers is 2 to 3.
-# Rw2': kind 7, multiplier −2, family at 2 of size 2, then nothing more. `(` with no pair: nothing, the cursor stays before it. `@`: kind 6, once, no family.
-# (1, -2): kind 9, u = 1, no family, ends at 8.
-cat >"$out/stdout" <<'LINES'
-3 1 1 3 5 8 8 
-2 1 1 3 5 7 77 
-refused 5 7 77 7 77 7 77 
-refused 11 7 77 7 77 7 77 
-refused 12 7 77 7 77 7 77 
-1 2 3 7 77 7 77 
-112 4294967294 2 2 6 none 1 end
-nothing none 1 
-96 1 0 0 1 none 1 
-144 1 0 0 8 nothing 
-LINES
+python3 "$root/tests/forms/cases.py" "$out/calls" "$out/lines"
 words=(--lib "std=$kit/libs/std/src/lib.rt")
 for c in bytes libc io; do words+=(--lib "$c=$kit/libs/$c/src/lib.rt"); done
 for c in $crates; do words+=(--lib "$c=$out/$c/src/lib.rt"); done
-"$own/bin/rattle-cases" --toolchain "$own/toolchain" --stdout "$out/stdout" "$out/main/src/main.rt" --crate-name main "${words[@]}"
+# Some cases at a time, since the interpreter takes at most ten million steps.
+split -l 80 -d "$out/calls" "$out/calls."
+split -l 80 -d "$out/lines" "$out/lines."
+for calls in "$out"/calls.*; do
+    mkdir -p "$out/main/src"
+    cat "$out/program" "$calls" - >"$out/main/src/main.rt" <<<"}"
+    "$own/bin/rattle-cases" --toolchain "$own/toolchain" --stdout "${calls/calls./lines.}" "$out/main/src/main.rt" --crate-name main "${words[@]}" >"$out/said" || { cat "$out/said"; exit 1; }
+done
+echo "$(wc -l <"$out/lines") cases agree, on the interpreter and compiled three ways"
