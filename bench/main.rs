@@ -255,6 +255,29 @@ fn utf8_time(c: &Case) -> f64 {
     })
 }
 
+/// A text read, with as many bytes for its tree as it can need.
+fn read(text: &str) -> Vec<u8> {
+    let mut tree = vec![0; RECORD * text.len()];
+    let used = ours::parse(text.as_bytes(), &mut tree).unwrap() as usize;
+    tree.truncate(used);
+    tree
+}
+
+/// Seeking must not grow with the number of steps, and counting no faster than the number of records.
+fn growth() {
+    for (text, place) in [("((R)2)2", 3), ("((R)65535)65537", 4_294_967_294)] {
+        let (tree, mut step) = (read(text), [0; RECORD]);
+        let time = best(|| assert!(black_box(ours::seek_step(text.as_bytes(), black_box(&tree), place, &mut step)).is_ok()));
+        println!("Seeking place {place} of `{text}`: {time:.0} ns.");
+    }
+    for records in [500, 1_000, 2_000, 4_000, 8_000, 16_000] {
+        let text = vec!["R"; records].join(" ");
+        let tree = read(&text);
+        let time = best(|| assert_eq!(black_box(ours::count_steps(text.as_bytes(), black_box(&tree))), Ok(records as u64)));
+        println!("Counting {records} records: {:.1} ns a record.", time / records as f64);
+    }
+}
+
 fn profile(args: &[String]) {
     let kind = KINDS.into_iter().find(|k| *k == args[1]).expect("a kind");
     let c = case(kind, args[2].parse().expect("a size"));
@@ -282,4 +305,5 @@ fn main() {
             other => other,
         });
     }
+    growth();
 }
