@@ -1,6 +1,6 @@
 //! Times the C functions of the archive against the Rust's own on the same texts in one run, and prints tables in Markdown.
 //!
-//! `bench` prints the tables; `bench loop OPERATION KIND SIZE SECONDS` calls one of ours again and again, for a profiler.
+//! `bench` prints the tables; `bench growth` how seeking and counting grow alone; `bench loop OPERATION KIND SIZE SECONDS` calls one of ours again and again, for a profiler.
 mod ours;
 mod reader;
 
@@ -263,6 +263,17 @@ fn read(text: &str) -> Vec<u8> {
     tree
 }
 
+/// Seeking the last step of the same 4,000 moves inside more and more groups, beside counting, which checks the same records.
+fn depth() {
+    for levels in [0, 8, 16, 32, 64] {
+        let text = "(".repeat(levels) + &vec!["R"; 4_000].join(" ") + &")".repeat(levels);
+        let (tree, mut step) = (read(&text), [0; RECORD]);
+        let seek = best(|| assert!(black_box(ours::seek_step(text.as_bytes(), black_box(&tree), 3_999, &mut step)).is_ok()));
+        let count = best(|| assert_eq!(black_box(ours::count_steps(text.as_bytes(), black_box(&tree))), Ok(4_000)));
+        println!("Seeking the last of 4,000 steps, {levels} levels deep: {} µs; counting them: {} µs.", shown(seek), shown(count));
+    }
+}
+
 /// Seeking must not grow with the number of steps, and counting no faster than the number of records.
 fn growth() {
     for (text, place) in [("((R)2)2", 3), ("((R)65535)65537", 4_294_967_294)] {
@@ -293,6 +304,10 @@ fn main() {
     if args.first().is_some_and(|a| a == "loop") {
         return profile(&args[1..]);
     }
+    if args.first().is_some_and(|a| a == "growth") {
+        growth();
+        return depth();
+    }
     println!("Microseconds of a call, best of {} samples of 2 ms or one call; × is ours divided by the other.\n", ROUNDS * SAMPLES);
     rows("read", "plain reader");
     rows("read", "from_utf8");
@@ -306,4 +321,5 @@ fn main() {
         });
     }
     growth();
+    depth();
 }

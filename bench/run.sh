@@ -1,6 +1,6 @@
 #!/usr/bin/env bash
 # Builds the oracle and the benchmark below target/bench and runs it; the tables are printed.
-# Usage: run.sh SRC [loop OPERATION KIND SIZE SECONDS], SRC the folder that holds crates/hypuz_notation/src
+# Usage: run.sh SRC [growth | loop OPERATION KIND SIZE SECONDS], SRC the folder that holds crates/hypuz_notation/src
 set -euo pipefail
 here=$(cd "$(dirname "$0")" && pwd)
 root=$(cd "$here/.." && pwd)

@@ -1,7 +1,8 @@
 #!/usr/bin/env python3
 """Writes crates/replay/stdin and crates/replay/stdout: the stored vectors, with the answers of the reference beside this file, or of the Rust
-(tests/oracle/sample.tsv), alone."""
+(tests/oracle/sample.tsv), alone. vectors.py FOLDER writes them there instead (tests/run.sh compares them with those stored)."""
 import os
+import sys
 
 import agree_vectors
 import entry_vectors
@@ -15,10 +16,11 @@ MOST = 2097152  # what the program reads at most
 
 def main():
     both = [*reading_vectors.lines(), *entry_vectors.lines(), *listing_vectors.lines(), *oracle_vectors.lines(), *agree_vectors.lines()]
+    home = sys.argv[1] if len(sys.argv) > 1 else HOME
     for name, column in (("stdin", 0), ("stdout", 1)):
-        with open(os.path.join(HOME, name), "w") as f:
+        with open(os.path.join(home, name), "w") as f:
             f.write("".join(line[column] + "\n" for line in both))
-    size = os.path.getsize(os.path.join(HOME, "stdin"))
+    size = os.path.getsize(os.path.join(home, "stdin"))
     assert size <= MOST, size
     print(len(both), "cases,", size, "bytes")
 

@@ -1,0 +1,53 @@
+#!/usr/bin/env bash
+# Holds `classify`, `is_family_char` and `is_whitespace` of the crate `charsets` against the Rust over every code point: its charsets.rs as it is
+# published, and `char::is_whitespace`. No C function of the library answers these, so a small crate of its own hands them out, below target/characters.
+# Usage: characters.sh SRC, the folder that holds crates/hypuz_notation/src
+set -euo pipefail
+here=$(cd "$(dirname "$0")" && pwd)
+root=$(cd "$here/../.." && pwd)
+src=$(cd "${1:?the folder of the published Rust}" && pwd)/crates/hypuz_notation/src
+out=$root/target/characters
+mkdir -p "$out/crates/classes/src"
+for c in notation charsets; do
+    rm -rf "$out/crates/$c"
+    cp -r "$root/crates/$c" "$out/crates/$c"
+done
+printf '%s\n' 'notation:' 'charsets: notation' 'classes: notation charsets' >"$out/crates.txt"
+cat >"$out/crates/classes/src/lib.rt" <<'CRATE'
+// The character tests of `charsets`, for a host.
+use charsets::classify;
+use charsets::is_family_char;
+use charsets::is_whitespace;
+use notation::charsets::CharSet;
+use notation::charsets::Class;
+
+// 0 outside, else 1 and on in the order of the Rust's enum.
+#[no_mangle]
+pub extern "C" fn class_of(c: u32) -> u32 {
+    match classify(c) {
+        Class::In(set) => match set {
+            CharSet::LowercaseLatin => 1,
+            CharSet::UppercaseLatin => 2,
+            CharSet::UppercaseGreek => 3,
+            CharSet::TallLowercaseGreek => 4,
+            CharSet::ShortLowercaseGreek => 5,
+            CharSet::Underscore => 6,
+        },
+        Class::Outside => 0,
+    }
+}
+
+#[no_mangle]
+pub extern "C" fn family_char(c: u32) -> u32 {
+    is_family_char(c) as u32
+}
+
+#[no_mangle]
+pub extern "C" fn white_space(c: u32) -> u32 {
+    is_whitespace(c) as u32
+}
+CRATE
+(cd "$out" && rt staticlib classes) >"$out/said" 2>&1 || { cat "$out/said"; exit 1; }
+cp "$src/charsets.rs" "$here/characters.rs" "$out/"
+rustc --edition 2024 -O -A dead_code -C link-arg="$out/target/staticlib/libclasses.a" -o "$out/characters" "$out/characters.rs"
+"$out/characters"
