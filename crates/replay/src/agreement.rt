@@ -17,9 +17,9 @@ use notation::features;
 
 // How many bytes stand before the text.
 const HEAD: usize = 26;
-// The longest buffers that a case may lend, for trees and texts and for a step.
-const MOST: usize = 3000;
-const MOST_STEP: usize = 50;
+// The longest buffers that a case may lend, for trees and texts and for a step: 120 and two records of up to 38 bytes.
+const MOST: usize = 4560;
+const MOST_STEP: usize = 76;
 
 // What is asked beside the text.
 struct Call {
@@ -81,17 +81,17 @@ fn asked(bits: u32, given: &[u8], text: &[u8], line: &mut [u8]) -> Decoded
 
 // Lends parts of buffers of its own.
 fn called(call: Call, text: &[u8], line: &mut [u8]) -> usize
-    requires { ⌜ (call .room ≤ 3000) × (call .step ≤ 50) × (length (now line) ≡ 1100) ⌝ }
+    requires { ⌜ (call .room ≤ 4560) × (call .step ≤ 76) × (length (now line) ≡ 1100) ⌝ }
     ensures { λ r. ⌜ r ≤ 1100 ⌝ }
 {
     let room = call.room;
     let lent = call.step;
-    let mut tree = [report::UNTOUCHED; 3000];
-    let mut inverse = [report::UNTOUCHED; 3000];
-    let mut printed = [report::UNTOUCHED; 3000];
-    let mut back = [report::UNTOUCHED; 3000];
-    let mut step = [report::UNTOUCHED; 50];
-    let mut undone = [report::UNTOUCHED; 50];
+    let mut tree = [report::UNTOUCHED; 4560];
+    let mut inverse = [report::UNTOUCHED; 4560];
+    let mut printed = [report::UNTOUCHED; 4560];
+    let mut back = [report::UNTOUCHED; 4560];
+    let mut step = [report::UNTOUCHED; 76];
+    let mut undone = [report::UNTOUCHED; 76];
     agreed(
         call,
         text,
@@ -117,7 +117,7 @@ fn agreed(
     undone: &mut [u8],
     line: &mut [u8],
 ) -> usize
-    requires { ⌜ (length (now step) ≤ 50) × (length (now undone) ≤ 50) × (length (now line) ≡ 1100) ⌝ }
+    requires { ⌜ (length (now step) ≤ 76) × (length (now undone) ≤ 76) × (length (now line) ≡ 1100) ⌝ }
     ensures { λ r. ⌜ r ≤ 1100 ⌝ }
 {
     let features = features::from_bits(call.bits);
@@ -175,8 +175,8 @@ fn put_number(line: &mut [u8], at: usize, n: u64) -> usize
 
 // Puts the whole of both buffers for a step, so that a byte that was written without need shows.
 fn put_steps(line: &mut [u8], at: usize, step: &[u8], undone: &[u8]) -> usize
-    requires { ⌜ (at ≤ 176) × (length (now step) ≤ 50) × (length (now undone) ≤ 50) × (length (now line) ≡ 1100) ⌝ }
-    ensures { λ r. ⌜ r ≤ 377 ⌝ }
+    requires { ⌜ (at ≤ 176) × (length (now step) ≤ 76) × (length (now undone) ≤ 76) × (length (now line) ≡ 1100) ⌝ }
+    ensures { λ r. ⌜ r ≤ 481 ⌝ }
 {
     let end = hex::put_bytes(line, at, step);
     let start = line::put(line, end, b" ");
@@ -185,7 +185,7 @@ fn put_steps(line: &mut [u8], at: usize, step: &[u8], undone: &[u8]) -> usize
 
 // Puts a checksum of the whole of each other buffer, and ends the line.
 fn put_sums(line: &mut [u8], at: usize, tree: &[u8], inverse: &[u8], printed: &[u8], back: &[u8]) -> usize
-    requires { ⌜ (at ≤ 377) × (length (now line) ≡ 1100) ⌝ }
+    requires { ⌜ (at ≤ 481) × (length (now line) ≡ 1100) ⌝ }
     ensures { λ r. ⌜ r ≤ 1100 ⌝ }
 {
     let second = put_sum(line, at, tree);

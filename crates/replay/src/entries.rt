@@ -111,12 +111,12 @@ fn answer(call: Call, text: &[u8], tree: &[u8], out: &mut [u8]) -> Answer {
 
 // The deep inverse as text, for the Rust's answers, which are texts.
 fn deep_shown(text: &[u8], tree: &[u8], out: &mut [u8]) -> Answer {
-    let mut inverse = [0u8; 25000];
+    let mut inverse = [0u8; 38000];
     let answer = inverses::inv_deep(text, tree, &mut inverse);
     let Answer::Value(size) = answer else {
         return answer;
     };
-    let n = report::least(size as usize, 25000);
+    let n = report::least(size as usize, 38000);
     printing::display(text, &inverse[0..n], out)
 }
 

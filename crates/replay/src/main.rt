@@ -4,11 +4,13 @@ mod agreement;
 mod entries;
 mod hex;
 mod line;
+mod pieces;
 mod reading;
 mod report;
 mod text;
 
 ghost use mathlib.Core.Path.{_≡_};
+ghost use Prim.Native.Nat.{_≤_};
 ghost use lib.ListN.{length};
 ghost use Rattle.replay.specs.Bounds.{AtMost};
 use hex::Decoded;
@@ -52,16 +54,41 @@ fn replay(input: &[u8], text: &mut [u8], tree: &mut [u8], out: &mut [u8]) {
     }
 }
 
-// The input is read whole.
+// The input is read in pieces: what is kept of one is the start of the line that the next one goes on with. A last line may lack its newline.
 fn run(input: &mut [u8], text: &mut [u8], tree: &mut [u8], out: &mut [u8]) {
-    let n = io::read_full(STDIN_FILENO, input);
-    replay(&input[0..n], text, tree, out);
+    let mut kept = 0;
+    let mut n = 0;
+    while n < MAX_PIECES {
+        kept = piece(input, kept, text, tree, out);
+        n += 1;
+    }
+    replay(&input[0..kept], text, tree, out);
 }
 
+// Reads on behind what is kept, replays the lines that are whole, moves the start of the next one to the front, and answers its length.
+fn piece(input: &mut [u8], kept: usize, text: &mut [u8], tree: &mut [u8], out: &mut [u8]) -> usize
+    requires { ⌜ kept ≤ length (now input) ⌝ }
+    ensures { λ r. ⌜ r ≤ length (now (input .entry)) ⌝ }
+{
+    let n = io::read_full(STDIN_FILENO, &mut input[kept..]);
+    let filled = kept + n;
+    let whole = pieces::lines_end(&input[0..filled]);
+    replay(&input[0..whole], text, tree, out);
+    pieces::to_front(&mut input[0..filled], whole);
+    filled - whole
+}
+
+// An input has at most so many pieces of the size of its buffer: 16 MiB.
+const MAX_PIECES: usize = 64;
+const PIECE: usize = 262144;
+// A text of 65,535 bytes, and a tree of as many records of up to 38 bytes.
+const TEXT: usize = 65600;
+const TREE: usize = 2490368;
+
 fn main() {
-    let mut input = [0u8; 2097152];
-    let mut text = [0u8; 65600];
-    let mut tree = [0u8; 1700000];
-    let mut out = [0u8; 1700000];
+    let mut input = [0u8; PIECE];
+    let mut text = [0u8; TEXT];
+    let mut tree = [0u8; TREE];
+    let mut out = [0u8; TREE];
     run(&mut input, &mut text, &mut tree, &mut out);
 }

@@ -7,16 +7,16 @@ use Rattle.replay.proofs.main.Statement.{statement}
 use Rattle.replay.proofs.main.Tie as tie
 
 slice-aggregate-run : tie.Need-slice-aggregate-run
-slice-aggregate-run c = sym (length-replicate {0} {A = ℕ} 2097152 0)
+slice-aggregate-run c = sym (length-replicate {0} {A = ℕ} 262144 0)
 
 slice-aggregate-run-2 : tie.Need-slice-aggregate-run-2
 slice-aggregate-run-2 c = search needs
 
 slice-aggregate-run-3 : tie.Need-slice-aggregate-run-3
-slice-aggregate-run-3 c = sym (length-replicate {0} {A = ℕ} 1700000 0)
+slice-aggregate-run-3 c = sym (length-replicate {0} {A = ℕ} 2490368 0)
 
 slice-aggregate-run-4 : tie.Need-slice-aggregate-run-4
-slice-aggregate-run-4 c = sym (length-replicate {0} {A = ℕ} 1700000 0)
+slice-aggregate-run-4 c = sym (length-replicate {0} {A = ℕ} 2490368 0)
 
 run-requires : tie.Need-run-requires
 run-requires c κs = search needs
