@@ -10,6 +10,7 @@ pub mod Packed
 pub mod Grammar
 pub mod Meaning
 pub mod WellFormed
+pub mod Clauses
 pub mod Refusals
 pub mod Invert
 pub mod Print

@@ -1,4 +1,4 @@
--- Well-formed trees.
+-- Well-formed trees, as proofs work with them: by what packing writes. specs/Clauses says the same clause by clause, as document 01 does.
 use Prim.Native.Nat.{ℕ, zero, suc, _+_, max}
 use mathlib.Core.Bool.{Bool, true, false, _&&_}
 use mathlib.Core.List.{List}

@@ -1,4 +1,4 @@
--- Refusal 6: for each clause of "a well-formed tree" a tree that breaks it, next to one that keeps it.
+-- Refusal 6: for each clause of "a well-formed tree" a tree that breaks it, next to one that keeps it, by both definitions; then trees of which one clause alone is false.
 use Prim.Native.Nat.{ℕ}
 use mathlib.Core.Path.{_≡_, refl}
 use mathlib.Core.Bool.{Bool, true, false}
@@ -9,6 +9,7 @@ use lib.ListN.{take, set, replicate}
 use Rattle.notation.specs.Tree.{span, Leaf, Tree, Node, leaf, block, group, binaryGroup, nil, cons, rotation, move, pause, pair, slash, noLayers, singleLayer, layerRange, layerSet}
 use Rattle.notation.specs.Packed.{record25, Head, leafHead, groupHead, binaryHead, pack}
 use Rattle.notation.specs.WellFormed.{wellFormed}
+use Rattle.notation.specs.Clauses.{clauseByClause, clauses}
 use Rattle.notation.specs.declared.common.GroupKind.the-variants.{Simple}
 use Rattle.notation.specs.declared.common.BinaryGroupKind.the-variants.{Commutator}
 use Rattle.notation.proofs.Opened.{opened}
@@ -18,16 +19,26 @@ use Rattle.notation.proofs.Examples.Text.{bytes}
 text : List ℕ
 text = bytes "~{1}R{A}2 0-β"
 
-ok : List ℕ → Bool
-ok tree = wellFormed text tree
+-- what the two definitions say, and what they both say
+abbrev Verdicts : Type 0
+Verdicts = Bool × Bool
 
-one : Leaf → Bool
+ok : List ℕ → Verdicts
+ok tree = (wellFormed text tree, clauses text tree)
+
+abbrev good : Verdicts
+good = (true, true)
+
+abbrev bad : Verdicts
+bad = (false, false)
+
+one : Leaf → Verdicts
 one x = ok (record25 (leafHead x))
 
 -- length, kind, unused fields
-shape : (map ok ([] ∷ record25 (leafHead pause) ∷ take 24 (record25 (leafHead pause)) ∷ (0 ∷ []) ∷ []) ≡ true ∷ true ∷ false ∷ false ∷ [])
-    × (map (λ b. ok (set (record25 (leafHead pause)) 0 b)) (0x80 ∷ 0xa0 ∷ 0xe0 ∷ 0xf0 ∷ 0x88 ∷ 0x82 ∷ 0x81 ∷ []) ≡ true ∷ true ∷ true ∷ false ∷ false ∷ false ∷ false ∷ [])
-    × (map (λ i. ok (set (record25 (leafHead pause)) i 1)) (1 ∷ 2 ∷ 3 ∷ 4 ∷ 5 ∷ 8 ∷ 9 ∷ 12 ∷ 13 ∷ 16 ∷ 17 ∷ 20 ∷ 21 ∷ 24 ∷ []) ≡ replicate 14 false)
+shape : (map ok ([] ∷ record25 (leafHead pause) ∷ take 24 (record25 (leafHead pause)) ∷ (0 ∷ []) ∷ []) ≡ good ∷ good ∷ bad ∷ bad ∷ [])
+    × (map (λ b. ok (set (record25 (leafHead pause)) 0 b)) (0x80 ∷ 0xa0 ∷ 0xe0 ∷ 0xf0 ∷ 0x88 ∷ 0x82 ∷ 0x81 ∷ []) ≡ good ∷ good ∷ good ∷ bad ∷ bad ∷ bad ∷ bad ∷ [])
+    × (map (λ i. ok (set (record25 (leafHead pause)) i 1)) (1 ∷ 2 ∷ 3 ∷ 4 ∷ 5 ∷ 8 ∷ 9 ∷ 12 ∷ 13 ∷ 16 ∷ 17 ∷ 20 ∷ 21 ∷ 24 ∷ []) ≡ replicate 14 bad)
 unfolding opened bytes text ok
 shape = (refl, refl, refl)
 
@@ -40,22 +51,22 @@ stop = record25 (leafHead pause)
 
 lists : map ok
     ((opening 0 0) ∷ (opening 1 1 ++ stop ++ stop) ∷ (opening 1 1 ++ stop) ∷ (opening 2 0 ++ opening 1 0 ++ stop) ∷ (opening 1 1 ++ opening 1 0 ++ stop) ∷ (record25 (groupHead Simple 2 (pos 1)) ++ stop) ∷ [])
-    ≡ true ∷ true ∷ false ∷ true ∷ false ∷ false ∷ []
+    ≡ good ∷ good ∷ bad ∷ good ∷ bad ∷ bad ∷ []
 unfolding opened bytes text ok
 lists = refl
 
 -- families: inside the text, of family characters, not empty in a move, whole characters, an empty one at offset 0
-families : (map (λ p. one (move false noLayers p none (pos 1))) (span 4 1 ∷ span 4 0 ∷ span 0 1 ∷ span 4 2 ∷ span 12 2 ∷ span 12 1 ∷ span 11 1 ∷ span 13 1 ∷ span 65535 1 ∷ []) ≡ true ∷ false ∷ false ∷ false ∷ true ∷ false ∷ false ∷ false ∷ false ∷ [])
-    × (map (λ p. one (rotation p none (pos 1))) (span 0 0 ∷ span 1 0 ∷ span 6 1 ∷ []) ≡ true ∷ false ∷ true ∷ [])
+families : (map (λ p. one (move false noLayers p none (pos 1))) (span 4 1 ∷ span 4 0 ∷ span 0 1 ∷ span 4 2 ∷ span 12 2 ∷ span 12 1 ∷ span 11 1 ∷ span 13 1 ∷ span 65535 1 ∷ []) ≡ good ∷ bad ∷ bad ∷ bad ∷ good ∷ bad ∷ bad ∷ bad ∷ bad ∷ [])
+    × (map (λ p. one (rotation p none (pos 1))) (span 0 0 ∷ span 1 0 ∷ span 6 1 ∷ []) ≡ good ∷ bad ∷ good ∷ [])
 unfolding opened bytes text ok one
 families = (refl, refl)
 
 -- layers, layer and constraint parts, multipliers
-parts : (map (λ l. one (move true l (span 4 1) none (pos 1))) (singleLayer 1 ∷ singleLayer 0 ∷ singleLayer 32768 ∷ layerRange 1 32767 ∷ layerRange 2 2 ∷ layerRange 3 2 ∷ layerRange 0 2 ∷ layerSet (span 1 3) ∷ layerSet (span 5 3) ∷ layerSet (span 1 2) ∷ []) ≡ true ∷ false ∷ false ∷ true ∷ true ∷ false ∷ false ∷ true ∷ false ∷ false ∷ [])
-    × (map (λ p. one (move false noLayers (span 4 1) (some p) (pos 1))) (span 5 3 ∷ span 1 3 ∷ span 5 4 ∷ span 5 65535 ∷ []) ≡ true ∷ false ∷ false ∷ false ∷ [])
-    × (map (λ m. one (rotation (span 0 0) none m)) (negsuc 2147483646 ∷ negsuc 2147483647 ∷ []) ≡ true ∷ false ∷ [])
-    × (map (λ m. ok (record25 (groupHead Simple 0 m))) (negsuc 2147483646 ∷ negsuc 2147483647 ∷ []) ≡ true ∷ false ∷ [])
-    × (one (pair (negsuc 2147483647) (negsuc 2147483647)) ≡ true)
+parts : (map (λ l. one (move true l (span 4 1) none (pos 1))) (singleLayer 1 ∷ singleLayer 0 ∷ singleLayer 32768 ∷ layerRange 1 32767 ∷ layerRange 2 2 ∷ layerRange 3 2 ∷ layerRange 0 2 ∷ layerSet (span 1 3) ∷ layerSet (span 5 3) ∷ layerSet (span 1 2) ∷ []) ≡ good ∷ bad ∷ bad ∷ good ∷ good ∷ bad ∷ bad ∷ good ∷ bad ∷ bad ∷ [])
+    × (map (λ p. one (move false noLayers (span 4 1) (some p) (pos 1))) (span 5 3 ∷ span 1 3 ∷ span 5 4 ∷ span 5 65535 ∷ []) ≡ good ∷ bad ∷ bad ∷ bad ∷ [])
+    × (map (λ m. one (rotation (span 0 0) none m)) (negsuc 2147483646 ∷ negsuc 2147483647 ∷ []) ≡ good ∷ bad ∷ [])
+    × (map (λ m. ok (record25 (groupHead Simple 0 m))) (negsuc 2147483646 ∷ negsuc 2147483647 ∷ []) ≡ good ∷ bad ∷ [])
+    × (one (pair (negsuc 2147483647) (negsuc 2147483647)) ≡ good)
 unfolding opened bytes text ok one
 parts = (refl, refl, refl, refl, refl)
 
@@ -64,6 +75,49 @@ nest : ℕ → Tree
 nest ℕ.zero = nil
 nest (ℕ.suc n) = cons (block (group Simple (nest n)) (pos 1)) nil
 
-nesting : map (λ n. ok (pack (nest n))) (64 ∷ 65 ∷ []) ≡ true ∷ false ∷ []
+nesting : map (λ n. ok (pack (nest n))) (64 ∷ 65 ∷ []) ≡ good ∷ bad ∷ []
 unfolding opened bytes text ok nest
 nesting = refl
+
+-- Trees of which one clause alone is false, each with the clause's place in `clauseByClause`. The set stands at 0, the family at 3, constraints at 4.
+short : List ℕ
+short = bytes "{1}R{A}"
+
+abbrev turn : Leaf
+turn = move false noLayers (span 3 1) none (pos 1)
+
+abbrev layered : ℕ → ℕ → List ℕ
+layered low high = record25 (leafHead (move false (layerRange low high) (span 3 1) none (pos 1)))
+
+alone : List (ℕ × List ℕ)
+alone =
+    (0, set (record25 (leafHead (pair (pos 0) (pos 0)))) 8 256) -- no byte
+    ∷ (1, take 1 stop) -- one byte
+    ∷ (2, set stop 0 0xf0) -- kind 15
+    ∷ (3, set stop 0 0x88) -- a pause with a tilde
+    ∷ (3, set stop 2 1 ++ stop) -- a pause with a list
+    ∷ (3, set (record25 (groupHead Simple 0 (pos 1))) 4 1 ++ stop) -- a simple group with a second list
+    ∷ (3, set stop 8 1) -- a pause with a multiplier
+    ∷ (3, set (record25 (leafHead turn)) 12 1) -- a layer where the form says none
+    ∷ (3, set (record25 (leafHead (rotation (span 0 0) none (pos 1)))) 14 3) -- an empty family not at 0
+    ∷ (3, set (record25 (leafHead turn)) 18 4) -- constraints that are not present
+    ∷ (3, set (record25 (leafHead turn)) 24 1) -- a set where the form says none
+    ∷ (4, record25 (leafHead (move false noLayers (span 3 1) (some (span 4 4)) (pos 1)))) -- constraints past the end, good up to there
+    ∷ (5, opening 1 1 ++ stop) -- a second list past the end
+    ∷ (5, opening 1 1 ++ opening 1 0 ++ stop) -- a group's list past the end of the first list
+    ∷ (6, pack (nest 65))
+    ∷ (7, layered 0 2)
+    ∷ (7, layered 3 2)
+    ∷ (7, layered 1 32768)
+    ∷ (7, set (layered 1 2) 0 0x72) -- a single layer, 1 and 2
+    ∷ (8, record25 (leafHead (rotation (span 0 0) none (negsuc 2147483647))))
+    ∷ (8, record25 (groupHead Simple 0 (negsuc 2147483647)))
+    ∷ (9, record25 (leafHead (move false noLayers (span 0 1) none (pos 1)))) -- no family character
+    ∷ (9, record25 (leafHead (move false noLayers (span 0 0) none (pos 1)))) -- a move without a family
+    ∷ (10, record25 (leafHead (move false (layerSet (span 4 3)) (span 3 1) none (pos 1)))) -- constraints for a layer set
+    ∷ (10, record25 (leafHead (move false noLayers (span 3 1) (some (span 0 3)) (pos 1)))) -- a layer set for constraints
+    ∷ []
+
+one-false : map (λ c. clauseByClause short (c .1)) alone ≡ map (λ c. set (replicate 11 true) (c .0) false) alone
+unfolding opened bytes short nest alone
+one-false = refl

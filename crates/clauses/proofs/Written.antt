@@ -1,0 +1,307 @@
+-- One record: packing writes its fields again, those that its kind does not use as 0. So it writes the record as it stands exactly if
+-- the unused fields are 0 and a single layer's two numbers are equal. Assumes nothing.
+use Prim.Native.Nat.{ℕ, zero, suc, _+_, _*_, _/_, _≤_, _<_}
+use mathlib.Core.Path.{_≡_, refl, sym, ap, ap₂, subst}
+use mathlib.Core.Bool.{Bool, true, false, not, _&&_, _||_}
+use mathlib.Core.List.{List, [], _∷_}
+use mathlib.Core.Option.{none, some}
+use native.Mathlib.Omega.{arith}
+use borrow.Author.Tests.{eqb-true, eq-eqb, leb-true}
+use lib.Dec.{leb, eqb, lit<}
+use lib.ListN.{getD, take}
+use Rattle.notation.specs.Basics.{pick, between}
+use Rattle.notation.specs.Numbers.{toBits, fromBits}
+use Rattle.notation.specs.Tree.{Span, span, Layers, noLayers, singleLayer, layerRange, layerSet}
+use Rattle.notation.specs.Packed.{
+  RECORD, widths, cut, inOrder, nowhere, bit, orNowhere, layerForm, lowAndHigh, setPart, familyAt, Head, headFields, headAt
+}
+use Rattle.notation.specs.Packed as packed
+use Rattle.notation.specs.Clauses.{
+  Fields, kind, tilde, form, present, first, second, number, other, low, high, family, constraints, set,
+  isGroup, isBinary, isMove, isPair, hasMultiplier, hasFamily, hasConstraints, isSingle, hasLayers, hasSet, kindOk, zeroUnless, nowhereUnless, unusedOk
+}
+use Rattle.numbers.proofs.Positional.{Below}
+use Rattle.numbers.proofs.TwosComplement.{toBits-fromBits}
+use Rattle.record.specs.Meaning.{field, rotationAt, moveAt}
+use Rattle.record.proofs.Packed.{by-kind}
+use Rattle.laws.proofs.Bools.{and-left, and-right, and-both}
+use Rattle.tree.proofs.Bytes.{field-lt}
+
+-- tests that pass, joined as `&&` joins them
+infixl 35 _and_
+pub _and_ : {a b : Bool} → a ≡ true → b ≡ true → (a && b) ≡ true
+_and_ {a} {b} p q = and-both a b p q
+
+-- the fields of a record one by one
+abbrev pub listed : Fields → List ℕ
+listed r =
+    getD r 0 0 ∷ getD r 1 0 ∷ getD r 2 0 ∷ getD r 3 0 ∷ getD r 4 0
+    ∷ getD r 5 0 ∷ getD r 6 0 ∷ getD r 7 0 ∷ getD r 8 0 ∷ getD r 9 0 ∷ getD r 10 0 ∷ []
+
+-- what packing writes of the layers, by the form
+abbrev pub layerNumbers : Fields → List ℕ
+layerNumbers r = 0 ∷ (low r * 65536 + low r) ∷ (low r * 65536 + high r) ∷ 0 ∷ []
+
+-- the fields with those that a record of kind k does not use as 0
+abbrev pub cleaned : ℕ → Fields → List ℕ
+cleaned k r =
+    let t = pick (eqb k 7) (tilde r) 0 in
+    let f = pick (eqb k 7) (form r) 0 in
+    let p = pick (eqb k 6 || eqb k 7) (present r) 0 in
+    inOrder k t f p
+    (pick (leb k 5) (first r) 0)
+    (pick (between 4 5 k) (second r) 0)
+    (pick (leb k 7 || eqb k 9) (number r) 0)
+    (pick (eqb k 9) (other r) (getD (layerNumbers r) f 0))
+    (pick (eqb k 6 || eqb k 7) (familyAt (family r .offset) (family r .size)) nowhere)
+    (pick (eqb p 1) (constraints r) nowhere)
+    (pick (eqb f 3) (set r) nowhere)
+
+-- Each part of a head as packing writes it.
+bit-of : (t : ℕ) → t < 2 → bit (eqb t 1) ≡ t
+bit-of zero h = refl
+bit-of (suc zero) h = refl
+bit-of (suc (suc t)) h = absurd (omega arith)
+
+presence : (p : ℕ) (s : Span) → p < 2 → packed.present (pick (eqb p 1) (some s) none) ≡ p
+presence zero s h = refl
+presence (suc zero) s h = refl
+presence (suc (suc p)) s h = absurd (omega arith)
+
+part-or-nowhere : (t : Bool) (s : Span) → orNowhere (pick t (some s) none) ≡ pick t s nowhere
+part-or-nowhere true s = refl
+part-or-nowhere false s = refl
+
+abbrev pub Four : (ℕ → Type 0) → Type 0
+Four P = P 0 × P 1 × P 2 × P 3
+
+pub below-four : (P : ℕ → Type 0) → Four P → (f : ℕ) → f < 4 → P f
+below-four P h zero l = h .0
+below-four P h (suc zero) l = h .1
+below-four P h (suc (suc zero)) l = h .2
+below-four P h (suc (suc (suc zero))) l = h .3
+below-four P h (suc (suc (suc (suc f)))) l = absurd (omega arith)
+
+abbrev pub layersOf : Fields → ℕ → Layers Span
+layersOf r f = getD (noLayers ∷ singleLayer (low r) ∷ layerRange (low r) (high r) ∷ layerSet (set r) ∷ []) f noLayers
+
+layers-form : (r : Fields) (f : ℕ) → f < 4 → layerForm (layersOf r f) ≡ f
+layers-form r = below-four (λ f. layerForm (layersOf r f) ≡ f) (refl, refl, refl, refl)
+
+layers-numbers : (r : Fields) (f : ℕ) → f < 4 → lowAndHigh (layersOf r f) ≡ getD (layerNumbers r) f 0
+layers-numbers r = below-four (λ f. lowAndHigh (layersOf r f) ≡ getD (layerNumbers r) f 0) (refl, refl, refl, refl)
+
+layers-set : (r : Fields) (f : ℕ) → f < 4 → setPart (layersOf r f) ≡ pick (eqb f 3) (set r) nowhere
+layers-set r = below-four (λ f. setPart (layersOf r f) ≡ pick (eqb f 3) (set r) nowhere) (refl, refl, refl, refl)
+
+-- What packing writes of a record of kind 0 to 14.
+abbrev pub fieldsAt : List ℕ → Fields
+fieldsAt bs = cut widths (take RECORD bs)
+
+module _ (bs : List ℕ) (below : Below 256 bs) where
+  bits : toBits 32 (fromBits 32 (field 3 bs)) ≡ field 3 bs
+  bits = toBits-fromBits 32 (field 3 bs) (field-lt bs below 3 (lit< tt))
+
+  bits′ : toBits 32 (fromBits 32 (field 4 bs)) ≡ field 4 bs
+  bits′ = toBits-fromBits 32 (field 4 bs) (field-lt bs below 4 (lit< tt))
+
+  rotation-written : headFields (rotationAt bs) ≡ cleaned 6 (fieldsAt bs)
+  rotation-written =
+      let r = fieldsAt bs in
+      rw (bits, presence (present r) (constraints r) (omega arith), part-or-nowhere (hasConstraints r) (constraints r))
+
+  move-written : headFields (moveAt bs) ≡ cleaned 7 (fieldsAt bs)
+  move-written =
+      let r = fieldsAt bs in
+      let l : form r < 4 = omega arith in
+      rw (
+        bits,
+        bit-of (tilde r) (omega arith),
+        presence (present r) (constraints r) (omega arith),
+        part-or-nowhere (hasConstraints r) (constraints r),
+        layers-form r (form r) l,
+        layers-numbers r (form r) l,
+        layers-set r (form r) l,
+      )
+
+  pub written : kindOk (fieldsAt bs) ≡ true → headFields (headAt bs) ≡ cleaned (kind (fieldsAt bs)) (fieldsAt bs)
+  written =
+      by-kind (λ (k : ℕ) (h : Head). leb k 14 ≡ true → headFields h ≡ cleaned k (fieldsAt bs)) bs (kind (fieldsAt bs)) refl
+      (λ e. rw bits, (λ e. rw bits, (λ e. rw bits, (λ e. rw bits, (λ e. rw bits, (λ e. rw bits,
+      (λ e. rotation-written, (λ e. move-written, (λ e. refl, (λ e. rw (bits, bits′),
+      (λ e. refl, (λ e. refl, (λ e. refl, (λ e. refl, (λ e. refl, tt)))))))))))))))
+      (λ j l e. absurd (omega (arith, leb-true j 14 e)))
+
+-- The fields that are as packing writes them.
+pub record Clean (r : Fields) : Type 0 where
+  pub tilde-used : pick (isMove r) (tilde r) 0 ≡ tilde r
+  pub form-used : pick (isMove r) (form r) 0 ≡ form r
+  pub present-used : pick (hasFamily r) (present r) 0 ≡ present r
+  pub first-used : pick (isGroup r) (first r) 0 ≡ first r
+  pub second-used : pick (isBinary r) (second r) 0 ≡ second r
+  pub number-used : pick (hasMultiplier r || isPair r) (number r) 0 ≡ number r
+  pub other-used : pick (isPair r) (other r) (getD (layerNumbers r) (form r) 0) ≡ other r
+  pub family-used : pick (hasFamily r) (familyAt (family r .offset) (family r .size)) nowhere ≡ family r
+  pub constraints-used : pick (hasConstraints r) (constraints r) nowhere ≡ constraints r
+  pub set-used : pick (hasSet r) (set r) nowhere ≡ set r
+
+pub clean-same : (r : Fields) → Clean r → cleaned (kind r) r ≡ listed r
+clean-same r c = rw (c .tilde-used, c .form-used, c .present-used) go
+  where
+    small : kind r * 16 + tilde r * 8 + form r * 2 + present r ≡ getD r 0 0
+    small =
+        let s = getD r 0 0 in
+        let e : s / 8 / 2 ≡ s / 16 = omega arith in
+        let z : s / 2 / 4 ≡ s / 8 = omega arith in
+        omega arith
+    go : inOrder (kind r) (tilde r) (form r) (present r)
+        (pick (isGroup r) (first r) 0) (pick (isBinary r) (second r) 0) (pick (hasMultiplier r || isPair r) (number r) 0)
+        (pick (isPair r) (other r) (getD (layerNumbers r) (form r) 0))
+        (pick (hasFamily r) (familyAt (family r .offset) (family r .size)) nowhere)
+        (pick (hasConstraints r) (constraints r) nowhere) (pick (hasSet r) (set r) nowhere)
+        ≡ listed r
+    go = λ i.
+        small i ∷ c .first-used i ∷ c .second-used i ∷ c .number-used i ∷ c .other-used i
+        ∷ c .family-used i .offset ∷ c .family-used i .size ∷ c .constraints-used i .offset ∷ c .constraints-used i .size
+        ∷ c .set-used i .offset ∷ c .set-used i .size ∷ []
+
+small-least : (u : Bool) (x : ℕ) → pick u x 0 ≤ x
+small-least true x = omega arith
+small-least false x = omega arith
+
+pub same-clean : (r : Fields) → cleaned (kind r) r ≡ listed r → Clean r
+same-clean r e =
+    record {
+      tilde-used = omega (arith, at 0, t, f, p);
+      form-used = form-same;
+      present-used = present-same;
+      first-used = at 1;
+      second-used = at 2;
+      number-used = at 3;
+      other-used = subst (λ (n : ℕ). pick (isPair r) (other r) (getD (layerNumbers r) n 0) ≡ other r) form-same (at 4);
+      family-used = ap₂ span (at 5) (at 6);
+      constraints-used = subst (λ (n : ℕ). pick (eqb n 1) (constraints r) nowhere ≡ constraints r) present-same (ap₂ span (at 7) (at 8));
+      set-used = subst (λ (n : ℕ). pick (eqb n 3) (set r) nowhere ≡ set r) form-same (ap₂ span (at 9) (at 10));
+    }
+  where
+    at : (i : ℕ) → getD (cleaned (kind r) r) i 0 ≡ getD (listed r) i 0
+    at i = ap (λ (l : List ℕ). getD l i 0) e
+    t : pick (isMove r) (tilde r) 0 ≤ tilde r
+    t = small-least (isMove r) (tilde r)
+    f : pick (isMove r) (form r) 0 ≤ form r
+    f = small-least (isMove r) (form r)
+    p : pick (hasFamily r) (present r) 0 ≤ present r
+    p = small-least (hasFamily r) (present r)
+    form-same : pick (isMove r) (form r) 0 ≡ form r
+    form-same = omega (arith, at 0, t, f, p)
+    present-same : pick (hasFamily r) (present r) 0 ≡ present r
+    present-same = omega (arith, at 0, t, f, p)
+
+-- A field that is 0 unless it is used.
+kept : (u : Bool) (x : ℕ) → zeroUnless u x ≡ true → pick u x 0 ≡ x
+kept true x e = refl
+kept false x e = sym (eqb-true x 0 e)
+
+unkept : (u : Bool) (x : ℕ) → pick u x 0 ≡ x → zeroUnless u x ≡ true
+unkept true x e = refl
+unkept false x e = eq-eqb x 0 (sym e)
+
+kept-part : (u : Bool) (p : Span) → nowhereUnless u p ≡ true → pick u p nowhere ≡ p
+kept-part true p e = refl
+kept-part false p e = ap₂ span (sym (eqb-true (p .offset) 0 (and-left _ _ e))) (sym (eqb-true (p .size) 0 (and-right (eqb (p .offset) 0) _ e)))
+
+unkept-part : (u : Bool) (p : Span) → pick u p nowhere ≡ p → nowhereUnless u p ≡ true
+unkept-part true p e = refl
+unkept-part false p e =
+    and-both _ _ (eq-eqb (p .offset) 0 (ap (λ (q : Span). q .offset) (sym e))) (eq-eqb (p .size) 0 (ap (λ (q : Span). q .size) (sym e)))
+
+pub used : (u : Bool) (x : ℕ) → pick u x 0 ≡ x → 0 < x → u ≡ true
+used true x e h = refl
+used false x e h = absurd (omega arith)
+
+-- a family that is at 0 where it is empty
+family-kept : (p : Span) → zeroUnless (not (eqb (p .size) 0)) (p .offset) ≡ true → familyAt (p .offset) (p .size) ≡ p
+family-kept p = go (eqb (p .size) 0) refl
+  where
+    go : (t : Bool) → eqb (p .size) 0 ≡ t → zeroUnless (not t) (p .offset) ≡ true → pick t nowhere (span (p .offset) (p .size)) ≡ p
+    go true e h = ap₂ span (sym (eqb-true (p .offset) 0 h)) (sym (eqb-true (p .size) 0 e))
+    go false e h = refl
+
+family-unkept : (u : Bool) (p : Span) → pick u (familyAt (p .offset) (p .size)) nowhere ≡ p →
+    (nowhereUnless u p ≡ true) × (zeroUnless (not (eqb (p .size) 0)) (p .offset) ≡ true)
+family-unkept u p e = (parts u e, go u (eqb (p .size) 0) e)
+  where
+    zero-offset : nowhere ≡ p → (b : Bool) → zeroUnless b (p .offset) ≡ true
+    zero-offset z true = refl
+    zero-offset z false = eq-eqb (p .offset) 0 (ap (λ (q : Span). q .offset) (sym z))
+    go : (u t : Bool) → pick u (pick t nowhere (span (p .offset) (p .size))) nowhere ≡ p → zeroUnless (not t) (p .offset) ≡ true
+    go true true z = zero-offset z false
+    go true false z = refl
+    go false t z = zero-offset z (not t)
+    parts : (u : Bool) → pick u (familyAt (p .offset) (p .size)) nowhere ≡ p → nowhereUnless u p ≡ true
+    parts true z = refl
+    parts false z = unkept-part false p z
+
+-- d of a pair, or layers as the form says
+abbrev pub Single : Fields → Type 0
+Single r = isSingle r ≡ true → low r ≡ high r
+
+other-kept : (r : Fields) → Single r → (t : Bool) → zeroUnless (t || hasLayers r) (other r) ≡ true →
+    pick t (other r) (getD (layerNumbers r) (form r) 0) ≡ other r
+other-kept r s true h = refl
+other-kept r s false h =
+    below-four (λ f. form r ≡ f → zeroUnless (between 1 2 f) (other r) ≡ true → getD (layerNumbers r) f 0 ≡ other r)
+    (
+      λ e z. sym (eqb-true (other r) 0 z),
+      λ e z. omega (arith, s (eq-eqb (form r) 1 e)),
+      λ e z. omega arith,
+      λ e z. sym (eqb-true (other r) 0 z),
+    )
+    (form r) (omega arith) refl h
+
+other-unkept : (r : Fields) (t : Bool) → pick t (other r) (getD (layerNumbers r) (form r) 0) ≡ other r → zeroUnless (t || hasLayers r) (other r) ≡ true
+other-unkept r true h = refl
+other-unkept r false h =
+    below-four (λ f. getD (layerNumbers r) f 0 ≡ other r → zeroUnless (between 1 2 f) (other r) ≡ true)
+    (λ e. eq-eqb (other r) 0 (sym e), λ e. refl, λ e. refl, λ e. eq-eqb (other r) 0 (sym e))
+    (form r) (omega arith) h
+
+pub clean-single : (r : Fields) → Clean r → Single r
+clean-single r c h =
+    let f : form r ≡ 1 = eqb-true (form r) 1 h in
+    let k : kind r ≡ 7 = eqb-true (kind r) 7 (used (isMove r) (form r) (c .form-used) (omega arith)) in
+    let o : low r * 65536 + low r ≡ other r =
+    subst (λ (n : ℕ). pick (eqb n 9) (other r) (getD (layerNumbers r) 1 0) ≡ other r) k
+    (subst (λ (n : ℕ). pick (isPair r) (other r) (getD (layerNumbers r) n 0) ≡ other r) f (c .other-used))
+    in
+    omega arith
+
+pub unused-clean : (r : Fields) → unusedOk r ≡ true → Single r → Clean r
+unused-clean r h s =
+    record {
+      tilde-used = kept (isMove r) (tilde r) (search (and-left, and-right) depth 12);
+      form-used = kept (isMove r) (form r) (search (and-left, and-right) depth 12);
+      present-used = kept (hasFamily r) (present r) (search (and-left, and-right) depth 12);
+      first-used = kept (isGroup r) (first r) (search (and-left, and-right) depth 12);
+      second-used = kept (isBinary r) (second r) (search (and-left, and-right) depth 12);
+      number-used = kept (hasMultiplier r || isPair r) (number r) (search (and-left, and-right) depth 12);
+      other-used = other-kept r s (isPair r) (search (and-left, and-right) depth 12);
+      family-used = rw (family-kept (family r) (search (and-left, and-right))) (kept-part (hasFamily r) (family r) (search (and-left, and-right)));
+      constraints-used = kept-part (hasConstraints r) (constraints r) (search (and-left, and-right));
+      set-used = kept-part (hasSet r) (set r) (search (and-left, and-right));
+    }
+
+pub clean-unused : (r : Fields) → Clean r → unusedOk r ≡ true
+clean-unused r c =
+    let f = family-unkept (hasFamily r) (family r) (c .family-used) in
+    unkept (isMove r) (tilde r) (c .tilde-used)
+    and unkept (isMove r) (form r) (c .form-used)
+    and unkept (hasFamily r) (present r) (c .present-used)
+    and unkept (isGroup r) (first r) (c .first-used)
+    and unkept (isBinary r) (second r) (c .second-used)
+    and unkept (hasMultiplier r || isPair r) (number r) (c .number-used)
+    and other-unkept r (isPair r) (c .other-used)
+    and f .0
+    and f .1
+    and unkept-part (hasConstraints r) (constraints r) (c .constraints-used)
+    and unkept-part (hasSet r) (set r) (c .set-used)
