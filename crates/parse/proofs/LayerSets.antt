@@ -20,7 +20,7 @@ use Rattle.numbers.proofs.Bounds.{number, hyphen, sint-plain, not-negated}
 use Rattle.parse.specs.Meaning.{forget, elementOf, layerAfterDots, layerAfterHyphen, unsignedOrSingle, numberedLayers}
 use Rattle.parse.specs.declared.parts.Element.the-variants.{Layer}
 use Rattle.parse.proofs.Bytes.{seen, just-not}
-use Rattle.parse.proofs.Sets.{no-brace, layer-set-ends}
+use Rattle.parse.proofs.InBraces.{no-brace, layer-set-ends}
 use Rattle.parse.proofs.Readings.{never, assoc, steps, or-none, when-none, took, gone}
 
 -- a number that is rejected with a sign is rejected without one

@@ -48,7 +48,7 @@ use Rattle.parse.specs.declared.parts.Element.the-variants.{Constraint}
 use Rattle.parse.specs.Meaning.{forget, elementOf, withQuote, repeated, leafRead, scrambleRead, pairAfter, scrambleOrMove, twice, scrambleAt, scrambleKind}
 use Rattle.parse.proofs.Bytes.{other, just-is, just-not, word-not}
 use Rattle.parse.proofs.Readings.{took, gone, or-none}
-use Rattle.parse.proofs.Sets.{no-brace, constraint-set-ends}
+use Rattle.parse.proofs.InBraces.{no-brace, constraint-set-ends}
 
 -- Multipliers.
 module _ (at : ℕ) (s : List ℕ) where

@@ -4,7 +4,7 @@ pub mod Bytes
 pub mod Past
 pub mod Families
 pub mod Rules
-pub mod Sets
+pub mod InBraces
 pub mod LayerSets
 pub mod Choices
 pub mod Leaves

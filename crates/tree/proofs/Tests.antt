@@ -3,6 +3,7 @@ use Prim.Native.Nat.{ℕ, suc, _+_, _-_, _≤_, _<_}
 use mathlib.Core.Path.{_≡_, refl, sym, ap, _∙_, subst}
 use mathlib.Core.Bool.{Bool, true, false, not, _&&_}
 use mathlib.Core.List.{List, [], _∷_}
+use mathlib.Core.Option.{some}
 use native.Mathlib.Omega.{arith}
 use borrow.Author.Tests.{le-leb, lt-leb, lt-ltb, le-ltb, ltb-true, ltb-false, eqb-true, eqb-false, ne-eqb}
 use lib.Dec.{leb, ltb, eqb}
@@ -12,9 +13,10 @@ use Rattle.notation.specs.Basics.{pick}
 use Rattle.notation.specs.Numbers.{fromBits}
 use Rattle.notation.specs.Chars.{isFamilyChar}
 use Rattle.notation.specs.Utf8.{run}
-use Rattle.notation.specs.Grammar.{Reading, rejected, read, Reader, atEnd}
-use Rattle.notation.specs.Tree.{span}
-use Rattle.notation.specs.WellFormed.{isSome, multiplierOk, familyOk}
+use Rattle.notation.specs.Grammar.{Reading, rejected, read, Reader, atEnd, layerSetElements, constraintSet}
+use Rattle.notation.specs.Meaning.{layerSetIn, constraintsIn}
+use Rattle.notation.specs.Tree.{span, layerSet}
+use Rattle.notation.specs.WellFormed.{isSome, multiplierOk, familyOk, layersOk, constraintsOk}
 use Rattle.parse.specs.Meaning.{forget}
 
 pub multiplier-test : (b : ℕ) → b < 4294967296 → not (eqb b 2147483648) ≡ multiplierOk (fromBits 32 b)
@@ -45,7 +47,7 @@ forget-end rejected = refl
 forget-end (read a at []) = refl
 forget-end (read a at (b ∷ s)) = refl
 
-pub part-test : {A : Type 0} (rule : Reader A) (text : List ℕ) (offset size : ℕ) (r : Bool) (x : Reading (Unit {0})) → offset + size ≤ length text →
+part-test : {A : Type 0} (rule : Reader A) (text : List ℕ) (offset size : ℕ) (r : Bool) (x : Reading (Unit {0})) → offset + size ≤ length text →
     r ≡ isSome (atEnd x) → x ≡ forget (rule 0 (take (offset + size - offset) (drop offset text))) →
     r ≡ (leb (offset + size) (length text) && isSome (atEnd (rule 0 (take size (drop offset text)))))
 part-test rule text offset size r x h e f =
@@ -55,8 +57,23 @@ part-test rule text offset size r x h e f =
     ∙ forget-end (rule 0 (take (offset + size - offset) (drop offset text)))
     ∙ rw (n, le-leb (offset + size) (length text) h)
 
-pub part-outside : (text : List ℕ) (e : ℕ) (b : Bool) → length text < e → false ≡ (leb e (length text) && b)
+part-outside : (text : List ℕ) (e : ℕ) (b : Bool) → length text < e → false ≡ (leb e (length text) && b)
 part-outside text e b h = rw (lt-leb e (length text) h)
+
+-- a part that is a set of layers, or else of constraints
+abbrev SetOk : List ℕ → ℕ → ℕ → Bool → Bool
+SetOk text offset size layers = pick layers (layersOk text (layerSet (span offset size))) (constraintsOk text (some (span offset size)))
+
+pub set-outside : (text : List ℕ) (offset size : ℕ) (layers : Bool) → length text < offset + size → false ≡ SetOk text offset size layers
+set-outside text offset size true h = part-outside text (offset + size) _ h
+set-outside text offset size false h = part-outside text (offset + size) _ h
+
+pub set-test : (text : List ℕ) (offset size : ℕ) (layers r : Bool) (x : Reading (Unit {0})) → offset + size ≤ length text → r ≡ isSome (atEnd x) →
+    x ≡ pick layers (forget (layerSetElements true 0 (take (offset + size - offset) (drop offset text)))) (forget (constraintSet 0 (take (offset + size - offset) (drop offset text)))) →
+    r ≡ SetOk text offset size layers
+unfolding layerSetIn constraintsIn
+set-test text offset size true r x h e f = part-test (layerSetElements true) text offset size r x h e f
+set-test text offset size false r x h e f = part-test constraintSet text offset size r x h e f
 
 -- families
 pub family-outside : (text : List ℕ) (offset size least : ℕ) → length text < offset + size → false ≡ familyOk text least (span offset size)

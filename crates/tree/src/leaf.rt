@@ -9,13 +9,16 @@ use record::spanned::Rotation;
 use record::spanned::Span;
 use record::spanned::SpanOption;
 ghost use mathlib.Core.Path.{_≡_};
+ghost use mathlib.Core.Bool.{true};
 ghost use mathlib.Core.List.{[]};
 ghost use mathlib.Core.Option.{some};
+ghost use Rattle.notation.specs.Basics.{pick};
+ghost use Rattle.notation.specs.Grammar as grammar;
 ghost use Rattle.notation.specs.Grammar.{atEnd};
 ghost use Rattle.notation.specs.Numbers.{fromBits};
 ghost use Rattle.notation.specs.Tree as tree;
 ghost use Rattle.notation.specs.WellFormed as rule;
-ghost use Rattle.parse.specs.Meaning.{told};
+ghost use Rattle.parse.specs.Meaning.{told, forget};
 ghost use Rattle.record.specs.Meaning.{span, spanOption, layers, rotationLeaf, moveLeaf};
 
 // The deepest layer.
@@ -56,8 +59,20 @@ fn to_end(part: &[u8], taken: Taken) -> bool
     }
 }
 
-fn constraint_set_ok(text: &[u8], p: Span) -> bool
-    ensures { λ r. ⌜ r ≡ rule.constraintsOk (now (text .entry)) (some (span p)) ⌝ }
+// Where the set of layers, or else of constraints, ends that the part begins with.
+fn set_end(part: &[u8], layers: bool) -> Taken
+    ensures { λ r. ⌜ told (now (part .entry)) r ≡ pick layers (forget (grammar.layerSetElements true 0 (now (part .entry)))) (forget (grammar.constraintSet 0 (now (part .entry)))) ⌝ }
+{
+    if layers {
+        layer_set(part, 0, true)
+    } else {
+        constraint_set(part, 0)
+    }
+}
+
+// Whether the part stands inside the text and is such a set.
+fn set_ok(text: &[u8], p: Span, layers: bool) -> bool
+    ensures { λ r. ⌜ r ≡ pick layers (rule.layersOk (now (text .entry)) (tree.layerSet (span p))) (rule.constraintsOk (now (text .entry)) (some (span p))) ⌝ }
 {
     let from = p.offset as usize;
     let to = from + p.size as usize;
@@ -65,28 +80,16 @@ fn constraint_set_ok(text: &[u8], p: Span) -> bool
         return false;
     }
     let part = &text[from..to];
-    to_end(part, constraint_set(part, 0))
+    to_end(part, set_end(part, layers))
 }
 
 fn constraints_ok(text: &[u8], constraints: SpanOption) -> bool
     ensures { λ r. ⌜ r ≡ rule.constraintsOk (now (text .entry)) (spanOption constraints) ⌝ }
 {
     match constraints {
-        SpanOption::Some(p) => constraint_set_ok(text, p),
+        SpanOption::Some(p) => set_ok(text, p, false),
         SpanOption::None => true,
     }
-}
-
-fn layer_set_ok(text: &[u8], p: Span) -> bool
-    ensures { λ r. ⌜ r ≡ rule.layersOk (now (text .entry)) (tree.layerSet (span p)) ⌝ }
-{
-    let from = p.offset as usize;
-    let to = from + p.size as usize;
-    if text.len() < to {
-        return false;
-    }
-    let part = &text[from..to];
-    to_end(part, layer_set(part, 0, true))
 }
 
 fn range_ok(low: u16, high: u16) -> bool
@@ -102,7 +105,7 @@ fn layers_ok(text: &[u8], l: LayerPrefixContents) -> bool
         LayerPrefixContents::None => true,
         LayerPrefixContents::Single(i) => range_ok(i, i),
         LayerPrefixContents::Range(i, j) => range_ok(i, j),
-        LayerPrefixContents::Set(p) => layer_set_ok(text, p),
+        LayerPrefixContents::Set(p) => set_ok(text, p, true),
     }
 }
 

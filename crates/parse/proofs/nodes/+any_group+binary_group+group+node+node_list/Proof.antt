@@ -36,7 +36,7 @@ use Rattle.parse.proofs.nodes.binary_group_kind.Reads as binary-group-k
 use Rattle.parse.proofs.nodes.close.Reads as close-reads
 use Rattle.parse.proofs.nodes.leaf_node.Reads as leaf-node-reads
 use Rattle.parse.proofs.nodes.put_record.Reads as put-record-reads
-use Rattle.parse.proofs.parse.has.Reads as has-reads
+use Rattle.parse.proofs.look.has.Reads as has-reads
 use Rattle.parse.proofs.parse.group_kind.Reads as group-kind-reads
 use Rattle.record.proofs.encode.binary_group_fields.Reads as binary-group-fields-reads
 use Rattle.record.proofs.encode.group_fields.Reads as group-fields-reads

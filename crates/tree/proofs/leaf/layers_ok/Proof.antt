@@ -23,8 +23,8 @@ range-ok-requires-2 c κs = search needs
 enum-known-l-3 : tie.Need-enum-known-l-3
 enum-known-l-3 c = search needs
 
-layer-set-ok-requires : tie.Need-layer-set-ok-requires
-layer-set-ok-requires c κs = search needs
+set-ok-requires : tie.Need-set-ok-requires
+set-ok-requires c κs = search needs
 
 returns : tie.Need-returns
 returns c = search needs
@@ -36,7 +36,7 @@ returns-3 : tie.Need-returns-3
 returns-3 c = rw (c .before .before .l2 .given .1) (c .range-ok2 .ensures)
 
 returns-4 : tie.Need-returns-4
-returns-4 c = rw (c .before .before .l3 .given .1) (c .layer-set-ok .ensures)
+returns-4 c = rw (c .before .before .l3 .given .1) (c .set-ok .ensures)
 
 pub layers-ok-spec : {M : Type 1} → statement M
 layers-ok-spec =
@@ -48,7 +48,7 @@ layers-ok-spec =
     enum-known-l-2
     range-ok-requires-2
     enum-known-l-3
-    layer-set-ok-requires
+    set-ok-requires
     returns
     returns-2
     returns-3
