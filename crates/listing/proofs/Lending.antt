@@ -14,6 +14,7 @@ use Rattle.notation.specs.Entries.{Lent, lend, kept, value, refusalNumber}
 use Rattle.hypuz_notation.proofs.Outcomes.{lend-short, lend-fits}
 use Rattle.display.specs.Written.{MOST, Wrote}
 use Rattle.display.proofs.Writing.{wrote-whole}
+use Rattle.listing.specs.Listing.{AtFront}
 
 -- A result of n bytes in front of what stood there.
 pub record Given (o : Outcome (List ℕ)) (before after : List ℕ) (n : ℕ) : Type 0 where
@@ -64,20 +65,31 @@ module _ {o : Outcome (List ℕ)} {before after : List ℕ} {n : ℕ} (g : Given
   pub given-long : length (take (n - 0) after) ≤ length before
   given-long = omega (arith, ap length given-part, g .size, g .most)
 
+-- A list that fits, written from the start.
+pub at-front : (l : List ℕ) {old new : List ℕ} {next : ℕ} → Wrote old new 0 next (λ rest. l ++ rest) → length old < MOST → length l ≤ length old →
+    AtFront l old new next
+at-front l {old} {new} {next} w few fits =
+    let same = ap length (append-nil l) in
+    let size : next ≡ length l = omega (arith, w .counts) in
+    record {
+      size = size;
+      bytes = wrote-whole w few (omega arith) ∙ ap (λ (s : List ℕ). s ++ drop (length s) old) (append-nil l) ∙ ap (λ (n : ℕ). l ++ drop n old) (sym size);
+    }
+
 -- A list that was measured and then written.
 module _ (l old : List ℕ) (size : ℕ) (counts : size ≡ min (0 + length (l ++ [])) MOST) (few : length old < MOST) where
-  same : length (l ++ []) ≡ length l
-  same = ap length (append-nil l)
-
   pub measured-short : length old < size → record { answer = refusal NO-ROOM; buffer = old } ≡ lend (result l) old
-  measured-short h = lend-short (result l) old l refl (omega (arith, same))
+  measured-short h = lend-short (result l) old l refl (omega (arith, ap length (append-nil l)))
 
   pub measured-written : {new : List ℕ} {next : ℕ} → size ≤ length old → Wrote old new 0 next (λ rest. l ++ rest) →
       record { answer = result size; buffer = new } ≡ lend (result l) old
   measured-written {new} h w =
-      let is : size ≡ length l = omega (arith, same) in
-      let bytes : new ≡ l ++ drop (length l) old =
-          wrote-whole w few (omega (arith, same)) ∙ ap (λ (s : List ℕ). s ++ drop (length s) old) (append-nil l) in
+      let is : size ≡ length l = omega (arith, ap length (append-nil l)) in
+      let front = at-front l w few (omega arith) in
       ap (λ (k : ℕ). record { answer = result k; buffer = new }) is
-      ∙ ap (λ (b : List ℕ). record { answer = result (length l); buffer = b }) bytes
-      ∙ lend-fits (result l) old l refl (omega (arith, same))
+      ∙ ap (λ (b : List ℕ). record { answer = result (length l); buffer = b }) (front .bytes ∙ ap (λ (n : ℕ). l ++ drop n old) (front .size))
+      ∙ lend-fits (result l) old l refl (omega arith)
+
+-- what stands at the front lies in the buffer
+pub front-fits : {l before after : List ℕ} {r : ℕ} → AtFront l before after r → r ≤ length after
+front-fits {l} {before} {after} {r} f = omega (arith, f .size, ap length (f .bytes), length-append l (drop r before))

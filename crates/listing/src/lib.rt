@@ -4,3 +4,5 @@ pub mod lines;
 pub mod listing;
 
 pub use listing::list;
+pub use listing::list_whole;
+pub use listing::MAX_LISTING;

@@ -12,7 +12,7 @@ ghost use Rattle.notation.specs.Lister as rule;
 ghost use Rattle.laws.proofs.Unrolling.{flat};
 ghost use Rattle.hypuz_notation.specs.Sound.{Counted};
 ghost use Rattle.display.specs.Written.{MOST as most, Wrote};
-ghost use Rattle.listing.specs.Listing.{MAX-TREE as maxTree};
+ghost use Rattle.listing.specs.Listing.{MAX-TREE as maxTree, AtFront};
 use crate::lines::inverse_line;
 use crate::lines::number_line;
 use crate::lines::refused_line;
@@ -30,6 +30,16 @@ const MAX_INPUT: usize = 3072;
 
 // So many steps are listed.
 const SHOWN: u64 = 1000;
+
+// So many bytes hold every listing.
+pub const MAX_LISTING: usize = 4194304;
+
+// The whole listing of an input. It always fits, so it is written at once and nothing is refused.
+pub fn list_whole(input: &[u8], out: &mut [u8; MAX_LISTING]) -> usize
+    ensures { λ r. ⌜ AtFront (rule.lister (now (input .entry))) (now (out .entry)) (now (out .exit)) r ⌝ }
+{
+    put_input(out, input)
+}
 
 // The whole listing of an input, or refusal 5 where it does not fit. The first run has no room and only measures.
 pub fn list(input: &[u8], out: &mut [u8]) -> Answer

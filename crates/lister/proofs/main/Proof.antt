@@ -1,8 +1,8 @@
--- `lister::main` is safe. The large buffer's length is a lemma's to give: computed, it is too deep. Assumes nothing.
-use Prim.Native.Nat.{ℕ}
+-- What is written lies in the buffer: the listing stands at its front. Assumes nothing.
 use mathlib.Core.Path.{sym}
-use lib.ListN.{length-replicate}
 use borrow.Author.Needs.{needs}
+use lib.Seq.{length-take-le}
+use Rattle.listing.proofs.Lending.{front-fits}
 use Rattle.lister.proofs.main.Statement.{statement}
 use Rattle.lister.proofs.main.Tie as tie
 
@@ -15,14 +15,20 @@ read-full-requires c κs = search needs
 array-share-prefix-input : tie.Need-array-share-prefix-input
 array-share-prefix-input c = search needs
 
-slice-aggregate-answer : tie.Need-slice-aggregate-answer
-slice-aggregate-answer c = search needs
+slice-aggregate-list-whole : tie.Need-slice-aggregate-list-whole
+slice-aggregate-list-whole c = search needs
 
-slice-aggregate-answer-2 : tie.Need-slice-aggregate-answer-2
-slice-aggregate-answer-2 c = sym (length-replicate {0} {A = ℕ} 4194304 0)
+list-whole-requires : tie.Need-list-whole-requires
+list-whole-requires c κs = search needs
 
-answer-requires : tie.Need-answer-requires
-answer-requires c κs = search needs
+array-share-prefix-out : tie.Need-array-share-prefix-out
+array-share-prefix-out c = front-fits (c .list-whole .ensures)
+
+slice-aggregate-write-all : tie.Need-slice-aggregate-write-all
+slice-aggregate-write-all c = sym (length-take-le (c .before .list-whole .result) _ (array-share-prefix-out (c .before)))
+
+write-all-requires : tie.Need-write-all-requires
+write-all-requires c κs = search needs
 
 returns : tie.Need-returns
 returns c = search needs
@@ -34,7 +40,9 @@ main-spec =
     slice-aggregate-read-full
     read-full-requires
     array-share-prefix-input
-    slice-aggregate-answer
-    slice-aggregate-answer-2
-    answer-requires
+    slice-aggregate-list-whole
+    list-whole-requires
+    array-share-prefix-out
+    slice-aggregate-write-all
+    write-all-requires
     returns)

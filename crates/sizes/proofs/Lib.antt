@@ -1,0 +1,6 @@
+pub mod Digits
+pub mod Sets
+pub mod Bytes
+pub mod Printed
+pub mod Unrolled
+pub mod Listing

@@ -1,0 +1,1 @@
+// No code: proofs/ shows how long printed trees and listings are, by the bytes that they were read from.
