@@ -18,3 +18,4 @@ pub mod Entries
 pub mod Lister
 pub mod Demands
 pub mod Marked
+pub mod Host
