@@ -6,3 +6,4 @@ pub mod Records
 pub mod Naming
 pub mod Agreeing
 pub mod Handing
+pub mod Values

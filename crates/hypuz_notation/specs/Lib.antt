@@ -3,4 +3,3 @@ pub mod Sound
 pub mod Parts
 pub mod Inverses
 pub mod Agreement
-pub mod Host

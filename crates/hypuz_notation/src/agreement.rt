@@ -1,11 +1,9 @@
 // Demand 3 on the code: card, list, slider and undoing agree about a text.
 ghost use mathlib.Core.Path.{_≡_};
-ghost use mathlib.Core.List.{List};
-ghost use Prim.Native.Nat.{ℕ, suc, _-_};
+ghost use Prim.Native.Nat.{suc, _-_};
 ghost use lib.ListN.{take};
-ghost use Rattle.notation.specs.Tree.{Leaf};
 ghost use Rattle.notation.specs.Entries as rule;
-ghost use Rattle.hypuz_notation.specs.Agreement.{Run, Assumed, Demanded};
+ghost use Rattle.hypuz_notation.specs.Agreement.{Agreed};
 use crate::inverses::inv;
 use crate::printing::display;
 use crate::steps::count_steps;
@@ -69,8 +67,15 @@ pub fn agree(
     step: &mut [u8],
     undone: &mut [u8],
 ) -> Agreement
-    ensures { λ r. ⌜ Run features (now (text .entry)) place r (now (tree .entry)) (now (tree .exit)) (now (inverse .entry)) (now (inverse .exit)) (now (printed .entry)) (now (printed .exit)) (now (back .entry)) (now (back .exit)) (now (step .entry)) (now (step .exit)) (now (undone .entry)) (now (undone .exit)) ⌝ }
-    ensures { λ r. ⌜ ((t : List ℕ) (list : List Leaf) → Assumed features (now (text .entry)) t list (now (tree .entry)) (now (inverse .entry)) (now (printed .entry)) (now (back .entry)) (now (step .entry)) (now (undone .entry)) → Demanded (now (text .entry)) list place r (now (printed .exit)) (now (step .entry)) (now (step .exit)) (now (undone .entry)) (now (undone .exit))) ⌝ }
+    ensures { λ r. ⌜ Agreed features (now (text .entry)) place r
+        (record {
+          tree = now (tree .entry); inverse = now (inverse .entry); printed = now (printed .entry);
+          back = now (back .entry); step = now (step .entry); undone = now (undone .entry)
+        })
+        (record {
+          tree = now (tree .exit); inverse = now (inverse .exit); printed = now (printed .exit);
+          back = now (back .exit); step = now (step .exit); undone = now (undone .exit)
+        }) ⌝ }
 {
     let read = parse_notation(text, features, tree);
     let t = front(read, tree);

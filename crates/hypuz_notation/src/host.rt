@@ -1,11 +1,11 @@
 // The entries for a host that calls from C (include/hypuz_notation.h): byte slices and numbers only. Each answers one number, the refusal's
-// number times 2^56 plus the value modulo 2^56.
+// number times 2^56 plus the value modulo 2^56, which no value reaches (proofs/Values).
 ghost use mathlib.Core.Path.{_≡_};
 ghost use mathlib.Core.Bool.{not};
 ghost use lib.Dec.{eqb};
 ghost use Rattle.notation.specs.Entries as rule;
 ghost use Rattle.notation.specs.Features as flags;
-ghost use Rattle.hypuz_notation.specs.Host.{coded, partNumber, Hands};
+ghost use Rattle.notation.specs.Host.{coded, partNumber, Hands};
 use crate::inverses::inv;
 use crate::inverses::inv_deep;
 use crate::parts::PartAnswer;
@@ -21,6 +21,9 @@ use parse::parse_notation;
 
 // 2^56
 const VALUES: u64 = 72057594037927936;
+
+// 2^16
+const PART: u64 = 65536;
 
 fn code(answer: Answer) -> u64
     ensures { λ r. ⌜ r ≡ coded (rule.outcome answer) ⌝ }
@@ -103,13 +106,13 @@ pub extern "C" fn hypuz_simplify(
     code(simplify(text, tree, record, max_layer, negatives, out))
 }
 
-// Where a family stands: its offset times 65,536 plus its length.
+// Where a family stands: its offset times PART plus its length.
 #[no_mangle]
 pub extern "C" fn hypuz_family(text: &[u8], tree: &[u8], record: u64) -> u64
     ensures { λ r. ⌜ r ≡ coded (partNumber (rule.familySpan (now (text .entry)) (now (tree .entry)) «record»)) ⌝ }
 {
     match family_part(text, tree, record) {
-        PartAnswer::Part(p) => p.offset as u64 * 65536 + p.size as u64,
+        PartAnswer::Part(p) => p.offset as u64 * PART + p.size as u64,
         PartAnswer::Refused(number) => number as u64 * VALUES,
     }
 }

@@ -6,13 +6,15 @@ use mathlib.Core.List.{List, _++_}
 use mathlib.Core.Option.{some}
 use lib.ListN.{length, drop, getElem?}
 use Rattle.notation.specs.Basics.{every}
-use Rattle.notation.specs.Refusals.{result}
+use Rattle.notation.specs.Refusals.{Outcome, result, _>>=_}
 use Rattle.notation.specs.Tree.{Leaf}
 use Rattle.notation.specs.Packed.{leafRecord, unpack}
 use Rattle.notation.specs.Meaning.{SameStep}
 use Rattle.notation.specs.Invert.{undo, overflows}
 use Rattle.notation.specs.Unroll.{flatten}
-use Rattle.notation.specs.Entries.{Lent, reading, parseNotation, invEntry, displayEntry, countSteps, seekStep, MAX-STEPS, MAX-TEXT}
+use Rattle.notation.specs.Entries.{
+  Lent, reading, inverse, display, parseNotation, invEntry, displayEntry, countSteps, seekStep, MAX-STEPS, MAX-TEXT
+}
 use Rattle.notation.specs.declared.features.Features.{Features}
 
 -- an entry does not refuse, and writes these bytes, in every buffer that has room for them
@@ -53,3 +55,14 @@ pub record Demand3 (f : Features) (text tree : List ℕ) (list : List Leaf) : Ty
 
 abbrev pub demand3 : Type 0
 demand3 = (f : Features) (text tree : List ℕ) (list : List Leaf) → Unrollable f text tree list → Demand3 f text tree list
+
+-- What buffers are lent for, beside the tree and its inverse: the inverse as text, and that text's tree.
+abbrev pub printedInverse : List ℕ → List ℕ → Outcome (List ℕ)
+printedInverse text tree = do t ← inverse text tree; display text t
+
+abbrev pub treeBack : Features → List ℕ → List ℕ → Outcome (List ℕ)
+treeBack f text tree = do text′ ← printedInverse text tree; reading f text′
+
+-- what a rule gives, if it gives anything, has at most so many bytes
+abbrev pub AtMost : ℕ → Outcome (List ℕ) → Type 0
+AtMost n o = (l : List ℕ) → o ≡ result l → length l ≤ n

@@ -19,3 +19,4 @@ pub mod Entries
 pub mod Lister
 pub mod Demands
 pub mod Marked
+pub mod Host

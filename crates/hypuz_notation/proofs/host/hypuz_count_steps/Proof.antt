@@ -1,7 +1,7 @@
 -- `host::hypuz_count_steps` meets its contract: it hands over what the entry answers. Assumes nothing.
 use mathlib.Core.Path.{ap, _∙_}
 use borrow.Author.Needs.{needs}
-use Rattle.hypuz_notation.specs.Host.{coded}
+use Rattle.notation.specs.Host.{coded}
 use Rattle.hypuz_notation.proofs.host.hypuz_count_steps.Statement.{statement}
 use Rattle.hypuz_notation.proofs.host.hypuz_count_steps.Tie as tie
 

@@ -1,0 +1,56 @@
+-- Answers as one number, for a host that calls from C: the refusal's number times 2^56, plus the value modulo 2^56 (0 where refused).
+use Prim.Native.Nat.{ℕ, _+_, _*_, _/_, _%_, _<_}
+use mathlib.Core.Path.{_≡_}
+use mathlib.Core.Bool.{Bool}
+use mathlib.Core.List.{List}
+use lib.ListN.{length}
+use Rattle.notation.specs.Refusals.{Outcome, refusal, result}
+use Rattle.notation.specs.Tree.{Span}
+use Rattle.notation.specs.Entries.{
+  Lent, refusalNumber, value, parseNotation, displayEntry, invEntry, invDeepEntry, countSteps, flattenEntry, seekStep, simplifyBytes, familySpan
+}
+use Rattle.notation.specs.declared.features.Features.{Features}
+
+-- 2^56
+abbrev pub VALUES : ℕ
+VALUES = 72057594037927936
+
+abbrev pub coded : Outcome ℕ → ℕ
+coded o = refusalNumber o * VALUES + value o % VALUES
+
+-- 2^16
+abbrev pub PART : ℕ
+PART = 65536
+
+-- a part of the text as its offset times 2^16 plus its length
+abbrev pub partNumber : Outcome Span → Outcome ℕ
+partNumber (refusal r) = refusal r
+partNumber (result p) = result (p .offset * PART + p .size)
+
+-- The number and the buffer that an entry hands to such a host are those of its rule.
+pub record Hands (r : ℕ) (buffer : List ℕ) (rule : Lent ℕ) : Type 0 where
+  pub number : r ≡ coded (rule .answer)
+  pub bytes : buffer ≡ rule .buffer
+
+-- Why nothing is lost by the modulo: a value below 2^56 is told whole, and no value reaches 2^56. Those of the inverses and of printing are at most
+-- the length of the buffer that is lent, and no machine has one of 2^56 bytes; the others are below 2^56 whatever is lent.
+abbrev pub Small : Outcome ℕ → Type 0
+Small o = value o < VALUES
+
+-- the number as a sum, and taken apart again
+pub record Whole (o : Outcome ℕ) : Type 0 where
+  pub sum : coded o ≡ refusalNumber o * VALUES + value o
+  pub refusedBy : coded o / VALUES ≡ refusalNumber o
+  pub valued : coded o % VALUES ≡ value o
+
+pub record NeverBites : Type 0 where
+  pub whole : (o : Outcome ℕ) → Small o → Whole o
+  pub reading : (f : Features) (text buffer : List ℕ) → Small (parseNotation f text buffer .answer)
+  pub counting : (text tree : List ℕ) → Small (countSteps text tree)
+  pub seeking : (text tree : List ℕ) (k : ℕ) (buffer : List ℕ) → Small (seekStep text tree k buffer .answer)
+  pub unrolling : (text tree buffer : List ℕ) → Small (flattenEntry text tree buffer .answer)
+  pub layering : (text tree : List ℕ) (k n : ℕ) (neg : Bool) (buffer : List ℕ) → Small (simplifyBytes text tree k n neg buffer .answer)
+  pub naming : (text tree : List ℕ) (k : ℕ) → Small (partNumber (familySpan text tree k))
+  pub inverting : (text tree buffer : List ℕ) → length buffer < VALUES → Small (invEntry text tree buffer .answer)
+  pub invertingDeeply : (text tree buffer : List ℕ) → length buffer < VALUES → Small (invDeepEntry text tree buffer .answer)
+  pub printing : (text tree buffer : List ℕ) → length buffer < VALUES → Small (displayEntry text tree buffer .answer)
