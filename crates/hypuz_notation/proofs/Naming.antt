@@ -15,7 +15,7 @@ use Rattle.notation.specs.Tree.{Span, Layers, partOf}
 use Rattle.notation.specs.Packed.{RECORD, Head, headAt, familyAt}
 use Rattle.notation.specs.WellFormed.{inside, familyOk, layersOk, constraintsOk, multiplierOk, leafOk}
 use Rattle.notation.specs.Entries.{
-  Lent, checked, refusalNumber, recordAt, layersOf, rangesIn, layerRanges, lendRanges, simplifyBytes, familyOf, familySpan, partIn, family, familyRefusal
+  Lent, checked, refusalNumber, recordAt, layersOf, rangesIn, layerRanges, lend, inEntries, rangeBytes, simplifyBytes, familyOf, familySpan, partIn, family, familyRefusal
 }
 use Rattle.record.specs.Meaning.{field, layersAt, moveAt}
 use Rattle.record.proofs.Packed.{by-kind, headAt-kind}
@@ -144,7 +144,7 @@ module _ (text tree : List ℕ) (k n : ℕ) (neg : Bool) (buffer : List ℕ) whe
             rw (s .is, le-leb 1 n (omega arith), le-leb n MAX-LAYER high, lt-ltb k (length tree / RECORD) h, sym (from text tree k s h), t)
 
         pub simplify-move : (l : Layers Span) → layersOf (headAt (found tree k)) ≡ result l → (o : Lent ℕ) →
-            o ≡ lendRanges (result (simplified (rangesIn text n neg l))) buffer → o ≡ simplifyBytes text tree k n neg buffer
+            o ≡ inEntries 4 (lend (result (rangeBytes (simplified (rangesIn text n neg l)))) buffer) → o ≡ simplifyBytes text tree k n neg buffer
         unfolding layerRanges
         simplify-move l t o q =
             rw (s .is, le-leb 1 n (omega arith), le-leb n MAX-LAYER high, lt-ltb k (length tree / RECORD) h, sym (from text tree k s h), t) q

@@ -1,19 +1,21 @@
 -- The rules for layers in the form in which the code goes through their cases. Assumes nothing.
 use Prim.Native.Nat.{ℕ, zero, suc, _+_, _-_, _≤_, _<_, min, max}
-use mathlib.Core.Path.{_≡_, refl, sym, _∙_}
-use mathlib.Core.Bool.{Bool, true, false, not, _&&_}
+use mathlib.Core.Path.{_≡_, refl, sym, ap, _∙_}
+use mathlib.Core.Bool.{Bool, true, false, not, _&&_, _||_}
 use mathlib.Core.Option.{Option, none, some}
 use native.Mathlib.Omega.{arith}
 use lib.Dec.{leb}
-use lib.IntN.{pos, negℤ, negℤ-negℤ}
-use borrow.Author.Tests.{leb-true, le-leb, lt-leb}
+use lib.IntN.{ℤ, pos, negsuc, negℤ, negℤ-negℤ}
+use borrow.Author.Tests.{leb-true, leb-false, le-leb, lt-leb, le-ltb, lt-ltb}
 use Rattle.notation.specs.Basics.{pick}
 use Rattle.notation.specs.Layers as rule
-use Rattle.notation.specs.Layers.{Range, MAX-LAYER, UnclampedLayer, beyondShallowest, concrete, beyondDeepest, invalid}
+use Rattle.notation.specs.Layers.{Range, MAX-LAYER, rangeBetween}
 use Rattle.layer.specs.Meaning as meaning
-use Rattle.layer.specs.Meaning.{layer, signed, withSign, LayerUpTo, RangeUpTo, IsLayer, IsRange, IsSignedLayer, Each}
+use Rattle.layer.specs.Meaning.{layer, signed, withSign, LayerUpTo, RangeUpTo, IsLayer, IsRange, IsSignedLayer, Each, resolveUnclamped, sameSide}
 use Rattle.layer.specs.declared.signed.SignedLayer.{SignedLayer}
 use Rattle.layer.specs.declared.count.AxisLayersInfo.{AxisLayersInfo}
+use Rattle.layer.specs.declared.count.UnclampedLayer.{UnclampedLayer}
+use Rattle.layer.specs.declared.count.UnclampedLayer.the-variants.{BeyondShallowest, Concrete, BeyondDeepest, Invalid}
 
 -- ── signs ──
 
@@ -35,6 +37,10 @@ and-pick : {A : Type 0} (a b : Bool) (x y : A) → pick (a && b) x y ≡ pick a 
 and-pick true b x y = refl
 and-pick false b x y = refl
 
+pick-same : {A : Type 0} (a : Bool) (x : A) → x ≡ pick a x x
+pick-same true x = refl
+pick-same false x = refl
+
 resolve-with : (n : ℕ) (neg negative : Bool) (i : ℕ) →
     1 ≤ i →
     pick (leb i n) (pick negative (pick neg (some (n - (i - 1))) none) (some i)) none
@@ -44,15 +50,6 @@ resolve-with n neg true (suc i) h =
     let same : suc i - 1 ≡ i = omega arith in
     rw same (sym (and-pick (leb (suc i) n) neg (some (n - i)) none))
 resolve-with n neg false (suc i) h = refl
-
-unclamped-with : (n : ℕ) (neg negative : Bool) (i : ℕ) →
-    1 ≤ i →
-    rule.unclamped (rule.resolve n neg (withSign negative i))
-    (pick (meaning.isPositive (withSign negative i)) beyondDeepest (pick neg beyondShallowest invalid))
-    ≡ rule.resolveUnclamped n neg (withSign negative i)
-unclamped-with n neg negative zero h = absurd (omega arith)
-unclamped-with n neg true (suc i) h = refl
-unclamped-with n neg false (suc i) h = refl
 
 module _ (l : SignedLayer) (real : IsSignedLayer l) where
   pub negative-is : l .negative ≡ meaning.isNegative (signed l)
@@ -76,16 +73,6 @@ module _ (l : SignedLayer) (real : IsSignedLayer l) where
         found ≡ rule.resolve (axis .«max_layer») (axis .«allow_negatives») (signed l)
     resolve-is found e =
         e ∙ resolve-with (axis .«max_layer») (axis .«allow_negatives») (l .negative) (layer (l .layer)) (real .low)
-
-    -- what `resolve` finds, and the side where it finds nothing
-    pub unclamped-is : (found : Option ℕ) (side : UnclampedLayer) →
-        found ≡ rule.resolve (axis .«max_layer») (axis .«allow_negatives») (signed l) →
-        side ≡ pick (meaning.isPositive (signed l)) beyondDeepest (pick (axis .«allow_negatives») beyondShallowest invalid) →
-        rule.unclamped found side
-        ≡ rule.resolveUnclamped (axis .«max_layer») (axis .«allow_negatives») (signed l)
-    unclamped-is found side p q =
-        rw (p, q)
-        (unclamped-with (axis .«max_layer») (axis .«allow_negatives») (l .negative) (layer (l .layer)) (real .low))
 
 -- ── one layer ──
 
@@ -179,35 +166,67 @@ module _ (a b : Range) (real-a : IsRange a) (real-b : IsRange b) (low high : ℕ
 
 -- ── ranges of an axis ──
 
--- the range between two layers, if there are two
-abbrev pub rangeBetween : Option ℕ → Option ℕ → Option Range
-rangeBetween none q = none
-rangeBetween (some i) none = none
-rangeBetween (some i) (some j) = some (rule.rangeOf i j)
+-- what the rule asks of an end, told by the end as the code has it
+record Told (n : ℕ) (neg : Bool) (i : ℤ) (e : UnclampedLayer) : Type 0 where
+  nearest : meaning.nearest n e ≡ rule.rangeEnd n neg i
+  deep : sameSide BeyondDeepest e ≡ rule.tooDeep n i
+  shallow : sameSide BeyondShallowest e ≡ pick neg (rule.tooShallow n i) false
 
-clamp-range : (n : ℕ) (a b : UnclampedLayer) →
-    pick (meaning.sameSide a b) none (rangeBetween (meaning.nearest n a) (meaning.nearest n b)) ≡ rule.clampRange n a b
-clamp-range n invalid b = refl
-clamp-range n beyondShallowest invalid = refl
-clamp-range n beyondShallowest beyondShallowest = refl
-clamp-range n beyondShallowest (concrete j) = refl
-clamp-range n beyondShallowest beyondDeepest = refl
-clamp-range n (concrete i) invalid = refl
-clamp-range n (concrete i) beyondShallowest = refl
-clamp-range n (concrete i) (concrete j) = refl
-clamp-range n (concrete i) beyondDeepest = refl
-clamp-range n beyondDeepest invalid = refl
-clamp-range n beyondDeepest beyondShallowest = refl
-clamp-range n beyondDeepest (concrete j) = refl
-clamp-range n beyondDeepest beyondDeepest = refl
+told : (n : ℕ) (neg : Bool) (i : ℤ) → Told n neg i (resolveUnclamped n neg i)
+told n neg (pos i) = go (leb i n) refl where
+  go : (t : Bool) → leb i n ≡ t →
+      Told n neg (pos i) (meaning.unclamped (pick t (some i) none) (pick (meaning.isPositive (pos i)) BeyondDeepest (pick neg BeyondShallowest Invalid)))
+  go true e =
+      let h : i ≤ n = leb-true i n e in
+      record { nearest = ap some (omega arith); deep = sym (le-ltb n i h); shallow = pick-same neg false }
+  go false e =
+      let h : n < i = leb-false i n e in
+      rw (← positive-with false i (omega arith)) (record { nearest = ap some (omega arith); deep = sym (lt-ltb n i h); shallow = pick-same neg false })
+told n neg (negsuc i) = go (leb (suc i) n) refl neg where
+  go : (t : Bool) → leb (suc i) n ≡ t → (neg : Bool) →
+      Told n neg (negsuc i) (meaning.unclamped (pick (t && neg) (some (n - i)) none) (pick neg BeyondShallowest Invalid))
+  go true e true =
+      let h : suc i ≤ n = leb-true (suc i) n e in
+      record { nearest = ap some (omega arith); deep = refl; shallow = sym (le-ltb n (suc i) h) }
+  go false e true =
+      let h : n < suc i = leb-false (suc i) n e in
+      record { nearest = ap some (omega arith); deep = refl; shallow = sym (lt-ltb n (suc i) h) }
+  go true e false = record { nearest = refl; deep = refl; shallow = refl }
+  go false e false = record { nearest = refl; deep = refl; shallow = refl }
 
--- `clampRange` by the steps of the code
-pub clamp-range-is : (n : ℕ) {a b a′ b′ : UnclampedLayer} →
-    a ≡ a′ →
-    b ≡ b′ →
+or-false : (a : Bool) → a ≡ (a || false)
+or-false true = refl
+or-false false = refl
+
+sides : (a b : UnclampedLayer) → sameSide a b ≡ (sameSide BeyondDeepest a && sameSide BeyondDeepest b || sameSide BeyondShallowest a && sameSide BeyondShallowest b)
+sides BeyondShallowest b = refl
+sides (Concrete i) b = refl
+sides BeyondDeepest b = or-false (sameSide BeyondDeepest b)
+sides Invalid b = refl
+
+-- a forbidden negative gives none, on whichever side it lies
+forbidden : (n : ℕ) (neg : Bool) (i j : ℤ) →
+    pick (rule.tooDeep n i && rule.tooDeep n j || pick neg (rule.tooShallow n i) false && pick neg (rule.tooShallow n j) false) none
+    (rangeBetween (rule.rangeEnd n neg i) (rule.rangeEnd n neg j))
+    ≡ rule.resolveRange n neg i j
+forbidden n true i j = refl
+forbidden n false (pos i) j = refl
+forbidden n false (negsuc i) j = pick-same (rule.tooShallow n (negsuc i) && rule.tooShallow n j) none
+
+between-ends : (n : ℕ) (neg : Bool) (i j : ℤ) {a b : UnclampedLayer} → Told n neg i a → Told n neg j b → meaning.clampRange n a b ≡ rule.resolveRange n neg i j
+between-ends n neg i j {a} {b} p q = rw (sides a b, p .nearest, p .deep, p .shallow, q .nearest, q .deep, q .shallow) (forbidden n neg i j)
+
+-- the code's range is the rule's, for every number of layers and every two ends, 0 included
+pub clamp-range : (n : ℕ) (neg : Bool) (i j : ℤ) → meaning.clampRange n (resolveUnclamped n neg i) (resolveUnclamped n neg j) ≡ rule.resolveRange n neg i j
+clamp-range n neg i j = between-ends n neg i j (told n neg i) (told n neg j)
+
+-- the same by the steps of the code
+pub clamp-range-is : (n : ℕ) (neg : Bool) (i j : ℤ) {a b : UnclampedLayer} →
+    a ≡ resolveUnclamped n neg i →
+    b ≡ resolveUnclamped n neg j →
     {same : Bool} {p q : Option ℕ} →
-    same ≡ meaning.sameSide a b →
+    same ≡ sameSide a b →
     p ≡ meaning.nearest n a →
     q ≡ meaning.nearest n b →
-    pick same none (rangeBetween p q) ≡ rule.clampRange n a′ b′
-clamp-range-is n {a} {b} ea eb es ep eq = rw (es, ep, eq, ← ea, ← eb) (clamp-range n a b)
+    pick same none (rangeBetween p q) ≡ rule.resolveRange n neg i j
+clamp-range-is n neg i j ea eb es ep eq = rw (es, ep, eq, ea, eb) (clamp-range n neg i j)

@@ -7,7 +7,7 @@ use lib.Dec.{leb}
 use lib.IntN.{ℤ, pos, negsuc, negℤ}
 use Rattle.notation.specs.Basics.{pick, between}
 use Rattle.notation.specs.Layers as rule
-use Rattle.notation.specs.Layers.{MAX-LAYER, Range, beyondShallowest, concrete, beyondDeepest, invalid}
+use Rattle.notation.specs.Layers.{MAX-LAYER, Range, rangeBetween}
 use Rattle.layer.specs.declared.unsigned.Layer.{Layer}
 use Rattle.layer.specs.declared.unsigned.LayerOption.{LayerOption}
 use Rattle.layer.specs.declared.unsigned.LayerOption.the-variants.{Some as SomeLayer, None as NoLayer}
@@ -47,12 +47,6 @@ abbrev pub rangeOption : LayerRangeOption → Option Range
 rangeOption (SomeRange r) = some (range r)
 rangeOption NoRange = none
 
-abbrev pub unclampedLayer : UnclampedLayer → rule.UnclampedLayer
-unclampedLayer BeyondShallowest = beyondShallowest
-unclampedLayer (Concrete l) = concrete (layer l)
-unclampedLayer BeyondDeepest = beyondDeepest
-unclampedLayer Invalid = invalid
-
 -- ── what holds of the values that the crate makes ──
 
 -- one of layers 1 to n
@@ -84,11 +78,11 @@ abbrev pub Each : {A : Type 0} → (A → Type 0) → Option A → Type 0
 Each P (some a) = P a
 Each P none = Unit {0}
 
-abbrev pub ConcreteUpTo : ℕ → rule.UnclampedLayer → Type 0
-ConcreteUpTo n beyondShallowest = Unit {0}
-ConcreteUpTo n (concrete i) = LayerUpTo n i
-ConcreteUpTo n beyondDeepest = Unit {0}
-ConcreteUpTo n invalid = Unit {0}
+abbrev pub ConcreteUpTo : ℕ → UnclampedLayer → Type 0
+ConcreteUpTo n BeyondShallowest = Unit {0}
+ConcreteUpTo n (Concrete l) = LayerUpTo n (layer l)
+ConcreteUpTo n BeyondDeepest = Unit {0}
+ConcreteUpTo n Invalid = Unit {0}
 
 -- ── what functions compute that the rules do not name ──
 
@@ -116,21 +110,33 @@ isNegative (negsuc i) = true
 abbrev pub len : Range → ℕ
 len r = r .high - r .low + 1
 
--- the layer of an axis with n layers that is nearest to an end of a range
-abbrev pub nearest : ℕ → rule.UnclampedLayer → Option ℕ
-nearest n beyondShallowest = some 1
-nearest n (concrete i) = some i
-nearest n beyondDeepest = some n
-nearest n invalid = none
+-- an end of a range: the layer that it resolves to, or else the side that it lies beyond
+abbrev pub unclamped : Option ℕ → UnclampedLayer → UnclampedLayer
+unclamped (some i) other = Concrete (record { 0 = i })
+unclamped none other = other
 
-abbrev pub sameSide : rule.UnclampedLayer → rule.UnclampedLayer → Bool
-sameSide beyondShallowest beyondShallowest = true
-sameSide beyondShallowest (concrete j) = false
-sameSide beyondShallowest beyondDeepest = false
-sameSide beyondShallowest invalid = false
-sameSide (concrete i) b = false
-sameSide beyondDeepest beyondShallowest = false
-sameSide beyondDeepest (concrete j) = false
-sameSide beyondDeepest beyondDeepest = true
-sameSide beyondDeepest invalid = false
-sameSide invalid b = false
+abbrev pub resolveUnclamped : ℕ → Bool → ℤ → UnclampedLayer
+resolveUnclamped n neg i = unclamped (rule.resolve n neg i) (pick (isPositive i) BeyondDeepest (pick neg BeyondShallowest Invalid))
+
+-- the layer of an axis with n layers that is nearest to an end
+abbrev pub nearest : ℕ → UnclampedLayer → Option ℕ
+nearest n BeyondShallowest = some 1
+nearest n (Concrete l) = some (layer l)
+nearest n BeyondDeepest = some n
+nearest n Invalid = none
+
+abbrev pub sameSide : UnclampedLayer → UnclampedLayer → Bool
+sameSide BeyondShallowest BeyondShallowest = true
+sameSide BeyondShallowest (Concrete j) = false
+sameSide BeyondShallowest BeyondDeepest = false
+sameSide BeyondShallowest Invalid = false
+sameSide (Concrete i) b = false
+sameSide BeyondDeepest BeyondShallowest = false
+sameSide BeyondDeepest (Concrete j) = false
+sameSide BeyondDeepest BeyondDeepest = true
+sameSide BeyondDeepest Invalid = false
+sameSide Invalid b = false
+
+-- the range between two ends as the code goes about it; Laws.antt: for ends that were resolved it is the rule's `resolveRange`
+abbrev pub clampRange : ℕ → UnclampedLayer → UnclampedLayer → Option Range
+clampRange n a b = pick (sameSide a b) none (rangeBetween (nearest n a) (nearest n b))

@@ -52,8 +52,8 @@ impl AxisLayersInfo {
     pub fn resolve_unclamped(self, layer: SignedLayer) -> UnclampedLayer
         requires { ⌜ self .«max_layer» ≤ rule.MAX-LAYER ⌝ }
         requires { ⌜ meaning.IsSignedLayer layer ⌝ }
-        ensures { λ r. ⌜ meaning.unclampedLayer r ≡ rule.resolveUnclamped (self .«max_layer») (self .«allow_negatives») (meaning.signed layer) ⌝ }
-        ensures { λ r. ⌜ meaning.ConcreteUpTo (self .«max_layer») (meaning.unclampedLayer r) ⌝ }
+        ensures { λ r. ⌜ r ≡ meaning.resolveUnclamped (self .«max_layer») (self .«allow_negatives») (meaning.signed layer) ⌝ }
+        ensures { λ r. ⌜ meaning.ConcreteUpTo (self .«max_layer») r ⌝ }
     {
         match self.resolve(layer) {
             LayerOption::Some(i) => UnclampedLayer::Concrete(i),
@@ -94,8 +94,8 @@ impl AxisLayersInfo {
     // The layer of the axis that is nearest to an end; none for an invalid one.
     fn clamp(self, end: UnclampedLayer) -> LayerOption
         requires { ⌜ meaning.IsLayer (self .«max_layer») ⌝ }
-        requires { ⌜ meaning.ConcreteUpTo (self .«max_layer») (meaning.unclampedLayer end) ⌝ }
-        ensures { λ r. ⌜ meaning.layerOption r ≡ meaning.nearest (self .«max_layer») (meaning.unclampedLayer end) ⌝ }
+        requires { ⌜ meaning.ConcreteUpTo (self .«max_layer») end ⌝ }
+        ensures { λ r. ⌜ meaning.layerOption r ≡ meaning.nearest (self .«max_layer») end ⌝ }
         ensures { λ r. ⌜ meaning.Each (meaning.LayerUpTo (self .«max_layer»)) (meaning.layerOption r) ⌝ }
     {
         match end {
@@ -109,7 +109,7 @@ impl AxisLayersInfo {
 
 // Whether no layer of the axis lies between the two ends.
 fn beyond_same_side(a: UnclampedLayer, b: UnclampedLayer) -> bool
-    ensures { λ r. ⌜ r ≡ meaning.sameSide (meaning.unclampedLayer a) (meaning.unclampedLayer b) ⌝ }
+    ensures { λ r. ⌜ r ≡ meaning.sameSide a b ⌝ }
 {
     match a {
         UnclampedLayer::BeyondShallowest => match b {

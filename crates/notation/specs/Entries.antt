@@ -183,20 +183,17 @@ layerRanges text tree k n neg = do
 abbrev pub simplify : List ℕ → List ℕ → ℕ → ℕ → Bool → List Range → Lent Range
 simplify text tree k n neg buffer = lend (layerRanges text tree k n neg) buffer
 
--- the same in bytes: each range as low and high, 16 bits big-endian; the answer counts ranges
+-- the same in bytes: each range as low and high, 16 bits big-endian
 unfoldable pub rangeBytes : List Range → List ℕ
 rangeBytes [] = []
 rangeBytes (r ∷ l) = bigEndian 2 (r .low) ++ bigEndian 2 (r .high) ++ rangeBytes l
 
-abbrev pub lendRanges : Outcome (List Range) → List ℕ → Lent ℕ
-lendRanges (refusal r) buffer = kept r buffer
-lendRanges (result l) buffer =
-    pick (leb (4 * length l) (length buffer))
-    (record { answer = result (length l); buffer = rangeBytes l ++ drop (4 * length l) buffer })
-    (kept NO-ROOM buffer)
+-- the answer counts entries of w bytes
+abbrev pub inEntries : ℕ → Lent ℕ → Lent ℕ
+inEntries w l = record { answer = (do n ← l .answer; result (n / w)); buffer = l .buffer }
 
 abbrev pub simplifyBytes : List ℕ → List ℕ → ℕ → ℕ → Bool → List ℕ → Lent ℕ
-simplifyBytes text tree k n neg buffer = lendRanges (layerRanges text tree k n neg) buffer
+simplifyBytes text tree k n neg buffer = inEntries 4 (lend (do l ← layerRanges text tree k n neg; result (rangeBytes l)) buffer)
 
 abbrev pub familyOf : Head → Outcome Span
 familyOf (leafHead (move t l f c m)) = result f

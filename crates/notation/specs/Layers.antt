@@ -28,39 +28,32 @@ abbrev pub resolve : ℕ → Bool → ℤ → Option ℕ
 resolve n neg (pos i) = pick (leb i n) (some i) none
 resolve n neg (negsuc i) = pick (leb (suc i) n && neg) (some (n - i)) none
 
--- an end of a range in a set, before it is brought inside
-pub data UnclampedLayer : Type 0 where
-  beyondShallowest : UnclampedLayer
-  concrete : ℕ → UnclampedLayer
-  beyondDeepest : UnclampedLayer
-  invalid : UnclampedLayer
+-- an end of a range in a set: one too deep becomes `max_layer`, a negative one beyond the shallowest becomes 1, a forbidden negative gives none
+abbrev pub rangeEnd : ℕ → Bool → ℤ → Option ℕ
+rangeEnd n neg (pos i) = some (min i n)
+rangeEnd n neg (negsuc i) = pick neg (some (max 1 (n - i))) none
 
-abbrev pub unclamped : Option ℕ → UnclampedLayer → UnclampedLayer
-unclamped (some i) other = concrete i
-unclamped none other = other
+-- beyond the deepest layer
+abbrev pub tooDeep : ℕ → ℤ → Bool
+tooDeep n (pos i) = ltb n i
+tooDeep n (negsuc i) = false
 
-abbrev pub resolveUnclamped : ℕ → Bool → ℤ → UnclampedLayer
-resolveUnclamped n neg (pos i) = unclamped (resolve n neg (pos i)) beyondDeepest
-resolveUnclamped n neg (negsuc i) = unclamped (resolve n neg (negsuc i)) (pick neg beyondShallowest invalid)
+-- beyond the shallowest
+abbrev pub tooShallow : ℕ → ℤ → Bool
+tooShallow n (pos i) = false
+tooShallow n (negsuc i) = ltb n (suc i)
 
--- both ends beyond the same side, or an invalid end, gives none
-abbrev pub clampRange : ℕ → UnclampedLayer → UnclampedLayer → Option Range
-clampRange n invalid b = none
-clampRange n beyondShallowest invalid = none
-clampRange n beyondShallowest beyondShallowest = none
-clampRange n beyondShallowest (concrete b) = some (rangeOf 1 b)
-clampRange n beyondShallowest beyondDeepest = some (rangeOf 1 n)
-clampRange n (concrete a) invalid = none
-clampRange n (concrete a) beyondShallowest = some (rangeOf a 1)
-clampRange n (concrete a) (concrete b) = some (rangeOf a b)
-clampRange n (concrete a) beyondDeepest = some (rangeOf a n)
-clampRange n beyondDeepest invalid = none
-clampRange n beyondDeepest beyondShallowest = some (rangeOf n 1)
-clampRange n beyondDeepest (concrete b) = some (rangeOf n b)
-clampRange n beyondDeepest beyondDeepest = none
+-- the range between two layers, if there are two
+abbrev pub rangeBetween : Option ℕ → Option ℕ → Option Range
+rangeBetween none b = none
+rangeBetween (some a) none = none
+rangeBetween (some a) (some b) = some (rangeOf a b)
 
+-- both ends beyond the same side gives none
 abbrev pub resolveRange : ℕ → Bool → ℤ → ℤ → Option Range
-resolveRange n neg i j = clampRange n (resolveUnclamped n neg i) (resolveUnclamped n neg j)
+resolveRange n neg i j =
+    pick (tooDeep n i && tooDeep n j || tooShallow n i && tooShallow n j) none
+    (rangeBetween (rangeEnd n neg i) (rangeEnd n neg j))
 
 -- a range's low end above `max_layer` gives nothing, a high end above it becomes `max_layer`
 abbrev pub clampToLayerCount : ℕ → Range → Option Range

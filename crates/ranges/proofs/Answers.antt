@@ -7,22 +7,16 @@ use mathlib.Core.List.{List, [], _∷_, _++_, map, map-append}
 use lib.ListN.{length, drop, length-map, length-append}
 use borrow.Author.Tests.{le-leb, lt-leb}
 use Rattle.notation.specs.Refusals.{Outcome, refusal, result}
-use Rattle.notation.specs.Numbers.{digits}
 use Rattle.notation.specs.Layers.{Range}
-use Rattle.notation.specs.Entries.{Lent, outcome, layerRanges, rangeBytes, lendRanges, simplifyBytes}
+use Rattle.notation.specs.Entries.{Lent, outcome, layerRanges, rangeBytes, simplifyBytes}
 use Rattle.notation.specs.declared.answer.Answer.{Answer}
 use Rattle.notation.specs.declared.answer.Answer.the-variants.{Value, Refused}
 use Rattle.layer.specs.Meaning.{range}
 use Rattle.layer.specs.declared.range.LayerRange.{LayerRange}
+use Rattle.simplify.proofs.Answers.{length-rangeBytes, answered}
 use Rattle.ranges.specs.Lent.{rangesFrom, Resolved}
 use Rattle.ranges.proofs.Few.{few, refusal-result, result-result}
 use Rattle.ranges.proofs.Reading.{read-back}
-
--- four bytes for each range
-length-rangeBytes : (l : List Range) → length (rangeBytes l) ≡ 4 * length l
-unfolding rangeBytes digits
-length-rangeBytes [] = refl
-length-rangeBytes (r ∷ l) = omega (arith, length-rangeBytes l)
 
 map-drop : (f : LayerRange → Range) (k : ℕ) (zs : List LayerRange) → map f (drop k zs) ≡ drop k (map f zs)
 map-drop f zero zs = refl
@@ -38,17 +32,17 @@ module _ (text tree : List ℕ) (k n : ℕ) (neg : Bool) (room : ℕ) (bytes byt
       simplifyBytes text tree k n neg bytes ≡ record { answer = result (length l); buffer = rangeBytes l ++ drop (4 * length l) bytes }
   bytes-of l e =
       let f = few text tree k n neg l e in
-      rw (e, le-leb (4 * length l) (length bytes) (omega (arith, f .many, long)))
+      rw e (sym (answered l l refl bytes (length l) _ refl (omega (arith, f .many, long)) refl))
 
   module _ (r : Answer) (rule : Rule r) where
+    refused-by : (w : ℕ) → layerRanges text tree k n neg ≡ refusal w → outcome r ≡ refusal w
+    refused-by w q = ap (λ (x : Lent ℕ). x .answer) rule ∙ rw q
+
     pub resolved-refusal : (v : ℕ) → r ≡ Refused v → Resolved text tree k n neg room r bytes′
     resolved-refusal v is = go (layerRanges text tree k n neg) refl where
-      answered : (o : Outcome (List Range)) → layerRanges text tree k n neg ≡ o → refusal v ≡ lendRanges o bytes .answer
-      answered o q = sym (ap outcome is) ∙ ap (λ (x : Lent ℕ). x .answer) rule ∙ rw q
-
       go : (o : Outcome (List Range)) → layerRanges text tree k n neg ≡ o → Resolved text tree k n neg room r bytes′
       go (refusal w) q =
-          let f : refusal v ≡ refusal w = answered (refusal w) q in
+          let f : refusal v ≡ refusal w = sym (ap outcome is) ∙ refused-by w q in
           rw is (record { enough = omega arith; inside = omega arith; same = λ zs e. rw (q, f) })
       go (result l) q =
           absurd (refusal-result (sym (ap outcome is) ∙ ap (λ (x : Lent ℕ). x .answer) (rule ∙ bytes-of l q)))
@@ -61,10 +55,7 @@ module _ (text tree : List ℕ) (k n : ℕ) (neg : Bool) (room : ℕ) (bytes byt
           (result-result (sym (ap outcome is) ∙ ap (λ (x : Lent ℕ). x .answer) e), ap (λ (x : Lent ℕ). x .buffer) e)
 
       none : (w : ℕ) → layerRanges text tree k n neg ≡ refusal w → ⊥
-      none w q =
-          let e : lendRanges (layerRanges text tree k n neg) bytes .answer ≡ result m = sym (ap (λ (x : Lent ℕ). x .answer) rule) ∙ ap outcome is in
-          let f : _≡_ {A = Outcome ℕ} (refusal w) (result m) = rw q at e in
-          refusal-result f
+      none w q = refusal-result (sym (refused-by w q) ∙ ap outcome is)
 
       pub resolved-full : room < m → Resolved text tree k n neg room (Refused 5) bytes′
       resolved-full h = go (layerRanges text tree k n neg) refl where

@@ -4,20 +4,21 @@ use mathlib.Core.Path.{_≡_, refl, sym, ap, _∙_}
 use mathlib.Core.Bool.{Bool, true, false, _&&_}
 use mathlib.Core.List.{List, [], _∷_, _++_}
 use mathlib.Core.Option.{Option, none, some}
+use native.Mathlib.Nat.{mul-div-cancel-left}
 use native.Mathlib.Omega.{arith}
 use lib.Dec.{leb}
 use lib.ListN.{length, take, drop, replicate, length-replicate}
 use lib.Seq.{sets}
 use borrow.Author.Tests.{leb-true, le-leb, lt-leb}
 use Rattle.notation.specs.Basics.{every}
-use Rattle.notation.specs.Numbers.{bigEndian}
+use Rattle.notation.specs.Numbers.{bigEndian, digits}
 use Rattle.notation.specs.Layers.{Range, MAX-LAYER, insert, sort, joinFrom, join, simplified, setRanges, keep}
 use Rattle.notation.specs.Tree.{Layers, Span, partOf, singleLayer, layerRange, layerSet}
 use Rattle.notation.specs.Meaning.{layerSetIn, orEmpty}
 use Rattle.notation.specs.WellFormed.{isSome, inside, layersOk}
 use Rattle.notation.specs.Refusals.{result}
 use Rattle.notation.specs.Grammar.{layerSetElements}
-use Rattle.notation.specs.Entries.{rangeBytes, lendRanges}
+use Rattle.notation.specs.Entries.{lend, inEntries, rangeBytes}
 use Rattle.notation.specs.declared.answer.Answer.the-variants.{Value, Refused}
 use Rattle.layer.specs.Meaning.{IsLayer, IsRange}
 use Rattle.laws.proofs.Bools.{false-true, and-left, and-right}
@@ -33,13 +34,20 @@ use Rattle.simplify.proofs.ElementRanges.{set-ranges}
 
 -- ── a buffer with room, and one without ──
 
+-- four bytes for each range
+pub length-rangeBytes : (l : List Range) → length (rangeBytes l) ≡ 4 * length l
+unfolding rangeBytes digits
+length-rangeBytes [] = refl
+length-rangeBytes (r ∷ l) = omega (arith, length-rangeBytes l)
+
 module _ (l found : List Range) (same : found ≡ l) (out : List ℕ) where
   pub answered : (n : ℕ) (out′ : List ℕ) → n ≡ length found → 4 * length found ≤ length out → out′ ≡ rangeBytes found ++ drop (4 * length found) out →
-      lent (Value n) out′ ≡ lendRanges (result l) out
-  answered n out′ e room f = rw (← same, le-leb (4 * length found) (length out) room, e, f)
+      lent (Value n) out′ ≡ inEntries 4 (lend (result (rangeBytes l)) out)
+  answered n out′ e room f =
+      rw (← same, length-rangeBytes found, le-leb (4 * length found) (length out) room, mul-div-cancel-left (length found) {n = 4} (omega arith), e, f)
 
-  pub refused : length out < 4 * length found → lent (Refused 5) out ≡ lendRanges (result l) out
-  refused full = rw (← same, lt-leb (4 * length found) (length out) full)
+  pub refused : length out < 4 * length found → lent (Refused 5) out ≡ inEntries 4 (lend (result (rangeBytes l)) out)
+  refused full = rw (← same, length-rangeBytes found, lt-leb (4 * length found) (length out) full)
 
 -- ── at most one range ──
 

@@ -1,7 +1,7 @@
 -- The range of an element by the steps of the code. Assumes nothing.
-use Prim.Native.Nat.{ℕ, suc, _-_, _≤_}
+use Prim.Native.Nat.{ℕ, suc, _-_, _≤_, max}
 use mathlib.Core.Path.{_≡_, refl}
-use mathlib.Core.Bool.{Bool, true, false, _&&_}
+use mathlib.Core.Bool.{Bool, true, false, _&&_, _||_}
 use mathlib.Core.List.{List, [], _∷_}
 use mathlib.Core.Option.{Option, none, some}
 use native.Mathlib.Omega.{arith}
@@ -10,9 +10,10 @@ use lib.Dec.{leb}
 use borrow.Author.Tests.{leb-true}
 use Rattle.notation.specs.Basics.{pick, every}
 use Rattle.notation.specs.Layers as rule
-use Rattle.notation.specs.Layers.{LayerSetElement, single, range, Range, alone, keep, UnclampedLayer, beyondShallowest, concrete, beyondDeepest, invalid}
+use Rattle.notation.specs.Layers.{LayerSetElement, single, range, Range, alone, keep}
 use Rattle.numbers.specs.Sign.{isNegative}
-use Rattle.layer.specs.Meaning.{IsLayer, LayerUpTo, RangeUpTo, Each, ConcreteUpTo, withSign}
+use Rattle.layer.specs.Meaning.{IsLayer, LayerUpTo, RangeUpTo, Each, withSign}
+use Rattle.layer.proofs.Laws.{range-up-to}
 use Rattle.laws.proofs.Bools.{and-left, and-right}
 use Rattle.laws.proofs.InRange.{elementInRange}
 use Rattle.simplify.proofs.Table.{All, nothing, _and_}
@@ -51,41 +52,19 @@ module _ (n : ℕ) (neg : Bool) where
     go true false e = tt
     go false u e = tt
 
-  sided : (found : Option ℕ) (side : UnclampedLayer) → Each (LayerUpTo n) found → ConcreteUpTo n side → ConcreteUpTo n (rule.unclamped found side)
-  sided none side h g = g
-  sided (some i) side h g = h
-
-  unclamped : (i : ℤ) → IsLayer (natAbs i) → ConcreteUpTo n (rule.resolveUnclamped n neg i)
-  unclamped (pos i) h = sided (rule.resolve n neg (pos i)) beyondDeepest (resolved (pos i) h) tt
-  unclamped (negsuc i) h = sided (rule.resolve n neg (negsuc i)) (pick neg beyondShallowest invalid) (resolved (negsuc i) h) (side neg) where
-    side : (t : Bool) → ConcreteUpTo n (pick t beyondShallowest invalid)
-    side true = tt
-    side false = tt
-
-  between : (i j : ℕ) → LayerUpTo n i → LayerUpTo n j → RangeUpTo n (rule.rangeOf i j)
-  between i j p q = record { low = omega (arith, p .low, q .low); ordered = omega arith; high = omega (arith, p .high, q .high) }
-
   module _ (some-layers : 1 ≤ n) where
-    first-layer : LayerUpTo n 1
-    first-layer = record { low = omega arith; high = some-layers }
+    end-in : (i : ℤ) → IsLayer (natAbs i) → Each (LayerUpTo n) (rule.rangeEnd n neg i)
+    end-in (pos i) h = record { low = omega (arith, h .low); high = omega arith }
+    end-in (negsuc i) h = go neg where
+      go : (t : Bool) → Each (LayerUpTo n) (pick t (some (max 1 (n - i))) none)
+      go true = record { low = omega arith; high = omega arith }
+      go false = tt
 
-    last-layer : LayerUpTo n n
-    last-layer = record { low = some-layers; high = omega arith }
-
-    clamped : (a b : UnclampedLayer) → ConcreteUpTo n a → ConcreteUpTo n b → Each (RangeUpTo n) (rule.clampRange n a b)
-    clamped invalid b p q = tt
-    clamped beyondShallowest invalid p q = tt
-    clamped beyondShallowest beyondShallowest p q = tt
-    clamped beyondShallowest (concrete j) p q = between 1 j first-layer q
-    clamped beyondShallowest beyondDeepest p q = between 1 n first-layer last-layer
-    clamped (concrete i) invalid p q = tt
-    clamped (concrete i) beyondShallowest p q = between i 1 p first-layer
-    clamped (concrete i) (concrete j) p q = between i j p q
-    clamped (concrete i) beyondDeepest p q = between i n p last-layer
-    clamped beyondDeepest invalid p q = tt
-    clamped beyondDeepest beyondShallowest p q = between n 1 last-layer first-layer
-    clamped beyondDeepest (concrete j) p q = between n j last-layer q
-    clamped beyondDeepest beyondDeepest p q = tt
+    range-in : (t : Bool) (a b : Option ℕ) → Each (LayerUpTo n) a → Each (LayerUpTo n) b → Each (RangeUpTo n) (pick t none (rule.rangeBetween a b))
+    range-in true a b p q = tt
+    range-in false none b p q = tt
+    range-in false (some i) none p q = tt
+    range-in false (some i) (some j) p q = range-up-to n i j p q
 
     itself : (found : Option ℕ) → Each (LayerUpTo n) found → Each (RangeUpTo n) (alone found)
     itself none h = tt
@@ -93,7 +72,9 @@ module _ (n : ℕ) (neg : Bool) where
 
     element-range : (e : LayerSetElement) → IsElement e → Each (RangeUpTo n) (rule.elementRange n neg e)
     element-range (single i) h = itself (rule.resolve n neg i) (resolved i h)
-    element-range (range i j) h = clamped (rule.resolveUnclamped n neg i) (rule.resolveUnclamped n neg j) (unclamped i (h .0)) (unclamped j (h .1))
+    element-range (range i j) h =
+        range-in (rule.tooDeep n i && rule.tooDeep n j || rule.tooShallow n i && rule.tooShallow n j) (rule.rangeEnd n neg i) (rule.rangeEnd n neg j)
+        (end-in i (h .0)) (end-in j (h .1))
 
     pub set-ranges : (l : List LayerSetElement) → every elementInRange l ≡ true → All (RangeUpTo n) (rule.setRanges n neg l)
     unfolding rule.setRanges every

@@ -7,7 +7,7 @@ use mathlib.Core.Option.{Option, none, some}
 use lib.IntN.{natAbs}
 use Rattle.notation.specs.Layers.{Range, LayerSetElement, single, range, elementRange, setRanges, simplified}
 use Rattle.notation.specs.Refusals.{result}
-use Rattle.notation.specs.Entries.{Lent, outcome, lendRanges}
+use Rattle.notation.specs.Entries.{Lent, outcome, lend, inEntries, rangeBytes}
 use Rattle.notation.specs.declared.answer.Answer.{Answer}
 use Rattle.layer.specs.Meaning.{IsLayer}
 use Rattle.simplify.specs.Reach.{marked, markedAll}
@@ -33,6 +33,6 @@ markedSet n neg es reach = markedAll (setRanges n neg es) reach
 abbrev pub lent : Answer → List ℕ → Lent ℕ
 lent answer buffer = record { answer = outcome answer; buffer = buffer }
 
--- the answer for some ranges: simplified, and lent as bytes
+-- the answer for some ranges: simplified, and lent as entries of four bytes
 abbrev pub Gives : List Range → Answer → List ℕ → List ℕ → Type 0
-Gives l answer after before = lent answer after ≡ lendRanges (result (simplified l)) before
+Gives l answer after before = lent answer after ≡ inEntries 4 (lend (result (rangeBytes (simplified l))) before)

@@ -10,8 +10,7 @@ ghost use Rattle.notation.specs.Layers as rule;
 ghost use Rattle.notation.specs.Grammar.{padded, just};
 ghost use Rattle.notation.specs.Meaning.{layerSetIn, orEmpty};
 ghost use Rattle.notation.specs.WellFormed.{isSome, layersOk};
-ghost use Rattle.notation.specs.Refusals.{result};
-ghost use Rattle.notation.specs.Entries.{lendRanges, rangesIn};
+ghost use Rattle.notation.specs.Entries.{rangesIn};
 ghost use Rattle.layer.specs.Meaning as meaning;
 ghost use Rattle.record.specs.Meaning as record′;
 ghost use Rattle.parse.specs.Meaning.{layerSetElementOf, told};
@@ -188,7 +187,7 @@ pub fn simplify(
     requires { ⌜ meaning.IsLayer «max_layer» ⌝ }
     requires { ⌜ length (now text) ≤ 65535 ⌝ }
     requires { ⌜ layersOk (now text) (record′.layers layers) ≡ true ⌝ }
-    ensures { λ r. ⌜ elements.lent r (now (out .exit)) ≡ lendRanges (result (rule.simplified (rangesIn (now (text .entry)) «max_layer» «allow_negatives» (record′.layers layers)))) (now (out .entry)) ⌝ }
+    ensures { λ r. ⌜ elements.Gives (rangesIn (now (text .entry)) «max_layer» «allow_negatives» (record′.layers layers)) r (now (out .exit)) (now (out .entry)) ⌝ }
 {
     match layers {
         LayerPrefixContents::None => simplify_range(1, 1, max_layer, out),

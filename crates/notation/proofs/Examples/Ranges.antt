@@ -20,8 +20,10 @@ prefixes : map (rangesAt 0 5 true) ("R" ∷ "~R" ∷ "5R" ∷ "6R" ∷ "4-9R" �
 unfolding opened
 prefixes = refl
 
-ends : (map (rangesAt 0 5 true) ("{-9..2}R" ∷ "{-9..-6}R" ∷ "{9..-9}R" ∷ "{2..-2}R" ∷ "{-1..-3}R" ∷ "{7..6}R" ∷ []) ≡ map result ((from 1 2 ∷ []) ∷ [] ∷ (from 1 5 ∷ []) ∷ (from 2 4 ∷ []) ∷ (from 3 5 ∷ []) ∷ [] ∷ []))
-    × (map (rangesAt 0 5 false) ("{-1}R" ∷ "{-1..2}R" ∷ "{2..-9}R" ∷ "{9..2}R" ∷ []) ≡ map result ([] ∷ [] ∷ [] ∷ (from 2 5 ∷ []) ∷ []))
+-- each end beyond the shallowest, inside or beyond the deepest; then with a forbidden negative
+ends : (map (rangesAt 0 5 true) ("{-9..-6}R" ∷ "{-9..2}R" ∷ "{-9..9}R" ∷ "{2..-9}R" ∷ "{2..-2}R" ∷ "{-1..-3}R" ∷ "{2..9}R" ∷ "{9..-9}R" ∷ "{9..2}R" ∷ "{7..6}R" ∷ [])
+        ≡ map result ([] ∷ (from 1 2 ∷ []) ∷ (from 1 5 ∷ []) ∷ (from 1 2 ∷ []) ∷ (from 2 4 ∷ []) ∷ (from 3 5 ∷ []) ∷ (from 2 5 ∷ []) ∷ (from 1 5 ∷ []) ∷ (from 2 5 ∷ []) ∷ [] ∷ []))
+    × (map (rangesAt 0 5 false) ("{-1}R" ∷ "{-1..2}R" ∷ "{-9..9}R" ∷ "{-9..-6}R" ∷ "{2..-1}R" ∷ "{2..-9}R" ∷ "{9..-1}R" ∷ "{9..2}R" ∷ []) ≡ map result ([] ∷ [] ∷ [] ∷ [] ∷ [] ∷ [] ∷ [] ∷ (from 2 5 ∷ []) ∷ []))
 unfolding opened
 ends = (refl, refl)
 

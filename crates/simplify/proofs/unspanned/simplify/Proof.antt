@@ -4,11 +4,11 @@ use Prim.Native.Nat.{ℕ, _+_, _-_}
 use mathlib.Core.Path.{_≡_, sym, ap, _∙_}
 use mathlib.Core.List.{List}
 use lib.ListN.{take, drop}
-use Rattle.notation.specs.Layers.{simplified, setRanges}
+use Rattle.notation.specs.Layers.{Range, simplified, setRanges}
 use Rattle.notation.specs.Tree.{Layers, Span, noLayers, layerSet}
 use Rattle.notation.specs.Meaning.{layerSetIn, orEmpty}
 use Rattle.notation.specs.Refusals.{result}
-use Rattle.notation.specs.Entries.{Lent, lendRanges, rangesIn}
+use Rattle.notation.specs.Entries.{Lent, lend, inEntries, rangeBytes, rangesIn}
 use Rattle.record.specs.Meaning.{layers}
 use Rattle.simplify.proofs.Answers.{single-real, range-real, part-inside, part-is, part-read}
 use Rattle.simplify.proofs.unspanned.simplify.Statement.{statement}
@@ -66,24 +66,23 @@ simplify-set-of-many-requires c κs =
 same-length : tie.Need-same-length
 same-length c = search needs
 
--- the answer for the layers as the `match` names them
+-- the answer for some ranges, and for the layers as the `match` names them
+abbrev lent-for : tie.Start → List Range → Lent ℕ
+lent-for s l = inEntries 4 (lend (result (rangeBytes (simplified l))) (s .args .out .now))
+
 abbrev answer : tie.Start → Layers Span → Lent ℕ
-answer s l = lendRanges (result (simplified (rangesIn (s .args .text .now) (s .args .max-layer) (s .args .allow-negatives) l))) (s .args .out .now)
+answer s l = lent-for s (rangesIn (s .args .text .now) (s .args .max-layer) (s .args .allow-negatives) l)
 
 named : (s : tie.Start) {l : Layers Span} → layers (s .args .layers) ≡ l → answer s l ≡ answer s (layers (s .args .layers))
 named s e = ap (answer s) (sym e)
 
 of-set : (s : tie.Start) (p : Span) → layers (s .args .layers) ≡ layerSet p →
-    lendRanges
-    (result
-    (simplified
+    lent-for s
     (setRanges (s .args .max-layer) (s .args .allow-negatives)
-    (orEmpty (layerSetIn (take (p .offset + p .size - p .offset) (drop (p .offset) (s .args .text .now))))))))
-    (s .args .out .now)
+    (orEmpty (layerSetIn (take (p .offset + p .size - p .offset) (drop (p .offset) (s .args .text .now))))))
     ≡ answer s (layers (s .args .layers))
 of-set s p e =
-    ap
-    (λ (part : List ℕ). lendRanges (result (simplified (setRanges (s .args .max-layer) (s .args .allow-negatives) (orEmpty (layerSetIn part))))) (s .args .out .now))
+    ap (λ (part : List ℕ). lent-for s (setRanges (s .args .max-layer) (s .args .allow-negatives) (orEmpty (layerSetIn part))))
     (part-is (s .args .text .now) p e (s .pre .1 .1))
     ∙ named s e
 

@@ -1,5 +1,5 @@
 -- `layer::count::AxisLayersInfo::resolve_range` meets its contract:
--- `clampRange` goes by the side and the nearest layers of the two ends, as the code does.
+-- the rule's range by the side of the two ends and the layers nearest to them, as the code goes about it.
 use Prim.Native.Nat.{ℕ}
 use mathlib.Core.Path.{_≡_, refl, sym, _∙_, ap}
 use mathlib.Core.Bool.{Bool}
@@ -8,25 +8,26 @@ use native.Mathlib.Omega.{arith}
 use borrow.Author.Needs.{needs}
 use Rattle.notation.specs.Basics.{pick}
 use Rattle.notation.specs.Layers as rule
+use Rattle.notation.specs.Layers.{rangeBetween}
 use Rattle.layer.specs.Meaning as meaning
 use Rattle.layer.specs.Meaning.{layer, LayerUpTo}
-use Rattle.layer.proofs.Laws.{rangeBetween, clamp-range-is, range-up-to}
+use Rattle.layer.proofs.Laws.{clamp-range-is, range-up-to}
 use Rattle.layer.proofs.count.AxisLayersInfo.resolve_range.Statement.{statement}
 use Rattle.layer.proofs.count.AxisLayersInfo.resolve_range.Tie as tie
 
 abbrev start : tie.After-beyond-same-side → tie.Start
 start c = c .before .before .before
 
--- `clampRange` by the side of the two ends and the layers nearest to them
 by-steps : (c : tie.After-beyond-same-side) {same : Bool} {p q : Option ℕ} →
     c .beyond-same-side .result ≡ same →
-    p ≡ meaning.nearest (start c .args .self .«max_layer») (meaning.unclampedLayer (c .before .before .resolve-unclamped .result)) →
-    q ≡ meaning.nearest (start c .args .self .«max_layer») (meaning.unclampedLayer (c .before .resolve-unclamped2 .result)) →
+    p ≡ meaning.nearest (start c .args .self .«max_layer») (c .before .before .resolve-unclamped .result) →
+    q ≡ meaning.nearest (start c .args .self .«max_layer») (c .before .resolve-unclamped2 .result) →
     pick same none (rangeBetween p q)
     ≡ rule.resolveRange (start c .args .self .«max_layer») (start c .args .self .«allow_negatives»)
     (meaning.signed (start c .args .a)) (meaning.signed (start c .args .b))
 by-steps c es =
-    clamp-range-is (start c .args .self .«max_layer») (c .before .before .resolve-unclamped .ensures .0)
+    clamp-range-is (start c .args .self .«max_layer») (start c .args .self .«allow_negatives») (meaning.signed (start c .args .a)) (meaning.signed (start c .args .b))
+    (c .before .before .resolve-unclamped .ensures .0)
     (c .before .resolve-unclamped2 .ensures .0) (sym es ∙ c .beyond-same-side .ensures)
 
 resolve-unclamped-requires : tie.Need-resolve-unclamped-requires

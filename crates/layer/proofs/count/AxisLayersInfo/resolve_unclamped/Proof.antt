@@ -2,12 +2,10 @@
 -- by what `resolve` finds, and where it finds none by the sign.
 use mathlib.Core.Path.{_≡_, refl, sym, _∙_}
 use mathlib.Core.Bool.{Bool}
-use mathlib.Core.Option.{none}
 use borrow.Author.Needs.{needs}
 use Rattle.notation.specs.Basics.{pick}
-use Rattle.notation.specs.Layers as rule
-use Rattle.layer.specs.Meaning.{signed}
-use Rattle.layer.proofs.Laws.{unclamped-is}
+use Rattle.layer.specs.Meaning.{signed, resolveUnclamped}
+use Rattle.layer.specs.declared.count.UnclampedLayer.the-variants.{BeyondShallowest, BeyondDeepest, Invalid}
 use Rattle.layer.proofs.count.AxisLayersInfo.resolve_unclamped.Statement.{statement}
 use Rattle.layer.proofs.count.AxisLayersInfo.resolve_unclamped.Tie as tie
 
@@ -18,13 +16,10 @@ start c = c .before .before .before .before
 beyond : (c : tie.After-is-positive) {positive allowed : Bool} →
     c .is-positive .result ≡ positive →
     start c .args .self .«allow_negatives» ≡ allowed →
-    pick positive rule.beyondDeepest (pick allowed rule.beyondShallowest rule.invalid)
-    ≡ rule.resolveUnclamped (start c .args .self .«max_layer») (start c .args .self .«allow_negatives»)
-    (signed (start c .args .layer))
+    pick positive BeyondDeepest (pick allowed BeyondShallowest Invalid)
+    ≡ resolveUnclamped (start c .args .self .«max_layer») (start c .args .self .«allow_negatives») (signed (start c .args .layer))
 beyond c ep ea =
-    unclamped-is (start c .args .layer) (start c .pre .1) (start c .args .self) none _
-    (rw (c .before .enum-told .given .1) at (c .before .before .before .resolve .ensures .0))
-    (rw (sym ep ∙ c .is-positive .ensures, sym ea))
+    rw (← rw (c .before .enum-told .given .1) at (c .before .before .before .resolve .ensures .0), sym ep ∙ c .is-positive .ensures, sym ea)
 
 resolve-requires : tie.Need-resolve-requires
 resolve-requires c κs = search needs
@@ -40,10 +35,9 @@ is-positive-requires c κs = search needs
 
 returns : tie.Need-returns
 returns c =
-    let s : tie.Start = c .before .before .before .before in
     let found = c .before .i .given .1 in
     let ensures = c .before .before .before .resolve .ensures in
-    (unclamped-is (s .args .layer) (s .pre .1) (s .args .self) _ _ (rw found at (ensures .0)) refl, rw found at (ensures .1))
+    (rw (← rw found at (ensures .0)), rw found at (ensures .1))
 
 returns-2 : tie.Need-returns-2
 returns-2 c = (beyond (c .before) (c .if1 .taken) refl, tt)
