@@ -8,14 +8,14 @@ use lib.Seq.{drop-length}
 use Rattle.notation.specs.Refusals.{Outcome, refusal, result, NO-ROOM}
 use Rattle.notation.specs.Packed.{unpack}
 use Rattle.notation.specs.Print.{printed}
-use Rattle.notation.specs.Entries.{Lent, checked, display, displayEntry}
+use Rattle.notation.specs.Entries.{Lent, display, displayEntry}
 use Rattle.display.specs.Written.{MOST}
-use Rattle.hypuz_notation.specs.Sound.{Sound}
-use Rattle.hypuz_notation.proofs.Outcomes.{lend-refused, lend-short, lend-fits}
+use Rattle.sound.specs.Sound.{Sound}
+use Rattle.sound.proofs.Outcomes.{Checks, refused, lend-handed, lend-short, lend-fits}
 
 module _ (text tree buffer : List ℕ) where
-  pub display-unsound : (r : ℕ) → checked text tree ≡ refusal r → record { answer = refusal r; buffer = buffer } ≡ displayEntry text tree buffer
-  display-unsound r c = lend-refused (display text tree) buffer r (rw c)
+  pub display-unsound : {a : Outcome ℕ} {r : ℕ} → Checks text tree a → a ≡ refusal r → record { answer = a; buffer = buffer } ≡ displayEntry text tree buffer
+  display-unsound c q = lend-handed (display text tree) buffer q (rw (refused c q))
 
   module _ (sound : Sound text tree) (size : ℕ) (counts : size ≡ min (length (printed text (unpack tree))) MOST) where
     given : display text tree ≡ result (printed text (unpack tree))

@@ -24,9 +24,9 @@ use Rattle.laws.proofs.Packing.{length-pack}
 use Rattle.laws.proofs.WellFormedInverses.{inverted-size, deeply-size}
 use Rattle.laws.proofs.Walking.{Packed}
 use Rattle.invert.specs.Nodes.{over}
-use Rattle.hypuz_notation.specs.Sound.{Sound}
-use Rattle.hypuz_notation.specs.Inverses.{refusing, written, ruled}
-use Rattle.hypuz_notation.proofs.Outcomes.{lend-refused, lend-short, lend-fits}
+use Rattle.sound.specs.Sound.{Sound}
+use Rattle.entries.specs.Inverses.{refusing, written, ruled}
+use Rattle.sound.proofs.Outcomes.{Checks, refused, lend-refused, lend-handed, lend-short, lend-fits}
 
 -- No refusal has the number 0, so 0 can stand for none.
 pub data Numbered : Option ℕ → Type 0 where
@@ -115,8 +115,8 @@ inverting deep text tree =
 
 -- The ways out of an inverse.
 module _ {text tree : List ℕ} {o : Outcome (List ℕ)} {refuses : Option ℕ} {bytes : List ℕ} (i : Inverting text tree o refuses bytes) (buffer : List ℕ) where
-  pub inverse-unsound : (r : ℕ) → checked text tree ≡ refusal r → record { answer = refusal r; buffer = buffer } ≡ lend o buffer
-  inverse-unsound r c = lend-refused o buffer r (i .passes r c)
+  pub inverse-unsound : {a : Outcome ℕ} {r : ℕ} → Checks text tree a → a ≡ refusal r → record { answer = a; buffer = buffer } ≡ lend o buffer
+  inverse-unsound {a} {r} c q = lend-handed o buffer q (i .passes r (refused c q))
 
   pub inverse-refused : Sound text tree → (r : ℕ) → r ≡ over refuses 0 → (r ≡ 0 → ⊥) → record { answer = refusal r; buffer = buffer } ≡ lend o buffer
   inverse-refused s r e h = lend-refused o buffer r (i .is (s .is) ∙ go refuses e)

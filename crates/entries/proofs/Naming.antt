@@ -15,13 +15,14 @@ use Rattle.notation.specs.Tree.{Span, Layers, partOf}
 use Rattle.notation.specs.Packed.{RECORD, Head, headAt, familyAt}
 use Rattle.notation.specs.WellFormed.{inside, familyOk, layersOk, constraintsOk, multiplierOk, leafOk}
 use Rattle.notation.specs.Entries.{
-  Lent, checked, refusalNumber, recordAt, layersOf, rangesIn, layerRanges, lendRanges, simplifyBytes, familyOf, familySpan, partIn, family, familyRefusal
+  Lent, refusalNumber, recordAt, layersOf, rangesIn, layerRanges, lendRanges, simplifyBytes, familyOf, familySpan, partIn, family, familyRefusal
 }
 use Rattle.record.specs.Meaning.{field, layersAt, moveAt}
 use Rattle.record.proofs.Packed.{by-kind, headAt-kind}
 use Rattle.laws.proofs.Bools.{and-left, and-right}
-use Rattle.hypuz_notation.specs.Sound.{Sound}
-use Rattle.hypuz_notation.proofs.Records.{HeadOk, record-ok}
+use Rattle.sound.specs.Sound.{Sound}
+use Rattle.sound.proofs.Outcomes.{Checks, refused}
+use Rattle.sound.proofs.Records.{HeadOk, record-ok}
 
 -- What a record names, by its kind: 6 is a rotation, 7 a move.
 module _ (bs : List ℕ) (k : ℕ) (e : k ≡ field 0 bs / 16) where
@@ -80,9 +81,9 @@ abbrev pub found : List ℕ → ℕ → List ℕ
 found tree k = take (length tree - RECORD * k) (drop (RECORD * k) tree)
 
 module _ (text tree : List ℕ) (k : ℕ) where
-  pub family-unsound : (r : ℕ) → checked text tree ≡ refusal r → refusal r ≡ familySpan text tree k
+  pub family-unsound : {a : Outcome ℕ} {r : ℕ} → Checks text tree a → a ≡ refusal r → refusal r ≡ familySpan text tree k
   unfolding familySpan
-  family-unsound r c = rw c
+  family-unsound c q = rw (refused c q)
 
   module _ (s : Sound text tree) where
     pub family-none : length tree / RECORD ≤ k → refusal NO-SUCH-RECORD ≡ familySpan text tree k
@@ -119,9 +120,10 @@ module _ (text tree : List ℕ) (k n : ℕ) (neg : Bool) (buffer : List ℕ) whe
   abbrev Refused : ℕ → Type 0
   Refused r = record { answer = refusal r; buffer = buffer } ≡ simplifyBytes text tree k n neg buffer
 
-  pub simplify-unsound : (r : ℕ) → checked text tree ≡ refusal r → Refused r
+  pub simplify-unsound : {a : Outcome ℕ} {r : ℕ} → Checks text tree a → a ≡ refusal r →
+      record { answer = a; buffer = buffer } ≡ simplifyBytes text tree k n neg buffer
   unfolding layerRanges
-  simplify-unsound r c = rw c
+  simplify-unsound c q = rw (q, refused c q)
 
   module _ (s : Sound text tree) where
     pub simplify-no-layers : n ≡ 0 → Refused NO-SUCH-LAYER-COUNT

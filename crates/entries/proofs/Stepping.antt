@@ -12,7 +12,7 @@ use Rattle.notation.specs.Tree.{Leaf, Tree}
 use Rattle.notation.specs.Packed.{RECORD, leafHead, leafRecord, unpack}
 use Rattle.notation.specs.Invert.{undo}
 use Rattle.notation.specs.Unroll.{flatten}
-use Rattle.notation.specs.Entries.{Lent, lend, checked, steps, records, unrolled, flattenEntry, countSteps, stepAt, seekStep, refusalNumber, value, MAX-STEPS}
+use Rattle.notation.specs.Entries.{Lent, lend, steps, records, unrolled, flattenEntry, countSteps, stepAt, seekStep, refusalNumber, value, MAX-STEPS}
 use Rattle.record.proofs.RoundTrip.{length-record25}
 use Rattle.laws.proofs.Unrolling.{flat, firstRefusal, flatten-is}
 use Rattle.laws.proofs.Counting.{count, count-is, visit, visit-is}
@@ -22,20 +22,20 @@ use Rattle.expand.specs.Meaning.{told, summary}
 use Rattle.expand.specs.Places.{found}
 use Rattle.expand.specs.Steps.{Wrote}
 use Rattle.expand.proofs.Steps.{length-records}
-use Rattle.hypuz_notation.specs.Sound.{Sound, Counted}
-use Rattle.hypuz_notation.proofs.Outcomes.{lend-refused, lend-short, lend-fits}
+use Rattle.sound.specs.Sound.{Sound, Counted}
+use Rattle.sound.proofs.Outcomes.{Checks, no-result, refused, lend-refused, lend-handed, lend-short, lend-fits}
 
 -- What `count_steps` promises of its answer.
 pub record Counts (text tree : List ℕ) (o : Outcome ℕ) : Type 0 where
   pub answer : o ≡ countSteps text tree
   pub counted : (n : ℕ) → o ≡ result n → Counted text tree n
 
-refuses : (text tree : List ℕ) (r : ℕ) → steps text tree ≡ refusal r → Counts text tree (refusal r)
-refuses text tree r e = record { answer = rw e; counted = λ n q. absurd (let z : _≡_ {A = ℕ} 0 1 = cc in omega arith) }
+refuses : (text tree : List ℕ) {o : Outcome ℕ} (r : ℕ) → o ≡ refusal r → steps text tree ≡ refusal r → Counts text tree o
+refuses text tree r q e = record { answer = rw (q, e); counted = λ n p. no-result (sym q ∙ p) }
 
-pub count-unsound : (text tree : List ℕ) (r : ℕ) → checked text tree ≡ refusal r → Counts text tree (refusal r)
+pub count-unsound : {text tree : List ℕ} {o : Outcome ℕ} {r : ℕ} → Checks text tree o → o ≡ refusal r → Counts text tree o
 unfolding steps
-count-unsound text tree r c = refuses text tree r (rw c)
+count-unsound {text} {tree} {o} {r} c q = refuses text tree r q (rw (refused c q))
 
 module _ (text tree : List ℕ) (sound : Sound text tree) (s : Summary) (e : summary s ≡ visit (unpack tree)) where
   met : told (s .forward) ≡ firstRefusal false (unpack tree)
@@ -56,12 +56,12 @@ module _ (text tree : List ℕ) (sound : Sound text tree) (s : Summary) (e : sum
 
   pub count-refused : (s .forward ≡ 0 → ⊥) → Counts text tree (refusal (s .forward))
   unfolding steps
-  count-refused h = refuses text tree (s .forward) (rw (sound .is, flatten-is (unpack tree) false, met-some h))
+  count-refused h = refuses text tree (s .forward) refl (rw (sound .is, flatten-is (unpack tree) false, met-some h))
 
   pub count-many : s .forward ≡ 0 → MAX-STEPS < s .steps → Counts text tree (refusal TOO-MANY-STEPS)
   unfolding steps
   count-many z h =
-      refuses text tree TOO-MANY-STEPS
+      refuses text tree TOO-MANY-STEPS refl
       (rw (sound .is, flatten-is (unpack tree) false, unmet z, count-is (unpack tree) false, lt-leb (count (unpack tree)) MAX-STEPS (omega (arith, held))))
 
   pub count-done : s .forward ≡ 0 → s .steps ≤ MAX-STEPS → Counts text tree (result (s .steps))
@@ -84,14 +84,14 @@ module _ (text tree : List ℕ) (o : Outcome ℕ) (e : o ≡ countSteps text tre
           let z : refusal k ≡ o = rw p at (sym e) in
           p ∙ ap refusal (ap refusalNumber (z ∙ q))
       go (result l) p =
-          let z : result (length l) ≡ refusal r = (rw p at (sym e)) ∙ q in
-          absurd (let y : _≡_ {A = ℕ} 0 1 = cc in omega arith)
+          let z : result (length l) ≡ o = rw p at (sym e) in
+          no-result (sym q ∙ sym z)
 
   pub flatten-refused : record { answer = o; buffer = buffer } ≡ flattenEntry text tree buffer
-  flatten-refused = rw q (lend-refused (unrolled text tree) buffer r (rw refused-steps))
+  flatten-refused = lend-handed (unrolled text tree) buffer q (rw refused-steps)
 
   pub seek-refused : (k : ℕ) → record { answer = o; buffer = buffer } ≡ seekStep text tree k buffer
-  seek-refused k = rw q (lend-refused (stepAt text tree k) buffer r (rw refused-steps))
+  seek-refused k = lend-handed (stepAt text tree k) buffer q (rw refused-steps)
 
 -- Where it is not, the steps are those of the tree.
 past : (l : List Leaf) (k : ℕ) → length l ≤ k → getElem? l k ≡ none

@@ -7,8 +7,8 @@ use Rattle.notation.specs.Refusals.{Outcome, refusal, result}
 use Rattle.notation.specs.Tree as tree
 use Rattle.notation.specs.WellFormed.{inside}
 use Rattle.record.specs.Meaning.{span}
-use Rattle.hypuz_notation.specs.declared.parts.PartAnswer.{PartAnswer}
-use Rattle.hypuz_notation.specs.declared.parts.PartAnswer.the-variants.{Part, Refused}
+use Rattle.entries.specs.declared.parts.PartAnswer.{PartAnswer}
+use Rattle.entries.specs.declared.parts.PartAnswer.the-variants.{Part, Refused}
 
 abbrev pub partOutcome : PartAnswer → Outcome tree.Span
 partOutcome (Part p) = result (span p)

@@ -5,10 +5,10 @@ ghost use Rattle.notation.specs.Entries as rule;
 ghost use lib.ListN.{length};
 ghost use Rattle.laws.proofs.Walking.{Packed};
 ghost use Rattle.invert.specs.Nodes.{over};
-ghost use Rattle.hypuz_notation.specs.Inverses.{refusing, written, ruled};
-use crate::check::NO_ROOM;
-use crate::check::check;
+ghost use Rattle.entries.specs.Inverses.{refusing, written, ruled};
 use notation::answer::Answer;
+use sound::NO_ROOM;
+use sound::check;
 
 // The inverse whose groups are kept as they are: refusals 1, 2, 6, 8, 5.
 pub fn inv(text: &[u8], tree: &[u8], out: &mut [u8]) -> Answer
@@ -27,10 +27,10 @@ pub fn inv_deep(text: &[u8], tree: &[u8], out: &mut [u8]) -> Answer
 fn invert(text: &[u8], tree: &[u8], deep: bool, out: &mut [u8]) -> Answer
     ensures { λ r. ⌜ record { answer = rule.outcome r; buffer = now (out .exit) } ≡ rule.lend (ruled deep (now (text .entry)) (now (tree .entry))) (now (out .entry)) ⌝ }
 {
-    let unsound = check(text, tree);
-    if unsound != 0 {
-        return Answer::Refused(unsound);
-    }
+    let checked = check(text, tree);
+    let Answer::Value(_) = checked else {
+        return checked;
+    };
     let met = refusal(tree, deep);
     if met != 0 {
         return Answer::Refused(met);

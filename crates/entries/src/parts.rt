@@ -1,11 +1,12 @@
 // What one record of a tree names: the layers that a move turns, and a family's part of the text.
 ghost use mathlib.Core.Path.{_≡_};
 ghost use mathlib.Core.Bool.{true};
+ghost use Prim.Native.Nat.{ℕ};
+ghost use Rattle.notation.specs.Refusals.{refusal};
 ghost use Rattle.notation.specs.Entries as rule;
 ghost use Rattle.notation.specs.WellFormed.{inside};
 ghost use Rattle.record.specs.Meaning as means;
-ghost use Rattle.hypuz_notation.specs.Parts.{partOutcome, Inside};
-use crate::check::check;
+ghost use Rattle.entries.specs.Parts.{partOutcome, Inside};
 use notation::answer::Answer;
 use record::RECORD;
 use record::decode::family_of;
@@ -13,6 +14,7 @@ use record::decode::layers;
 use record::fields;
 use record::kinds;
 use record::spanned::Span;
+use sound::check;
 
 const MAX_LAYER: u32 = 32767;
 
@@ -38,17 +40,17 @@ pub fn simplify(
 ) -> Answer
     ensures { λ r. ⌜ record { answer = rule.outcome r; buffer = now (out .exit) } ≡ rule.simplifyBytes (now (text .entry)) (now (tree .entry)) «record» «max_layer» «allow_negatives» (now (out .entry)) ⌝ }
 {
-    let unsound = check(text, tree);
-    if unsound != 0 {
-        return Answer::Refused(unsound);
-    }
+    let checked = check(text, tree);
+    let Answer::Value(records) = checked else {
+        return checked;
+    };
     if max_layer == 0 {
         return Answer::Refused(NO_SUCH_LAYER_COUNT);
     }
     if MAX_LAYER < max_layer {
         return Answer::Refused(NO_SUCH_LAYER_COUNT);
     }
-    if (tree.len() / RECORD) as u64 <= record {
+    if records <= record {
         return Answer::Refused(NO_SUCH_RECORD);
     }
     let from = RECORD * (record as usize);
@@ -60,16 +62,26 @@ pub fn simplify(
     simplify::simplify(text, layers, max_layer as u16, allow_negatives, out)
 }
 
+// A refusal that `check` answers, as the refusal of a part.
+fn no_part(answer: Answer) -> PartAnswer
+    ensures { λ r. ⌜ ((n : ℕ) → rule.outcome answer ≡ refusal n → r ≡ PartAnswer.Refused n) ⌝ }
+{
+    match answer {
+        Answer::Value(_) => PartAnswer::Refused(NO_SUCH_RECORD),
+        Answer::Refused(number) => PartAnswer::Refused(number),
+    }
+}
+
 // Where the family of a record stands in the text: refusals 1, 2, 6, 12.
 pub fn family_part(text: &[u8], tree: &[u8], record: u64) -> PartAnswer
     ensures { λ r. ⌜ partOutcome r ≡ rule.familySpan (now (text .entry)) (now (tree .entry)) «record» ⌝ }
     ensures { λ r. ⌜ Inside (now (text .entry)) r ⌝ }
 {
-    let unsound = check(text, tree);
-    if unsound != 0 {
-        return PartAnswer::Refused(unsound);
-    }
-    if (tree.len() / RECORD) as u64 <= record {
+    let checked = check(text, tree);
+    let Answer::Value(records) = checked else {
+        return no_part(checked);
+    };
+    if records <= record {
         return PartAnswer::Refused(NO_SUCH_RECORD);
     }
     let from = RECORD * (record as usize);

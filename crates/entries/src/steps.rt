@@ -3,12 +3,12 @@ ghost use mathlib.Core.Path.{_≡_};
 ghost use Prim.Native.Nat.{ℕ};
 ghost use Rattle.notation.specs.Refusals.{result};
 ghost use Rattle.notation.specs.Entries as rule;
-ghost use Rattle.hypuz_notation.specs.Sound.{Counted};
-use crate::check::NO_ROOM;
-use crate::check::check;
+ghost use Rattle.sound.specs.Sound.{Counted};
 use expand::visit::visit;
 use notation::answer::Answer;
 use record::RECORD;
+use sound::NO_ROOM;
+use sound::check;
 
 const MAX_STEPS: u64 = 4294967295;
 
@@ -21,10 +21,10 @@ pub fn count_steps(text: &[u8], tree: &[u8]) -> Answer
     ensures { λ r. ⌜ rule.outcome r ≡ rule.countSteps (now (text .entry)) (now (tree .entry)) ⌝ }
     ensures { λ r. ⌜ ((n : ℕ) → rule.outcome r ≡ result n → Counted (now (text .entry)) (now (tree .entry)) n) ⌝ }
 {
-    let unsound = check(text, tree);
-    if unsound != 0 {
-        return Answer::Refused(unsound);
-    }
+    let checked = check(text, tree);
+    let Answer::Value(_) = checked else {
+        return checked;
+    };
     let summary = visit(tree);
     if summary.forward != 0 {
         return Answer::Refused(summary.forward);

@@ -18,7 +18,7 @@ use Rattle.record.proofs.RoundTrip.{length-record25, headAt-record25}
 use Rattle.laws.proofs.Bools.{and-left, and-right}
 use Rattle.laws.proofs.Packing.{FitsNode, FitsBody, FitsTree, length-packNode, length-packBody, length-pack}
 use Rattle.laws.proofs.Walking.{Packed}
-use Rattle.hypuz_notation.specs.Sound.{Sound}
+use Rattle.sound.specs.Sound.{Sound}
 
 abbrev pub HeadOk : List ℕ → Head → Type 0
 HeadOk text (leafHead x) = leafOk text x ≡ true

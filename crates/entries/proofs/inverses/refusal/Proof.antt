@@ -1,7 +1,7 @@
 -- `inverses::refusal` meets its contract: one of the two. Assumes nothing.
 use borrow.Author.Needs.{needs}
-use Rattle.hypuz_notation.proofs.inverses.refusal.Statement.{statement}
-use Rattle.hypuz_notation.proofs.inverses.refusal.Tie as tie
+use Rattle.entries.proofs.inverses.refusal.Statement.{statement}
+use Rattle.entries.proofs.inverses.refusal.Tie as tie
 
 inv-deep-refusal-requires : tie.Need-inv-deep-refusal-requires
 inv-deep-refusal-requires c κs = search needs

@@ -1,7 +1,7 @@
 -- `inverses::write` meets its contract: one of the two. Assumes nothing.
 use borrow.Author.Needs.{needs}
-use Rattle.hypuz_notation.proofs.inverses.write.Statement.{statement}
-use Rattle.hypuz_notation.proofs.inverses.write.Tie as tie
+use Rattle.entries.proofs.inverses.write.Statement.{statement}
+use Rattle.entries.proofs.inverses.write.Tie as tie
 
 inv-deep-requires : tie.Need-inv-deep-requires
 inv-deep-requires c κs = search needs

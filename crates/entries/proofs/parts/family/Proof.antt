@@ -2,10 +2,10 @@
 use mathlib.Core.Path.{_∙_, sym, ap, subst}
 use borrow.Author.Needs.{needs}
 use borrow.Author.Tests.{leb-true}
-use Rattle.hypuz_notation.specs.Parts.{partOutcome, Inside}
-use Rattle.hypuz_notation.proofs.Naming.{family-part, family-empty}
-use Rattle.hypuz_notation.proofs.parts.family.Statement.{statement}
-use Rattle.hypuz_notation.proofs.parts.family.Tie as tie
+use Rattle.entries.specs.Parts.{partOutcome, Inside}
+use Rattle.entries.proofs.Naming.{family-part, family-empty}
+use Rattle.entries.proofs.parts.family.Statement.{statement}
+use Rattle.entries.proofs.parts.family.Tie as tie
 
 family-part-requires : tie.Need-family-part-requires
 family-part-requires c κs = search needs

@@ -1,10 +1,10 @@
 -- `parts::family_refusal` meets its contract: each way out is one case of the rule. Assumes nothing.
 use mathlib.Core.Path.{_∙_, sym, ap}
 use borrow.Author.Needs.{needs}
-use Rattle.hypuz_notation.specs.Parts.{partOutcome}
-use Rattle.hypuz_notation.proofs.Naming.{family-number}
-use Rattle.hypuz_notation.proofs.parts.family_refusal.Statement.{statement}
-use Rattle.hypuz_notation.proofs.parts.family_refusal.Tie as tie
+use Rattle.entries.specs.Parts.{partOutcome}
+use Rattle.entries.proofs.Naming.{family-number}
+use Rattle.entries.proofs.parts.family_refusal.Statement.{statement}
+use Rattle.entries.proofs.parts.family_refusal.Tie as tie
 
 family-part-requires : tie.Need-family-part-requires
 family-part-requires c κs = search needs

@@ -3,9 +3,9 @@ use mathlib.Core.Path.{ap}
 use native.Mathlib.Omega.{arith}
 use borrow.Author.Needs.{needs}
 use Rattle.notation.specs.Entries.{outcome}
-use Rattle.hypuz_notation.proofs.Stepping.{flatten-refused, flatten-short, flatten-written}
-use Rattle.hypuz_notation.proofs.steps.flatten.Statement.{statement}
-use Rattle.hypuz_notation.proofs.steps.flatten.Tie as tie
+use Rattle.entries.proofs.Stepping.{flatten-refused, flatten-short, flatten-written}
+use Rattle.entries.proofs.steps.flatten.Statement.{statement}
+use Rattle.entries.proofs.steps.flatten.Tie as tie
 
 count-steps-requires : tie.Need-count-steps-requires
 count-steps-requires c κs = search needs
