@@ -1,9 +1,3 @@
-pub mod Outcomes
-pub mod Inverting
-pub mod Stepping
-pub mod Displaying
-pub mod Records
-pub mod Naming
 pub mod Agreeing
 pub mod Handing
 pub mod Values

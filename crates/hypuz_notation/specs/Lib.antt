@@ -1,5 +1,2 @@
 -- What the contracts of this crate cite beside the rules of `notation` and their laws.
-pub mod Sound
-pub mod Parts
-pub mod Inverses
 pub mod Agreement

@@ -1,22 +1,19 @@
-// The public entries: each checks its own inputs, and its answer and the final bytes of its buffer are those of its rule in
-// notation/specs/Entries.
+// The public entries by the Rust's names, and what is said of them together: that they agree about a text (demand 3), and what a host
+// that calls from C is handed.
 
 pub mod agreement;
-pub mod check;
 pub mod host;
-pub mod inverses;
-pub mod parts;
-pub mod printing;
-pub mod steps;
 
 pub use agreement::agree;
-pub use inverses::inv;
-pub use inverses::inv_deep;
+pub use entries::count_steps;
+pub use entries::display;
+pub use entries::family;
+pub use entries::family_refusal;
+pub use entries::flatten;
+pub use entries::inv;
+pub use entries::inv_deep;
+pub use entries::parts::PartAnswer;
+pub use entries::parts::family_part;
+pub use entries::seek_step;
+pub use entries::simplify;
 pub use parse::parse_notation;
-pub use parts::family;
-pub use parts::family_refusal;
-pub use parts::simplify;
-pub use printing::display;
-pub use steps::count_steps;
-pub use steps::flatten;
-pub use steps::seek_step;

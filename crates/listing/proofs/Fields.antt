@@ -13,8 +13,8 @@ use Rattle.notation.specs.Entries.{checked, inverse, display, steps}
 use Rattle.notation.specs.Lister.{line, field, stepLines, stepsPart, treePart}
 use Rattle.laws.proofs.Unrolling.{flat}
 use Rattle.laws.proofs.Counting.{count, count-is}
-use Rattle.hypuz_notation.specs.Sound.{Counted}
-use Rattle.hypuz_notation.proofs.Stepping.{these}
+use Rattle.sound.specs.Sound.{Counted}
+use Rattle.entries.proofs.Stepping.{these}
 use Rattle.display.specs.Written.{Wrote}
 use Rattle.display.proofs.Writing.{wrote-as, wrote-then}
 use Rattle.listing.specs.Listing.{inverseShown}

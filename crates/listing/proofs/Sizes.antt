@@ -20,7 +20,7 @@ use Rattle.laws.proofs.Packing.{length-pack, well-formed-packed}
 use Rattle.laws.proofs.WellFormedInverses.{inverted-size}
 use Rattle.laws.proofs.Accepting.{accepted-tree}
 use Rattle.laws.proofs.ReadingYields.{reading-size}
-use Rattle.hypuz_notation.proofs.Inverting.{inverting}
+use Rattle.entries.proofs.Inverting.{inverting}
 
 pub reading-long : (f : Features) (text tree : List ℕ) → reading f text ≡ result tree → length tree ≤ RECORD * length text
 reading-long f text tree e =

@@ -15,7 +15,7 @@ ghost use Rattle.notation.specs.Print.{putStep};
 ghost use Rattle.notation.specs.Entries as entries;
 ghost use Rattle.notation.specs.Lister as rule;
 ghost use Rattle.laws.proofs.Unrolling.{flat};
-ghost use Rattle.hypuz_notation.specs.Sound.{Counted};
+ghost use Rattle.sound.specs.Sound.{Counted};
 ghost use Rattle.display.specs.Written.{MOST as most, Wrote};
 ghost use Rattle.listing.specs.Listing.{MAX-TREE as maxTree, inverseShown};
 use display::unspanned::node_list;
@@ -23,8 +23,8 @@ use display::write::put;
 use display::write::put_bytes;
 use display::write::put_number;
 use expand::seek::seek;
-use hypuz_notation::check::check;
 use notation::answer::Answer;
+use sound::check;
 
 // A line whose field is a refusal.
 pub fn refused_line(out: &mut [u8], at: usize, label: &[u8], number: u8) -> usize
@@ -53,14 +53,15 @@ pub fn tree_line(out: &mut [u8], at: usize, label: &[u8], text: &[u8], tree: &[u
     requires { ⌜ at ≤ most ⌝ }
     ensures { λ r. ⌜ Wrote (now (out .entry)) (now (out .exit)) at r (rule.line (now (label .entry)) (rule.field (entries.display (now (text .entry)) (now (tree .entry))))) ⌝ }
 {
-    let unsound = check(text, tree);
-    if unsound != 0 {
-        return refused_line(out, at, label, unsound);
+    match check(text, tree) {
+        Answer::Value(_) => {
+            let space = put_bytes(out, at, label);
+            let start = put(out, space, b' ');
+            let end = node_list(out, start, text, tree);
+            put(out, end, b'\n')
+        }
+        Answer::Refused(number) => refused_line(out, at, label, number),
     }
-    let space = put_bytes(out, at, label);
-    let start = put(out, space, b' ');
-    let end = node_list(out, start, text, tree);
-    put(out, end, b'\n')
 }
 
 // The line of the shallow inverse.
@@ -70,7 +71,7 @@ pub fn inverse_line(out: &mut [u8], at: usize, label: &[u8], text: &[u8], tree: 
     ensures { λ r. ⌜ Wrote (now (out .entry)) (now (out .exit)) at r (rule.line (now (label .entry)) (rule.field (inverseShown (now (text .entry)) (now (tree .entry))))) ⌝ }
 {
     let mut inverse = [0u8; 76800];
-    match hypuz_notation::inv(text, tree, &mut inverse) {
+    match entries::inv(text, tree, &mut inverse) {
         Answer::Value(size) => {
             let end = size as usize;
             tree_line(out, at, label, text, &inverse[0..end])

@@ -10,7 +10,7 @@ ghost use Rattle.notation.specs.Invert.{undo};
 ghost use Rattle.notation.specs.Entries as entries;
 ghost use Rattle.notation.specs.Lister as rule;
 ghost use Rattle.laws.proofs.Unrolling.{flat};
-ghost use Rattle.hypuz_notation.specs.Sound.{Counted};
+ghost use Rattle.sound.specs.Sound.{Counted};
 ghost use Rattle.display.specs.Written.{MOST as most, Wrote};
 ghost use Rattle.listing.specs.Listing.{MAX-TREE as maxTree, AtFront};
 use crate::lines::inverse_line;
@@ -19,12 +19,12 @@ use crate::lines::refused_line;
 use crate::lines::step_line;
 use crate::lines::tree_line;
 use display::write::put_bytes;
-use hypuz_notation::check::NO_ROOM;
-use hypuz_notation::count_steps;
+use entries::count_steps;
 use notation::answer::Answer;
 use notation::features;
 use notation::features::Features;
 use parse::parse_notation;
+use sound::NO_ROOM;
 
 const MAX_INPUT: usize = 3072;
 

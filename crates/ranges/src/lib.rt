@@ -54,7 +54,7 @@ fn resolve(
     requires { ⌜ length (now bytes) ≡ 65536 ⌝ }
     ensures { λ r. ⌜ Resolved (now (text .entry)) (now (tree .entry)) «record» «max_layer» «allow_negatives» room r (now (bytes .exit)) ⌝ }
 {
-    let answer = hypuz_notation::simplify(text, tree, record, max_layer, allow_negatives, bytes);
+    let answer = entries::simplify(text, tree, record, max_layer, allow_negatives, bytes);
     let Answer::Value(n) = answer else {
         return answer;
     };

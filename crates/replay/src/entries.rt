@@ -8,10 +8,15 @@ use crate::hex;
 use crate::hex::Decoded;
 use crate::report;
 use crate::text;
-use hypuz_notation::inverses;
-use hypuz_notation::parts;
-use hypuz_notation::printing;
-use hypuz_notation::steps;
+use hypuz_notation::count_steps;
+use hypuz_notation::display;
+use hypuz_notation::family;
+use hypuz_notation::family_refusal;
+use hypuz_notation::flatten;
+use hypuz_notation::inv;
+use hypuz_notation::inv_deep;
+use hypuz_notation::seek_step;
+use hypuz_notation::simplify;
 use notation::answer::Answer;
 
 // How many bytes stand before the text.
@@ -96,15 +101,15 @@ fn called(call: Call, text: &[u8], tree: &[u8], out: &mut [u8], line: &mut [u8])
 fn answer(call: Call, text: &[u8], tree: &[u8], out: &mut [u8]) -> Answer {
     let entry = call.entry;
     match entry {
-        b'i' => inverses::inv(text, tree, out),
-        b'd' => inverses::inv_deep(text, tree, out),
-        b'p' => printing::display(text, tree, out),
-        b'c' => steps::count_steps(text, tree),
-        b'f' => steps::flatten(text, tree, out),
-        b's' => steps::seek_step(text, tree, call.number, out),
+        b'i' => inv(text, tree, out),
+        b'd' => inv_deep(text, tree, out),
+        b'p' => display(text, tree, out),
+        b'c' => count_steps(text, tree),
+        b'f' => flatten(text, tree, out),
+        b's' => seek_step(text, tree, call.number, out),
         b'o' => listing::list(text, out),
         b'x' => deep_shown(text, tree, out),
-        b'l' => parts::simplify(text, tree, call.number, call.max_layer, call.negatives, out),
+        b'l' => simplify(text, tree, call.number, call.max_layer, call.negatives, out),
         _ => Answer::Refused(0),
     }
 }
@@ -112,12 +117,12 @@ fn answer(call: Call, text: &[u8], tree: &[u8], out: &mut [u8]) -> Answer {
 // The deep inverse as text, for the Rust's answers, which are texts.
 fn deep_shown(text: &[u8], tree: &[u8], out: &mut [u8]) -> Answer {
     let mut inverse = [0u8; 38000];
-    let answer = inverses::inv_deep(text, tree, &mut inverse);
+    let answer = inv_deep(text, tree, &mut inverse);
     let Answer::Value(size) = answer else {
         return answer;
     };
     let n = report::least(size as usize, 38000);
-    printing::display(text, &inverse[0..n], out)
+    display(text, &inverse[0..n], out)
 }
 
 fn unit(entry: u8) -> usize {
@@ -133,8 +138,8 @@ fn named(record: u64, text: &[u8], tree: &[u8], line: &mut [u8]) -> usize
     requires { ⌜ length (now line) ≡ 1100 ⌝ }
     ensures { λ r. ⌜ r ≤ 1100 ⌝ }
 {
-    let family = parts::family(text, tree, record);
-    let refusal = parts::family_refusal(text, tree, record);
+    let family = family(text, tree, record);
+    let refusal = family_refusal(text, tree, record);
     if refusal == 0 {
         report::read(family.len() as u64, family.len(), family, line)
     } else {

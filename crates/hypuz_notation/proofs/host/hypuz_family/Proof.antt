@@ -1,7 +1,7 @@
 -- `host::hypuz_family` meets its contract: each case by its rule. Assumes nothing.
 use mathlib.Core.Path.{sym, ap, _∙_}
 use borrow.Author.Needs.{needs}
-use Rattle.hypuz_notation.specs.Parts.{partOutcome}
+use Rattle.entries.specs.Parts.{partOutcome}
 use Rattle.hypuz_notation.proofs.Handing.{part-coded, no-part-coded}
 use Rattle.hypuz_notation.proofs.host.hypuz_family.Statement.{statement}
 use Rattle.hypuz_notation.proofs.host.hypuz_family.Tie as tie

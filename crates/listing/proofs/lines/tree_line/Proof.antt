@@ -1,10 +1,11 @@
 -- A refusal, or a tree that is printed. Assumes nothing.
 use borrow.Author.Needs.{needs}
+use mathlib.Core.Path.{ap}
 use native.Mathlib.Omega.{arith}
 use Rattle.notation.specs.Packed.{unpack}
-use Rattle.notation.specs.Entries.{display}
+use Rattle.notation.specs.Entries.{display, outcome}
 use Rattle.notation.specs.Lister.{field}
-use Rattle.hypuz_notation.proofs.Outcomes.{refused}
+use Rattle.sound.proofs.Outcomes.{refused}
 use Rattle.listing.proofs.Fields.{wrote-line, wrote-field, display-given, display-refused}
 use Rattle.listing.proofs.lines.tree_line.Statement.{statement}
 use Rattle.listing.proofs.lines.tree_line.Tie as tie
@@ -12,19 +13,8 @@ use Rattle.listing.proofs.lines.tree_line.Tie as tie
 check-requires : tie.Need-check-requires
 check-requires c κs = search needs
 
-refused-line-requires : tie.Need-refused-line-requires
-refused-line-requires c κs = search needs
-
-same-length : tie.Need-same-length
-same-length c = search needs
-
-returns : tie.Need-returns
-returns c =
-    let call = c .before .before in
-    let check = call .before .before .before in
-    let a = check .before .before .before .before .before .args in
-    wrote-field (a .label .now) (display-refused (a .text .now) (a .tree .now) _ (refused (a .text .now) (a .tree .now) _ (check .check .ensures .0) (call .before .before .if1 .taken)))
-    (call .refused-line .ensures)
+enum-told : tie.Need-enum-told
+enum-told c = search needs
 
 put-bytes-requires : tie.Need-put-bytes-requires
 put-bytes-requires c κs = search needs
@@ -34,38 +24,60 @@ put-requires c κs = search needs
 
 node-list-requires : tie.Need-node-list-requires
 node-list-requires c κs =
-    let sound = c .before .before .before .before .before .before .before .before .before .before .check .ensures .1 (c .before .before .before .before .before .before .before .before .before .if1 .left) in
-    (omega (arith, c .before .before .before .put .ensures .counts), (sound .packed, sound .ok))
+    let s = c .before .before .before in
+    let told = s .before .before .before .before .before .before in
+    let sound = told .before .before .check .ensures .1 _ (ap outcome (told .enum-told .given .1)) in
+    (omega (arith, s .put .ensures .counts), (sound .packed, sound .ok))
 
 put-requires-2 : tie.Need-put-requires-2
 put-requires-2 c κs = search needs
+
+enum-known-number : tie.Need-enum-known-number
+enum-known-number c = search needs
+
+refused-line-requires : tie.Need-refused-line-requires
+refused-line-requires c κs = search needs
+
+same-length : tie.Need-same-length
+same-length c = search needs
+
+returns : tie.Need-returns
+returns c =
+    let n = c .before .before in
+    let v = n .before .before .before .before in
+    let s = v .before .before .before .before in
+    let w = s .before .before .before .before in
+    let told = w .before .before in
+    let check = told .before .before in
+    let a = check .before .before .before .before .before .args in
+    let sound = check .check .ensures .1 _ (ap outcome (told .enum-told .given .1)) in
+    wrote-line (a .label .now) (field (display (a .text .now) (a .tree .now))) (display-given (a .text .now) (a .tree .now) (unpack (a .tree .now)) (sound .is))
+    (w .put-bytes .ensures) (s .put .ensures) (v .node-list .ensures) (n .put2 .ensures)
 
 same-length-2 : tie.Need-same-length-2
 same-length-2 c = search needs
 
 returns-2 : tie.Need-returns-2
 returns-2 c =
-    let n = c .before .before in
-    let v = n .before .before .before .before in
-    let s = v .before .before .before .before in
-    let w = s .before .before .before .before in
-    let check = w .before .before .before in
+    let call = c .before .before in
+    let number = call .before .before .before in
+    let check = number .before .before in
     let a = check .before .before .before .before .before .args in
-    let sound = check .check .ensures .1 (w .before .before .if1 .left) in
-    wrote-line (a .label .now) (field (display (a .text .now) (a .tree .now))) (display-given (a .text .now) (a .tree .now) (unpack (a .tree .now)) (sound .is))
-    (w .put-bytes .ensures) (s .put .ensures) (v .node-list .ensures) (n .put2 .ensures)
+    wrote-field (a .label .now) (display-refused (a .text .now) (a .tree .now) _ (refused (check .check .ensures) (ap outcome (number .number .given .1)))) (call .refused-line .ensures)
 
 pub tree-line-spec : {M : Type 1} → statement M
 tree-line-spec =
     tie.close
     (tie.spec
     check-requires
-    refused-line-requires
-    same-length
-    returns
+    enum-told
     put-bytes-requires
     put-requires
     node-list-requires
     put-requires-2
+    enum-known-number
+    refused-line-requires
+    same-length
+    returns
     same-length-2
     returns-2)

@@ -1,0 +1,4 @@
+pub mod Inverting
+pub mod Stepping
+pub mod Displaying
+pub mod Naming

@@ -1,0 +1,150 @@
+-- What counting, unrolling and seeking come to, case by case. Assumes nothing.
+use Prim.Native.Nat.{ℕ, zero, suc, _*_, _≤_, _<_, min}
+use mathlib.Core.Path.{_≡_, refl, sym, ap, _∙_}
+use mathlib.Core.Bool.{Bool, true, false}
+use mathlib.Core.List.{List, [], _∷_, _++_}
+use mathlib.Core.Option.{Option, none, some}
+use native.Mathlib.Omega.{arith}
+use borrow.Author.Tests.{le-leb, lt-leb}
+use lib.ListN.{length, drop, getElem?}
+use Rattle.notation.specs.Refusals.{Outcome, refusal, result, _>>=_, _>>_, unless, orRefuse, NO-ROOM, TOO-MANY-STEPS, NO-SUCH-PLACE}
+use Rattle.notation.specs.Tree.{Leaf, Tree}
+use Rattle.notation.specs.Packed.{RECORD, leafHead, leafRecord, unpack}
+use Rattle.notation.specs.Invert.{undo}
+use Rattle.notation.specs.Unroll.{flatten}
+use Rattle.notation.specs.Entries.{Lent, lend, steps, records, unrolled, flattenEntry, countSteps, stepAt, seekStep, refusalNumber, value, MAX-STEPS}
+use Rattle.record.proofs.RoundTrip.{length-record25}
+use Rattle.laws.proofs.Unrolling.{flat, firstRefusal, flatten-is}
+use Rattle.laws.proofs.Counting.{count, count-is, visit, visit-is}
+use Rattle.laws.proofs.Seeking.{seek, seek-is}
+use Rattle.expand.specs.declared.visit.Summary.{Summary}
+use Rattle.expand.specs.Meaning.{told, summary}
+use Rattle.expand.specs.Places.{found}
+use Rattle.expand.specs.Steps.{Wrote}
+use Rattle.expand.proofs.Steps.{length-records}
+use Rattle.sound.specs.Sound.{Sound, Counted}
+use Rattle.sound.proofs.Outcomes.{Checks, no-result, refused, lend-refused, lend-handed, lend-short, lend-fits}
+
+-- What `count_steps` promises of its answer.
+pub record Counts (text tree : List ℕ) (o : Outcome ℕ) : Type 0 where
+  pub answer : o ≡ countSteps text tree
+  pub counted : (n : ℕ) → o ≡ result n → Counted text tree n
+
+refuses : (text tree : List ℕ) {o : Outcome ℕ} (r : ℕ) → o ≡ refusal r → steps text tree ≡ refusal r → Counts text tree o
+refuses text tree r q e = record { answer = rw (q, e); counted = λ n p. no-result (sym q ∙ p) }
+
+pub count-unsound : {text tree : List ℕ} {o : Outcome ℕ} {r : ℕ} → Checks text tree o → o ≡ refusal r → Counts text tree o
+unfolding steps
+count-unsound {text} {tree} {o} {r} c q = refuses text tree r q (rw (refused c q))
+
+module _ (text tree : List ℕ) (sound : Sound text tree) (s : Summary) (e : summary s ≡ visit (unpack tree)) where
+  met : told (s .forward) ≡ firstRefusal false (unpack tree)
+  met = ap (λ x. x .refuses false) (e ∙ visit-is (unpack tree))
+
+  held : s .steps ≡ min (count (unpack tree)) 4294967296
+  held = ap (λ x. x .steps) (e ∙ visit-is (unpack tree))
+
+  unmet : s .forward ≡ 0 → firstRefusal false (unpack tree) ≡ none
+  unmet z = sym met ∙ ap told z
+
+  met-some : (s .forward ≡ 0 → ⊥) → firstRefusal false (unpack tree) ≡ some (s .forward)
+  met-some h = sym met ∙ go (s .forward) h
+    where
+      go : (r : ℕ) → (r ≡ 0 → ⊥) → told r ≡ some r
+      go zero h = absurd (h refl)
+      go (suc r) h = refl
+
+  pub count-refused : (s .forward ≡ 0 → ⊥) → Counts text tree (refusal (s .forward))
+  unfolding steps
+  count-refused h = refuses text tree (s .forward) refl (rw (sound .is, flatten-is (unpack tree) false, met-some h))
+
+  pub count-many : s .forward ≡ 0 → MAX-STEPS < s .steps → Counts text tree (refusal TOO-MANY-STEPS)
+  unfolding steps
+  count-many z h =
+      refuses text tree TOO-MANY-STEPS refl
+      (rw (sound .is, flatten-is (unpack tree) false, unmet z, count-is (unpack tree) false, lt-leb (count (unpack tree)) MAX-STEPS (omega (arith, held))))
+
+  pub count-done : s .forward ≡ 0 → s .steps ≤ MAX-STEPS → Counts text tree (result (s .steps))
+  unfolding steps
+  count-done z h =
+      let most : count (unpack tree) ≤ MAX-STEPS = omega (arith, held) in
+      let is : s .steps ≡ count (unpack tree) = omega (arith, held) in
+      record {
+        answer = rw (sound .is, flatten-is (unpack tree) false, unmet z, count-is (unpack tree) false, le-leb (count (unpack tree)) MAX-STEPS most, is) (ap result (sym (count-is (unpack tree) false)));
+        counted = λ n q. record { sound = sound; unrefused = unmet z; steps = sym (ap value q) ∙ is; most = let v : s .steps ≡ n = ap value q in omega arith };
+      }
+
+-- Where the count is refused, unrolling and seeking are; the answer is handed on as it is.
+module _ (text tree : List ℕ) (o : Outcome ℕ) (e : o ≡ countSteps text tree) (r : ℕ) (q : o ≡ refusal r) (buffer : List ℕ) where
+  pub refused-steps : steps text tree ≡ refusal r
+  refused-steps = go (steps text tree) refl
+    where
+      go : (l : Outcome (List Leaf)) → steps text tree ≡ l → steps text tree ≡ refusal r
+      go (refusal k) p =
+          let z : refusal k ≡ o = rw p at (sym e) in
+          p ∙ ap refusal (ap refusalNumber (z ∙ q))
+      go (result l) p =
+          let z : result (length l) ≡ o = rw p at (sym e) in
+          no-result (sym q ∙ sym z)
+
+  pub flatten-refused : record { answer = o; buffer = buffer } ≡ flattenEntry text tree buffer
+  flatten-refused = lend-handed (unrolled text tree) buffer q (rw refused-steps)
+
+  pub seek-refused : (k : ℕ) → record { answer = o; buffer = buffer } ≡ seekStep text tree k buffer
+  seek-refused k = lend-handed (stepAt text tree k) buffer q (rw refused-steps)
+
+-- Where it is not, the steps are those of the tree.
+past : (l : List Leaf) (k : ℕ) → length l ≤ k → getElem? l k ≡ none
+past [] k h = refl
+past (x ∷ l) zero h = absurd (omega arith)
+past (x ∷ l) (suc k) h = past l k (omega arith)
+
+within : (l : List Leaf) (k : ℕ) → k < length l → (x : Leaf) × (getElem? l k ≡ some x)
+within [] k h = absurd (omega arith)
+within (x ∷ l) zero h = (x, refl)
+within (x ∷ l) (suc k) h = within l k (omega arith)
+
+module _ (text tree : List ℕ) (n : ℕ) (c : Counted text tree n) (buffer : List ℕ) where
+  pub these : steps text tree ≡ result (flat undo false (unpack tree))
+  unfolding steps
+  these = rw (c .sound .is, flatten-is (unpack tree) false, c .unrefused, count-is (unpack tree) false, sym (c .steps), le-leb n MAX-STEPS (c .most))
+
+  all : unrolled text tree ≡ result (records (flat undo false (unpack tree)))
+  all = rw these
+
+  long : length (records (flat undo false (unpack tree))) ≡ RECORD * n
+  long = length-records (flat undo false (unpack tree)) ∙ ap (λ (k : ℕ). RECORD * k) (count-is (unpack tree) false ∙ sym (c .steps))
+
+  pub flatten-short : length buffer < RECORD * n → record { answer = refusal NO-ROOM; buffer = buffer } ≡ flattenEntry text tree buffer
+  flatten-short h = lend-short (unrolled text tree) buffer (records (flat undo false (unpack tree))) all (omega (arith, long))
+
+  pub flatten-written : RECORD * n ≤ length buffer → (after : List ℕ) (r : ℕ) → Wrote buffer after (flat undo false (unpack tree)) r →
+      record { answer = result (RECORD * n); buffer = after } ≡ flattenEntry text tree buffer
+  flatten-written h after r w =
+      let size : r ≡ RECORD * n = w .size ∙ sym (length-records (flat undo false (unpack tree))) ∙ long in
+      let bytes : after ≡ records (flat undo false (unpack tree)) ++ drop (RECORD * n) buffer = w .bytes ∙ ap (λ (k : ℕ). records (flat undo false (unpack tree)) ++ drop k buffer) size in
+      rw (bytes, sym long) (lend-fits (unrolled text tree) buffer (records (flat undo false (unpack tree))) all (omega (arith, long)))
+
+  pub seek-past : (k : ℕ) → n ≤ k → record { answer = refusal NO-SUCH-PLACE; buffer = buffer } ≡ seekStep text tree k buffer
+  seek-past k h =
+      lend-refused (stepAt text tree k) buffer NO-SUCH-PLACE
+      (rw (these, past (flat undo false (unpack tree)) k (omega (arith, count-is (unpack tree) false, c .steps))))
+
+  there : (k : ℕ) → k < n → (x : Leaf) × (getElem? (flat undo false (unpack tree)) k ≡ some x)
+  there k h = within (flat undo false (unpack tree)) k (omega (arith, count-is (unpack tree) false, c .steps))
+
+  pub seek-short : (k : ℕ) → k < n → length buffer < RECORD → record { answer = refusal NO-ROOM; buffer = buffer } ≡ seekStep text tree k buffer
+  seek-short k h s =
+      let f = there k h in
+      lend-short (stepAt text tree k) buffer (leafRecord (f .0)) (rw (these, f .1)) (omega (arith, length-record25 (leafHead (f .0))))
+
+  pub seek-written : (k : ℕ) → k < n → RECORD ≤ length buffer → (after : List ℕ) →
+      after ≡ found (seek false (unpack tree) k) ++ drop RECORD buffer →
+      record { answer = result RECORD; buffer = after } ≡ seekStep text tree k buffer
+  seek-written k h s after w =
+      let f = there k h in
+      let long : length (leafRecord (f .0)) ≡ RECORD = length-record25 (leafHead (f .0)) in
+      let bytes : after ≡ leafRecord (f .0) ++ drop RECORD buffer = w ∙ ap (λ (o : Option Leaf). found o ++ drop RECORD buffer) (seek-is (unpack tree) false k ∙ f .1) in
+      ap (λ (b : List ℕ). record { answer = result RECORD; buffer = b }) bytes
+      ∙ ap (λ (m : ℕ). record { answer = result m; buffer = leafRecord (f .0) ++ drop m buffer }) (sym long)
+      ∙ lend-fits (stepAt text tree k) buffer (leafRecord (f .0)) (rw (these, f .1)) (omega arith)

@@ -1,0 +1,20 @@
+-- Parts of the text, as an outcome.
+use Prim.Native.Nat.{ℕ}
+use mathlib.Core.Path.{_≡_}
+use mathlib.Core.Bool.{true}
+use mathlib.Core.List.{List}
+use Rattle.notation.specs.Refusals.{Outcome, refusal, result}
+use Rattle.notation.specs.Tree as tree
+use Rattle.notation.specs.WellFormed.{inside}
+use Rattle.record.specs.Meaning.{span}
+use Rattle.entries.specs.declared.parts.PartAnswer.{PartAnswer}
+use Rattle.entries.specs.declared.parts.PartAnswer.the-variants.{Part, Refused}
+
+abbrev pub partOutcome : PartAnswer → Outcome tree.Span
+partOutcome (Part p) = result (span p)
+partOutcome (Refused r) = refusal r
+
+-- a part that is given stands inside the text
+abbrev pub Inside : List ℕ → PartAnswer → Type 0
+Inside text (Part p) = inside text (span p) ≡ true
+Inside text (Refused r) = Unit {0}

@@ -1,0 +1,70 @@
+// The steps of a tree: how many, all of them, or the one at a place.
+ghost use mathlib.Core.Path.{_≡_};
+ghost use Prim.Native.Nat.{ℕ};
+ghost use Rattle.notation.specs.Refusals.{result};
+ghost use Rattle.notation.specs.Entries as rule;
+ghost use Rattle.sound.specs.Sound.{Counted};
+use expand::visit::visit;
+use notation::answer::Answer;
+use record::RECORD;
+use sound::NO_ROOM;
+use sound::check;
+
+const MAX_STEPS: u64 = 4294967295;
+
+const TOO_MANY_STEPS: u8 = 9;
+
+const NO_SUCH_PLACE: u8 = 10;
+
+// How many steps a tree unrolls into: refusals 1, 2, 6, 7 or 8, 9.
+pub fn count_steps(text: &[u8], tree: &[u8]) -> Answer
+    ensures { λ r. ⌜ rule.outcome r ≡ rule.countSteps (now (text .entry)) (now (tree .entry)) ⌝ }
+    ensures { λ r. ⌜ ((n : ℕ) → rule.outcome r ≡ result n → Counted (now (text .entry)) (now (tree .entry)) n) ⌝ }
+{
+    let checked = check(text, tree);
+    let Answer::Value(_) = checked else {
+        return checked;
+    };
+    let summary = visit(tree);
+    if summary.forward != 0 {
+        return Answer::Refused(summary.forward);
+    }
+    if MAX_STEPS < summary.steps {
+        return Answer::Refused(TOO_MANY_STEPS);
+    }
+    Answer::Value(summary.steps)
+}
+
+// The unrolled list, a record for each step: refusals 1, 2, 6, 7 or 8, 9, 5.
+pub fn flatten(text: &[u8], tree: &[u8], out: &mut [u8]) -> Answer
+    ensures { λ r. ⌜ record { answer = rule.outcome r; buffer = now (out .exit) } ≡ rule.flattenEntry (now (text .entry)) (now (tree .entry)) (now (out .entry)) ⌝ }
+{
+    let counted = count_steps(text, tree);
+    let Answer::Value(steps) = counted else {
+        return counted;
+    };
+    let size = RECORD * (steps as usize);
+    if out.len() < size {
+        return Answer::Refused(NO_ROOM);
+    }
+    expand::flatten::flatten(tree, out);
+    Answer::Value(size as u64)
+}
+
+// The record of the step at a place of the unrolled list: refusals 1, 2, 6, 7 or 8, 9, 10, 5.
+pub fn seek_step(text: &[u8], tree: &[u8], place: u64, step: &mut [u8]) -> Answer
+    ensures { λ r. ⌜ record { answer = rule.outcome r; buffer = now (step .exit) } ≡ rule.seekStep (now (text .entry)) (now (tree .entry)) place (now (step .entry)) ⌝ }
+{
+    let counted = count_steps(text, tree);
+    let Answer::Value(steps) = counted else {
+        return counted;
+    };
+    if steps <= place {
+        return Answer::Refused(NO_SUCH_PLACE);
+    }
+    if step.len() < RECORD {
+        return Answer::Refused(NO_ROOM);
+    }
+    expand::seek::seek(tree, place, step);
+    Answer::Value(RECORD as u64)
+}

@@ -1,0 +1,34 @@
+-- What an entry knows of a text and a tree once they are not refused.
+use Prim.Native.Nat.{ℕ, _/_, _≤_}
+use mathlib.Core.Path.{_≡_}
+use mathlib.Core.Bool.{Bool, true, false}
+use mathlib.Core.List.{List}
+use mathlib.Core.Option.{none}
+use lib.ListN.{length}
+use Rattle.notation.specs.Refusals.{Outcome, result, _>>=_, _>>_}
+use Rattle.notation.specs.Packed.{RECORD, unpack}
+use Rattle.notation.specs.WellFormed.{treeOk}
+use Rattle.notation.specs.Entries.{checked, MAX-TEXT, MAX-STEPS}
+use Rattle.laws.proofs.Walking.{Packed}
+use Rattle.laws.proofs.Unrolling.{firstRefusal}
+use Rattle.laws.proofs.Counting.{count}
+
+-- how many records a tree has: refusals 1, 2, 6
+abbrev pub recordsIn : List ℕ → List ℕ → Outcome ℕ
+recordsIn text tree = do
+  checked text tree
+  result (length tree / RECORD)
+
+-- not refused 1, 2 or 6
+pub record Sound (text tree : List ℕ) : Type 0 where
+  pub short : length text ≤ MAX-TEXT
+  pub packed : Packed tree
+  pub ok : treeOk text (unpack tree) ≡ true
+  pub is : checked text tree ≡ result (unpack tree)
+
+-- nor 7, 8 or 9
+pub record Counted (text tree : List ℕ) (n : ℕ) : Type 0 where
+  pub sound : Sound text tree
+  pub unrefused : firstRefusal false (unpack tree) ≡ none
+  pub steps : n ≡ count (unpack tree)
+  pub most : n ≤ MAX-STEPS

@@ -1,0 +1,38 @@
+// What every entry asks first of a text and a tree.
+ghost use mathlib.Core.Path.{_≡_};
+ghost use Prim.Native.Nat.{ℕ};
+ghost use Rattle.notation.specs.Refusals.{result};
+ghost use Rattle.notation.specs.Entries.{outcome};
+ghost use Rattle.sound.specs.Sound.{Sound, recordsIn};
+use charsets::is_utf8;
+use notation::answer::Answer;
+use record::RECORD;
+use tree::well_formed;
+
+// The refusal of a buffer that is too small.
+pub const NO_ROOM: u8 = 5;
+
+const TOO_LONG: u8 = 1;
+
+const NOT_UTF8: u8 = 2;
+
+const NOT_WELL_FORMED: u8 = 6;
+
+const MAX_TEXT: usize = 65535;
+
+// How many records the tree has, or refusal 1, 2 or 6.
+pub fn check(text: &[u8], tree: &[u8]) -> Answer
+    ensures { λ r. ⌜ outcome r ≡ recordsIn (now (text .entry)) (now (tree .entry)) ⌝ }
+    ensures { λ r. ⌜ ((n : ℕ) → outcome r ≡ result n → Sound (now (text .entry)) (now (tree .entry))) ⌝ }
+{
+    if MAX_TEXT < text.len() {
+        return Answer::Refused(TOO_LONG);
+    }
+    if !is_utf8(text) {
+        return Answer::Refused(NOT_UTF8);
+    }
+    if !well_formed(text, tree) {
+        return Answer::Refused(NOT_WELL_FORMED);
+    }
+    Answer::Value((tree.len() / RECORD) as u64)
+}
