@@ -32,11 +32,12 @@ Undoable (pair u d) = Small u × Small d
 Undoable slash = Unit {0}
 Undoable (megaminx k) = Unit {0}
 
+-- something that holds of every step
 pub data All (P : Leaf → Type 0) : List Leaf → Type 0 where
   none : All P []
   one : {x : Leaf} {l : List Leaf} → P x → All P l → All P (x ∷ l)
 
--- the steps that bytes hold: what they unroll into, since a list of steps unrolls into itself
+-- the steps whose records bytes are, with the numbers that the records have: what the bytes unroll into, since a list of steps unrolls into itself
 abbrev pub held : List ℕ → List Leaf
 held bs = flat undo false (unpack bs)
 

@@ -79,11 +79,11 @@ fn complete_binary(out: &mut [u8], commutator: bool, a: usize, b: usize) -> usiz
     let size = a + b;
     let third = size + a;
     if commutator {
-        let total = size + size;
-        repeat(out, size, total);
+        let whole = size + size;
+        repeat(out, size, whole);
         turn(&mut out[size..third]);
-        turn(&mut out[third..total]);
-        return total;
+        turn(&mut out[third..whole]);
+        return whole;
     }
     repeat(out, size, third);
     turn(&mut out[size..third]);
@@ -129,13 +129,13 @@ fn turn(steps: &mut [u8])
         from += RECORD;
         to -= RECORD;
     }
-    // Of an odd number, the one in the middle stays where it is.
+    // Of an odd number, the one in the middle is only undone.
     if from < to {
         undo_record(&mut steps[from..to]);
     }
 }
 
-// The first and the last of two records or more change places, each undone.
+// The first and the last of two records or more change places, each undone. Both are held apart, since a slice is not read while a part of it is written.
 fn exchange_ends(steps: &mut [u8])
     requires { ⌜ recordSize + recordSize ≤ length (now steps) ⌝ }
     requires { ⌜ StartsRecord (now steps) × StartsRecord (lastOf (now steps)) ⌝ }

@@ -23,8 +23,8 @@ add-size c = omega (arith, third-room (c .before .pre), c .before .good)
 add-third : tie.Need-add-third
 add-third c = omega (arith, third-room (c .before .pre), c .before .good)
 
-add-total : tie.Need-add-total
-add-total c = omega (arith, total-room (c .before .before .pre) (c .if1 .taken), c .before .before .good)
+add-whole : tie.Need-add-whole
+add-whole c = omega (arith, total-room (c .before .before .pre) (c .if1 .taken), c .before .before .good)
 
 repeat-requires : tie.Need-repeat-requires
 repeat-requires c κs = omega (arith, total-room (c .before .before .before .pre) (c .before .if1 .taken))
@@ -96,7 +96,7 @@ complete-binary-spec =
     (tie.spec
     add-size
     add-third
-    add-total
+    add-whole
     repeat-requires
     sub-turn
     part-turn-start
