@@ -1,156 +1,143 @@
 -- A group's contents made whole: the lists of a commutator or a conjugate followed by their inverses, and the repeats. Assumes nothing.
 use Prim.Native.Nat.{ℕ, zero, suc, _+_, _-_, _*_, _≤_}
-use mathlib.Core.Path.{_≡_, refl, sym, ap, ap₂, _∙_}
+use mathlib.Core.Path.{_≡_, refl, sym, ap, ap₂, _∙_, subst}
 use mathlib.Core.Bool.{Bool, true, false}
-use mathlib.Core.List.{List, [], _++_, map, append-assoc, append-nil}
+use mathlib.Core.List.{List, [], _++_, append-assoc, append-nil}
 use native.Mathlib.Nat.{mul-assoc, mul-comm}
 use native.Mathlib.Omega.{arith}
 use borrow.Rule.Slice.PartMut.{putMid}
 use lib.IntN.{ℤ, pos, negsuc, natAbs}
-use lib.ListN.{length, take, drop, length-append, length-reverse, length-map, take-append-drop}
-use lib.Seq.{take-at, drop-at, take-all, take-append-add, drop-drop}
+use lib.ListN.{length, take, drop, length-append, length-drop, take-append-drop}
+use lib.Seq.{take-at, drop-at, take-all, take-add, take-append-add, drop-drop, length-take-le}
 use Rattle.notation.specs.Tree.{Leaf}
-use Rattle.notation.specs.Invert.{undo}
 use Rattle.notation.specs.Packed.{RECORD}
 use Rattle.notation.specs.Entries.{records}
 use Rattle.notation.specs.Unroll.{copies, turned}
 use Rattle.notation.proofs.Marked.{length-copies}
 use Rattle.numbers.specs.Sign.{isNegative}
-use Rattle.laws.proofs.Unrolling.{backwards, flatBinary}
+use Rattle.laws.proofs.Unrolling.{backwards}
 use Rattle.laws.proofs.Counting.{countBinary}
 use Rattle.notation.specs.declared.common.BinaryGroupKind.the-variants.{Commutator}
 use Rattle.expand.specs.Meaning.{binaryKind}
 use Rattle.nodes.specs.Nodes.{part}
-use Rattle.expand.specs.Steps.{AllUndoable, Holds, Wrote, Room, Pair, either}
+use Rattle.expand.specs.Steps.{held, Holds, Wrote, completed, repeats, Pair, Room}
 use Rattle.expand.proofs.Parts.{Three, the-part, put-part}
-use Rattle.expand.proofs.Steps.{length-records, records-append, records-copies}
+use Rattle.expand.proofs.Steps.{length-records, records-append, records-copies, long-backwards}
 
 -- what `repeat` leaves of s
 abbrev Repeated : List ℕ → ℕ → ℕ → List ℕ → Type 0
 Repeated s size total s₁ = (n : ℕ) → total ≤ n * size → s₁ ≡ take total (copies n (take size s)) ++ drop total s
 
-long-backwards : (l : List Leaf) → length (backwards l) ≡ length l
-long-backwards l = length-reverse (map undo l) ∙ length-map l undo
+-- what `turn` leaves of x
+abbrev Backward : List ℕ → List ℕ
+Backward x = records (backwards (held x))
 
-held-part : {s p x q : List ℕ} {a e : ℕ} (l : List Leaf) → Three s p x q a e → x ≡ records l → AllUndoable l → Holds (part a e s) l
-held-part l t e u = record { bytes = the-part t ∙ e; undoable = u }
+held-long : {x : List ℕ} → Holds x → RECORD * length (held x) ≡ length x
+held-long {x} h = sym (length-records (held x)) ∙ ap length (h .bytes)
 
-module _ {s : List ℕ} {k : Bool} {a b : ℕ} {l m : List Leaf} (p : Pair s k a b l m) where
-  long-a : length (records l) ≡ a
-  long-a = length-records l ∙ sym (p .first)
+backward-long : {x : List ℕ} → Holds x → length (Backward x) ≡ length x
+backward-long {x} h = length-records (backwards (held x)) ∙ ap (λ (n : ℕ). RECORD * n) (long-backwards (held x)) ∙ held-long h
 
-  long-b : length (records m) ≡ b
-  long-b = length-records m ∙ sym (p .second)
+module _ {s : List ℕ} {k : Bool} {a b : ℕ} (p : Pair s k a b) where
+  -- the bytes of both lists
+  abbrev x : List ℕ
+  x = take a s
 
-  long-ab : length (records l ++ records m) ≡ a + b
-  long-ab = length-append (records l) (records m) ∙ omega (arith, long-a, long-b)
+  abbrev y : List ℕ
+  y = take b (drop a s)
 
   pub third-room : a + b + a ≤ length s
   third-room = go k (p .room)
     where
-      go : (k : Bool) → RECORD * countBinary (binaryKind k) (length l) (length m) ≤ length s → a + b + a ≤ length s
-      go true h = omega (arith, p .first, p .second)
-      go false h = omega (arith, p .first, p .second)
+      go : (k : Bool) → countBinary (binaryKind k) a b ≤ length s → a + b + a ≤ length s
+      go true h = omega arith
+      go false h = omega arith
 
   pub total-room : k ≡ true → a + b + (a + b) ≤ length s
-  total-room e = let h : RECORD * countBinary Commutator (length l) (length m) ≤ length s = rw e at (p .room) in omega (arith, p .first, p .second)
+  total-room e = let h : countBinary Commutator a b ≤ length s = rw e at (p .room) in omega arith
 
-  pub twice : {s₁ : List ℕ} → Repeated s (a + b) (a + b + (a + b)) s₁ →
-      Three s₁ (records l ++ records m) (records l) (records m ++ drop (a + b + (a + b)) s) (a + b) (a + b + a)
+  long-x : length x ≡ a
+  long-x = length-take-le a s (omega (arith, third-room))
+
+  long-y : length y ≡ b
+  long-y = length-take-le b (drop a s) (omega (arith, third-room, length-drop a s))
+
+  long-xy : length (x ++ y) ≡ a + b
+  long-xy = length-append x y ∙ omega (arith, long-x, long-y)
+
+  -- A and B once more, or A alone
+  pub twice : {s₁ : List ℕ} → Repeated s (a + b) (a + b + (a + b)) s₁ → Three s₁ (x ++ y) x (y ++ drop (a + b + (a + b)) s) (a + b) (a + b + a)
   unfolding copies
   twice r =
       record {
         bytes = r 2 (omega arith)
-            ∙ ap (λ (u : List ℕ). take (a + b + (a + b)) (u ++ (u ++ [])) ++ drop (a + b + (a + b)) s) (p .front)
-            ∙ ap (λ (u : List ℕ). u ++ drop (a + b + (a + b)) s) (take-all (a + b + (a + b)) (w ++ (w ++ [])) (omega (arith, length-append w (w ++ []), ap length (append-nil w), long-ab)) ∙ ap (λ (u : List ℕ). w ++ u) (append-nil w))
-            ∙ append-assoc w w (drop (a + b + (a + b)) s)
-            ∙ ap (λ (u : List ℕ). w ++ u) (append-assoc (records l) (records m) (drop (a + b + (a + b)) s));
-        start = long-ab;
-        end = ap (λ (n : ℕ). a + b + n) long-a;
+            ∙ ap (λ (u : List ℕ). take (a + b + (a + b)) (u ++ (u ++ [])) ++ drop (a + b + (a + b)) s) (take-add a b s)
+            ∙ ap (λ (u : List ℕ). u ++ drop (a + b + (a + b)) s)
+            (take-all (a + b + (a + b)) ((x ++ y) ++ ((x ++ y) ++ [])) (omega (arith, length-append (x ++ y) ((x ++ y) ++ []), ap length (append-nil (x ++ y)), long-xy)))
+            ∙ simp (append-assoc, append-nil);
+        start = long-xy;
+        end = ap (λ (n : ℕ). a + b + n) long-x;
       }
-    where
-      w : List ℕ
-      w = records l ++ records m
 
-  pub once : {s₁ : List ℕ} → Repeated s (a + b) (a + b + a) s₁ →
-      Three s₁ (records l ++ records m) (records l) (drop (a + b + a) s) (a + b) (a + b + a)
+  pub once : {s₁ : List ℕ} → Repeated s (a + b) (a + b + a) s₁ → Three s₁ (x ++ y) x (drop (a + b + a) s) (a + b) (a + b + a)
   unfolding copies
   once r =
       record {
         bytes = r 2 (omega arith)
-            ∙ ap (λ (u : List ℕ). take (a + b + a) (u ++ (u ++ [])) ++ drop (a + b + a) s) (p .front)
+            ∙ ap (λ (u : List ℕ). take (a + b + a) (u ++ (u ++ [])) ++ drop (a + b + a) s) (take-add a b s)
             ∙ ap (λ (u : List ℕ). u ++ drop (a + b + a) s)
-            (ap (λ (n : ℕ). take (n + a) (w ++ (w ++ []))) (sym long-ab) ∙ take-append-add w (w ++ []) a
-            ∙ ap (λ (u : List ℕ). w ++ take a u) (append-nil w) ∙ ap (λ (u : List ℕ). w ++ u) (take-at (records l) (records m) a long-a))
-            ∙ append-assoc w (records l) (drop (a + b + a) s);
-        start = long-ab;
-        end = ap (λ (n : ℕ). a + b + n) long-a;
+            (ap (λ (n : ℕ). take (n + a) ((x ++ y) ++ ((x ++ y) ++ []))) (sym long-xy) ∙ take-append-add (x ++ y) ((x ++ y) ++ []) a
+            ∙ ap (λ (u : List ℕ). (x ++ y) ++ take a u) (append-nil (x ++ y)) ∙ ap (λ (u : List ℕ). (x ++ y) ++ u) (take-at x y a long-x))
+            ∙ append-assoc (x ++ y) x (drop (a + b + a) s);
+        start = long-xy;
+        end = ap (λ (n : ℕ). a + b + n) long-x;
       }
-    where
-      w : List ℕ
-      w = records l ++ records m
 
-  pub first-held : {s₁ q : List ℕ} → Three s₁ (records l ++ records m) (records l) q (a + b) (a + b + a) → Holds (part (a + b) (a + b + a) s₁) l
-  first-held t = held-part l t refl (p .undoableFirst)
+  pub first-held : {s₁ q : List ℕ} → Three s₁ (x ++ y) x q (a + b) (a + b + a) → Holds (part (a + b) (a + b + a) s₁)
+  first-held t = subst Holds (sym (the-part t)) (p .first)
 
   -- of a commutator, once A is turned, B is next
-  pub second-of : {s₁ y : List ℕ} → Three s₁ (records l ++ records m) (records l) (records m ++ drop (a + b + (a + b)) s) (a + b) (a + b + a) →
-      y ≡ records (backwards l) →
-      Three (putMid (a + b) (a + b + a - (a + b)) s₁ y) ((records l ++ records m) ++ records (backwards l)) (records m) (drop (a + b + (a + b)) s) (a + b + a) (a + b + (a + b))
-  second-of {s₁} {y} t e =
+  pub second-of : {s₁ z : List ℕ} → Three s₁ (x ++ y) x (y ++ drop (a + b + (a + b)) s) (a + b) (a + b + a) → z ≡ Backward (part (a + b) (a + b + a) s₁) →
+      Three (putMid (a + b) (a + b + a - (a + b)) s₁ z) ((x ++ y) ++ Backward x) y (drop (a + b + (a + b)) s) (a + b + a) (a + b + (a + b))
+  second-of {s₁} {z} t e =
       record {
-        bytes = put-part t y ∙ ap (λ (z : List ℕ). (records l ++ records m) ++ (z ++ (records m ++ drop (a + b + (a + b)) s))) e
-            ∙ sym (append-assoc (records l ++ records m) (records (backwards l)) (records m ++ drop (a + b + (a + b)) s));
-        start = length-append (records l ++ records m) (records (backwards l)) ∙ omega (arith, long-ab, length-records (backwards l), long-backwards l, p .first);
-        end = omega (arith, long-b);
+        bytes = put-part t z ∙ ap (λ (u : List ℕ). (x ++ y) ++ (u ++ (y ++ drop (a + b + (a + b)) s))) (e ∙ ap Backward (the-part t))
+            ∙ sym (append-assoc (x ++ y) (Backward x) (y ++ drop (a + b + (a + b)) s));
+        start = length-append (x ++ y) (Backward x) ∙ omega (arith, long-xy, backward-long (p .first), long-x);
+        end = omega (arith, long-y);
       }
 
-  pub second-held : {s₂ x q : List ℕ} → Three s₂ x (records m) q (a + b + a) (a + b + (a + b)) → Holds (part (a + b + a) (a + b + (a + b)) s₂) m
-  second-held t = held-part m t refl (p .undoableSecond)
+  pub second-held : {s₂ f q : List ℕ} → Three s₂ f y q (a + b + a) (a + b + (a + b)) → Holds (part (a + b + a) (a + b + (a + b)) s₂)
+  second-held t = subst Holds (sym (the-part t)) (p .second)
 
-  pub commutator-written : k ≡ true → {s₂ y : List ℕ} →
-      Three s₂ ((records l ++ records m) ++ records (backwards l)) (records m) (drop (a + b + (a + b)) s) (a + b + a) (a + b + (a + b)) → y ≡ records (backwards m) →
-      Wrote s (putMid (a + b + a) (a + b + (a + b) - (a + b + a)) s₂ y) (flatBinary (binaryKind k) false (either l) (either m)) (a + b + (a + b))
-  commutator-written h {s₂} {y} t e =
-      rw h (record {
-        size = let z = length-append l (m ++ (backwards l ++ backwards m)) in let z′ = length-append m (backwards l ++ backwards m) in
-            omega (arith, length-append (backwards l) (backwards m), long-backwards l, long-backwards m, p .first, p .second);
-        bytes = put-part t y ∙ ap (λ (z : List ℕ). ((records l ++ records m) ++ records (backwards l)) ++ (z ++ drop (a + b + (a + b)) s)) e
-            ∙ sym (append-assoc ((records l ++ records m) ++ records (backwards l)) (records (backwards m)) (drop (a + b + (a + b)) s))
-            ∙ ap (λ (z : List ℕ). z ++ drop (a + b + (a + b)) s) four;
-      })
-    where
-      four : ((records l ++ records m) ++ records (backwards l)) ++ records (backwards m) ≡ records (l ++ (m ++ (backwards l ++ backwards m)))
-      four =
-          let e : records (l ++ (m ++ (backwards l ++ backwards m))) ≡ records l ++ (records m ++ (records (backwards l) ++ records (backwards m))) = simp records-append in
-          append-assoc (records l ++ records m) (records (backwards l)) (records (backwards m)) ∙ append-assoc (records l) (records m) (records (backwards l) ++ records (backwards m)) ∙ sym e
+  sizes : (RECORD * length (held x) ≡ a) × (RECORD * length (held y) ≡ b)
+  sizes = (held-long (p .first) ∙ long-x, held-long (p .second) ∙ long-y)
 
-  pub conjugate-written : k ≡ false → {s₁ y : List ℕ} →
-      Three s₁ (records l ++ records m) (records l) (drop (a + b + a) s) (a + b) (a + b + a) → y ≡ records (backwards l) →
-      Wrote s (putMid (a + b) (a + b + a - (a + b)) s₁ y) (flatBinary (binaryKind k) false (either l) (either m)) (a + b + a)
-  conjugate-written h {s₁} {y} t e =
+  pub commutator-written : k ≡ true → {s₂ z : List ℕ} → Three s₂ ((x ++ y) ++ Backward x) y (drop (a + b + (a + b)) s) (a + b + a) (a + b + (a + b)) →
+      z ≡ Backward (part (a + b + a) (a + b + (a + b)) s₂) →
+      Wrote s (putMid (a + b + a) (a + b + (a + b) - (a + b + a)) s₂ z) (completed k (held x) (held y)) (a + b + (a + b))
+  commutator-written h {s₂} {z} t e =
       rw h (record {
-        size = let z = length-append l (m ++ backwards l) in
-            omega (arith, length-append m (backwards l), long-backwards l, p .first, p .second);
-        bytes = put-part t y ∙ ap (λ (z : List ℕ). (records l ++ records m) ++ (z ++ drop (a + b + a) s)) e
-            ∙ sym (append-assoc (records l ++ records m) (records (backwards l)) (drop (a + b + a) s))
-            ∙ ap (λ (z : List ℕ). z ++ drop (a + b + a) s) all;
+        size = let u = length-append (held x) (held y ++ (backwards (held x) ++ backwards (held y))) in let u′ = length-append (held y) (backwards (held x) ++ backwards (held y)) in
+            omega (arith, length-append (backwards (held x)) (backwards (held y)), long-backwards (held x), long-backwards (held y), sizes);
+        bytes = put-part t z ∙ ap (λ (u : List ℕ). ((x ++ y) ++ Backward x) ++ (u ++ drop (a + b + (a + b)) s)) (e ∙ ap Backward (the-part t))
+            ∙ ap₂ (λ (u v : List ℕ). ((u ++ v) ++ Backward x) ++ (Backward y ++ drop (a + b + (a + b)) s)) (sym (p .first .bytes)) (sym (p .second .bytes))
+            ∙ simp (records-append, append-assoc);
       })
-    where
-      all : (records l ++ records m) ++ records (backwards l) ≡ records (l ++ (m ++ backwards l))
-      all =
-          let e : records (l ++ (m ++ backwards l)) ≡ records l ++ (records m ++ records (backwards l)) = simp records-append in
-          append-assoc (records l) (records m) (records (backwards l)) ∙ sym e
+
+  pub conjugate-written : k ≡ false → {s₁ z : List ℕ} → Three s₁ (x ++ y) x (drop (a + b + a) s) (a + b) (a + b + a) → z ≡ Backward (part (a + b) (a + b + a) s₁) →
+      Wrote s (putMid (a + b) (a + b + a - (a + b)) s₁ z) (completed k (held x) (held y)) (a + b + a)
+  conjugate-written h {s₁} {z} t e =
+      rw h (record {
+        size = let u = length-append (held x) (held y ++ backwards (held x)) in
+            omega (arith, length-append (held y) (backwards (held x)), long-backwards (held x), sizes);
+        bytes = put-part t z ∙ ap (λ (u : List ℕ). (x ++ y) ++ (u ++ drop (a + b + a) s)) (e ∙ ap Backward (the-part t))
+            ∙ ap₂ (λ (u v : List ℕ). (u ++ v) ++ (Backward x ++ drop (a + b + a) s)) (sym (p .first .bytes)) (sym (p .second .bytes))
+            ∙ simp (records-append, append-assoc);
+      })
 
 -- The repeats of a block.
-module _ {s : List ℕ} {size n : ℕ} {l : List Leaf} (r : Room s size l n) where
-  pub total-is : size * n ≡ RECORD * (n * length l)
-  total-is =
-      ap (λ (z : ℕ). z * n) (r .long) ∙ mul-assoc RECORD (length l) n ∙ ap (λ (z : ℕ). RECORD * z) (mul-comm (length l) n)
-
-  pub repeats-fit : size * n ≤ length s
-  repeats-fit = omega (arith, total-is, r .room)
-
+module _ {s : List ℕ} {size n : ℕ} (r : Room s size n) where
   pub one-repeat : size ≤ size * n
   one-repeat = go n (r .some)
     where
@@ -158,55 +145,65 @@ module _ {s : List ℕ} {size n : ℕ} {l : List Leaf} (r : Room s size l n) whe
       go zero h = absurd (omega arith)
       go (suc n) h = omega (arith, mul-comm size (suc n), mul-comm n size)
 
-  pub contents : Three s [] (records l) (drop size s) 0 size
-  contents =
-      record {
-        bytes = sym (take-append-drop size s) ∙ ap (λ (z : List ℕ). z ++ drop size s) (r .front);
-        start = refl;
-        end = omega (arith, length-records l, r .long);
-      }
+  long-front : length (take size s) ≡ size
+  long-front = length-take-le size s (omega (arith, one-repeat, r .room))
 
-  pub contents-held : Holds (part 0 size s) l
-  contents-held = held-part l contents refl (r .undoable)
+  contents-long : RECORD * length (held (take size s)) ≡ size
+  contents-long = held-long (r .contents) ∙ long-front
 
-  pub block-written : (l′ : List Leaf) (s₁ : List ℕ) {s₂ : List ℕ} → length l′ ≡ length l → s₁ ≡ records l′ ++ drop size s → Repeated s₁ size (size * n) s₂ →
-      Wrote s s₂ (copies n l′) (size * n)
-  block-written l′ s₁ {s₂} h e c =
+  total-is : size * n ≡ RECORD * (n * length (held (take size s)))
+  total-is =
+      ap (λ (z : ℕ). z * n) (sym contents-long) ∙ mul-assoc RECORD (length (held (take size s))) n
+      ∙ ap (λ (z : ℕ). RECORD * z) (mul-comm (length (held (take size s))) n)
+
+  contents : Three s [] (take size s) (drop size s) 0 size
+  contents = record { bytes = sym (take-append-drop size s); start = refl; end = omega (arith, long-front) }
+
+  pub contents-held : Holds (part 0 size s)
+  contents-held = subst Holds (sym (the-part contents)) (r .contents)
+
+  block-written : (l : List Leaf) (s₁ : List ℕ) {s₂ : List ℕ} → length l ≡ length (held (take size s)) → s₁ ≡ records l ++ drop size s → Repeated s₁ size (size * n) s₂ →
+      Wrote s s₂ (copies n l) (size * n)
+  block-written l s₁ {s₂} h e c =
       record {
-        size = total-is ∙ ap (λ (z : ℕ). RECORD * z) (sym (length-copies n l′ ∙ ap (λ (z : ℕ). n * z) h));
+        size = whole;
         bytes = c n (omega (arith, mul-comm size n))
             ∙ ap₂ (λ (x y : List ℕ). x ++ y)
-            (ap (λ (z : List ℕ). take (size * n) (copies n z)) (ap (take size) e ∙ take-at (records l′) (drop size s) size long)
-            ∙ ap (take (size * n)) (sym (records-copies n l′))
-            ∙ take-all (size * n) (records (copies n l′)) (omega (arith, length-records (copies n l′), whole)))
-            (after s₁ ∙ ap (drop (size * n - size)) (ap (drop size) e ∙ drop-at (records l′) (drop size s) size long) ∙ sym (after s));
+            (ap (λ (z : List ℕ). take (size * n) (copies n z)) (ap (take size) e ∙ take-at (records l) (drop size s) size long)
+            ∙ ap (take (size * n)) (sym (records-copies n l))
+            ∙ take-all (size * n) (records (copies n l)) (omega (arith, length-records (copies n l), whole)))
+            (after s₁ ∙ ap (drop (size * n - size)) (ap (drop size) e ∙ drop-at (records l) (drop size s) size long) ∙ sym (after s));
       }
     where
-      long : length (records l′) ≡ size
-      long = length-records l′ ∙ ap (λ (z : ℕ). RECORD * z) h ∙ sym (r .long)
+      long : length (records l) ≡ size
+      long = length-records l ∙ ap (λ (z : ℕ). RECORD * z) h ∙ contents-long
 
-      whole : RECORD * length (copies n l′) ≡ size * n
-      whole = ap (λ (z : ℕ). RECORD * z) (length-copies n l′ ∙ ap (λ (z : ℕ). n * z) h) ∙ sym total-is
+      whole : size * n ≡ RECORD * length (copies n l)
+      whole = total-is ∙ ap (λ (z : ℕ). RECORD * z) (sym (length-copies n l ∙ ap (λ (z : ℕ). n * z) h))
 
       after : (z : List ℕ) → drop (size * n) z ≡ drop (size * n - size) (drop size z)
       after z =
           let q : size + (size * n - size) ≡ size * n = omega (arith, one-repeat) in
           sym (drop-drop (size * n - size) size z ∙ ap (λ (j : ℕ). drop j z) q)
 
-pub turns : (m : ℤ) → isNegative m ≡ true → turned m false ≡ true
+turns : (m : ℤ) → isNegative m ≡ true → turned m false ≡ true
 turns (pos n) g = absurd (let y : _≡_ {A = ℕ} 0 1 = cc in omega arith)
 turns (negsuc n) g = refl
 
-pub keeps : (m : ℤ) → isNegative m ≡ false → turned m false ≡ false
+keeps : (m : ℤ) → isNegative m ≡ false → turned m false ≡ false
 keeps (pos n) g = refl
 keeps (negsuc n) g = absurd (let y : _≡_ {A = ℕ} 0 1 = cc in omega arith)
 
-pub turned-written : (m : ℤ) {s s₁ y s₂ : List ℕ} {size times : ℕ} (l : List Leaf) → times ≡ natAbs m → isNegative m ≡ true → Room s size l (natAbs m) →
-    y ≡ records (backwards l) → s₁ ≡ putMid 0 (size - 0) s y → Repeated s₁ size (size * times) s₂ → Wrote s s₂ (copies (natAbs m) (either l (turned m false))) (size * times)
-turned-written m {s} {s₁} {y} {s₂} {size} {times} l e g r h p c =
-    rw (turns m g, e) (block-written r (backwards l) s₁ (long-backwards l) (p ∙ put-part (contents r) y ∙ ap (λ (z : List ℕ). z ++ drop size s) h) (rw e at c))
+module _ (m : ℤ) {s : List ℕ} {size times : ℕ} (e : times ≡ natAbs m) (r : Room s size (natAbs m)) where
+  pub turned-written : isNegative m ≡ true → {s₁ y s₂ : List ℕ} → y ≡ Backward (part 0 size s) → s₁ ≡ putMid 0 (size - 0) s y → Repeated s₁ size (size * times) s₂ →
+      Wrote s s₂ (repeats m (held (take size s))) (size * times)
+  turned-written g {s₁} {y} {s₂} h p c =
+      rw (turns m g, e)
+      (block-written r (backwards (held (take size s))) s₁ (long-backwards (held (take size s)))
+      (p ∙ put-part (contents r) y ∙ ap (λ (z : List ℕ). z ++ drop size s) (h ∙ ap Backward (the-part (contents r))))
+      (rw e at c))
 
-pub kept-written : (m : ℤ) {s s₂ : List ℕ} {size times : ℕ} (l : List Leaf) → times ≡ natAbs m → isNegative m ≡ false → Room s size l (natAbs m) →
-    Repeated s size (size * times) s₂ → Wrote s s₂ (copies (natAbs m) (either l (turned m false))) (size * times)
-kept-written m {s} {s₂} {size} {times} l e g r c =
-    rw (keeps m g, e) (block-written r l s refl (contents r .bytes) (rw e at c))
+  pub kept-written : isNegative m ≡ false → {s₂ : List ℕ} → Repeated s size (size * times) s₂ → Wrote s s₂ (repeats m (held (take size s))) (size * times)
+  kept-written g c =
+      rw (keeps m g, e)
+      (block-written r (held (take size s)) s refl (contents r .bytes ∙ ap (λ (z : List ℕ). z ++ drop size s) (sym (r .contents .bytes))) (rw e at c))

@@ -3,6 +3,7 @@ use Prim.Native.Nat.{ℕ, zero, suc, _+_, _-_, _*_, _/_, _^_, _≤_, _<_}
 use mathlib.Core.Path.{_≡_, refl, sym, ap, ap₂, _∙_, subst, fun-ext}
 use mathlib.Core.Bool.{Bool, true, false}
 use mathlib.Core.List.{List, [], _++_, append-assoc, append-nil}
+use native.Mathlib.Nat.{mul-assoc, mul-comm}
 use native.Mathlib.Omega.{arith}
 use borrow.Rule.Slice.PartMut.{putMid, midOf, same-len-mid}
 use lib.Dec.{eqb, ltb}
@@ -25,11 +26,12 @@ use Rattle.laws.proofs.Walking.{Packed, no-node}
 use Rattle.laws.proofs.Unrolling.{flatBinary, flatNode, flatBody, flat, flatBody-backwards, flat-backwards}
 use Rattle.laws.proofs.Counting.{countBinary, countNode, countBody, count, countNode-is, countBody-is, count-is}
 use Rattle.expand.specs.Meaning.{binaryKind}
-use Rattle.nodes.specs.Nodes.{IsNode, part, FirstNode, firstList, secondList}
-use Rattle.expand.specs.Steps.{AllUndoable, Wrote, Room, Pair, either}
-use Rattle.nodes.proofs.Nodes.{part-rest, part-length, node-unique, FirstLeaf, leaf-node}
+use Rattle.nodes.specs.Nodes.{IsNode, part, FirstNode, firstList, secondList, Lists}
+use Rattle.expand.specs.Steps.{Undoable, All, held, Wrote, IsGroup, either, completed, repeats, Pair, Room}
+use Rattle.nodes.proofs.Nodes.{part-rest, part-length, alone, first-low, FirstLeaf, leaf-node}
 use Rattle.expand.proofs.Shapes.{Shape, isLeaf, isGroup, isBinary, shape-of}
 use Rattle.expand.proofs.Steps.{length-records, records-append, all-flat, all-flatBody}
+use Rattle.expand.proofs.Held.{holds, same-repeats, same-completed}
 
 -- Writing after writing: over what was written, or behind it.
 written-front : {s s₁ : List ℕ} {l : List Leaf} {a : ℕ} → Wrote s s₁ l a → take a s₁ ≡ records l
@@ -50,7 +52,14 @@ over {s} {s₁} {s₂} {l} {l′} {a} {r} w w′ h =
 pub wrote-fits : {s s₁ : List ℕ} {l : List Leaf} {a : ℕ} → Wrote s s₁ l a → a ≤ length s₁
 wrote-fits {s} {s₁} {l} {a} w = omega (arith, ap length (w .bytes), length-append (records l) (drop a s), length-records l, w .size)
 
-pub behind : {s s₁ y : List ℕ} {l m : List Leaf} {a b : ℕ} → a ≤ length s₁ → Wrote s s₁ l a → Wrote (part a (length s₁) s₁) y m b →
+wrote-longer : {s s₁ : List ℕ} {l : List Leaf} {a : ℕ} → Wrote s s₁ l a → length s ≤ length s₁
+wrote-longer {s} {s₁} {l} {a} w = omega (arith, ap length (w .bytes), length-append (records l) (drop a s), length-drop a s, length-records l, w .size)
+
+wrote-same : {s s₁ : List ℕ} {l l′ : List Leaf} {a : ℕ} → records l ≡ records l′ → Wrote s s₁ l a → Wrote s s₁ l′ a
+wrote-same {s} {s₁} {l} {l′} {a} e w =
+    record { size = omega (arith, w .size, ap length e, length-records l, length-records l′); bytes = w .bytes ∙ ap (λ (x : List ℕ). x ++ drop a s) e }
+
+behind : {s s₁ y : List ℕ} {l m : List Leaf} {a b : ℕ} → a ≤ length s₁ → Wrote s s₁ l a → Wrote (part a (length s₁) s₁) y m b →
     Wrote s (putMid a (length s₁ - a) s₁ y) (l ++ m) (a + b)
 behind {s} {s₁} {y} {l} {m} {a} {b} h w w′ =
     record {
@@ -95,10 +104,6 @@ pub at-least : (n c : ℕ) → 1 ≤ n → c ≤ n * c
 at-least zero c h = absurd (omega arith)
 at-least (suc n) c h = omega arith
 
--- a node's room, whichever way its bytes are read
-pub room-of : {bs : List ℕ} {L L′ : ℕ} (n : Node Leaf) → IsNode bs n → (n₀ : Node Leaf) × (IsNode bs n₀ × (RECORD * countNode n₀ ≤ L)) → L′ ≡ L → RECORD * countNode n ≤ L′
-room-of n s (n₀, (s₀, r)) e = let j = ap countNode (node-unique s s₀) in omega arith
-
 -- a leaf is copied
 pub leaf-room : {bs : List ℕ} {out : ℕ} (l : FirstLeaf bs) → RECORD * countNode (l .first .node) ≤ out → RECORD ≤ out
 unfolding countNode
@@ -112,183 +117,212 @@ leaf-written {bs} {out} {out′} l q =
       bytes = q ∙ ap (λ (a : List ℕ). a ++ drop RECORD out) (sym (leaf-node l .bytes) ∙ sym (append-nil (leafRecord (l .step))));
     })
 
-module _ (n : Node Leaf) (bs : List ℕ) (s : IsNode bs n) {k : ℕ} (e : k ≡ field 0 bs / 16) where
-  shape : (m : ℕ) → m ≡ field 3 bs → Shape k (fromBits 32 m) n
-  shape m f = rw (e, f) (shape-of s)
+-- a node's bytes unroll into what the node does
+one-flat : {bs : List ℕ} {n : Node Leaf} → IsNode bs n → flat undo false (unpack bs) ≡ flatNode undo false n
+unfolding flat
+one-flat {bs} {n} s = ap (flat undo false) (alone s) ∙ append-nil (flatNode undo false n)
 
-  -- a group
-  module _ {m : ℕ} (f : m ≡ field 3 bs) (h : field 0 bs / 16 ≤ 5) where
-    block-flat : flatNode undo false n ≡ copies (natAbs (fromBits 32 m)) (flatBody undo (turned (fromBits 32 m) false) (bodyOf n))
-    unfolding flatNode
-    block-flat = go n (shape m f)
-      where
-        go : {z : ℤ} (n : Node Leaf) → Shape k z n → flatNode undo false n ≡ copies (natAbs z) (flatBody undo (turned z false) (bodyOf n))
-        go (leaf x) (isLeaf l) = absurd (omega arith)
-        go (block (group g a) m) (isGroup l q) = refl
-        go (block (binaryGroup g a b) m) (isBinary l l′ q) = refl
+one-count : {bs : List ℕ} {n : Node Leaf} → IsNode bs n → count (unpack bs) ≡ countNode n
+unfolding count
+one-count s = omega (arith, ap count (alone s))
 
-    block-count : countNode n ≡ natAbs (fromBits 32 m) * countBody (bodyOf n)
-    unfolding countNode
-    block-count = go n (shape m f)
-      where
-        go : {z : ℤ} (n : Node Leaf) → Shape k z n → countNode n ≡ natAbs z * countBody (bodyOf n)
-        go (leaf x) (isLeaf l) = absurd (omega arith)
-        go (block (group g a) m) (isGroup l q) = refl
-        go (block (binaryGroup g a b) m) (isBinary l l′ q) = refl
+pub node-written : {bs s s₁ : List ℕ} {n : Node Leaf} {r : ℕ} → IsNode bs n → Wrote s s₁ (flat undo false (unpack bs)) r → Wrote s s₁ (flatNode undo false n) r
+node-written {bs} {s} {s₁} {n} {r} i w = subst (λ (l : List Leaf). Wrote s s₁ l r) (one-flat i) w
 
-    pub none-written : {out : List ℕ} → m ≡ 0 → Wrote out out (flatNode undo false n) 0
-    unfolding copies records
-    none-written {out} z =
-        let c : flatNode undo false n ≡ [] = block-flat ∙ ap (λ (j : ℕ). copies (natAbs (fromBits 32 j)) (flatBody undo (turned (fromBits 32 j) false) (bodyOf n))) z in
-        subst (λ (l : List Leaf). Wrote out out l 0) (sym c) (record { size = refl; bytes = refl })
+pub group-of : {bs : List ℕ} {e k : ℕ} → FirstNode bs e → k ≡ field 0 bs / 16 → k ≤ 5 → IsGroup (part 0 e bs)
+group-of f q h = record { node = f .node; isNode = f .isNode; low = first-low f q h }
 
-    body-room : {out : ℕ} → m < 2 ^ 32 → ((m ≡ 0) → ⊥) → RECORD * countNode n ≤ out → RECORD * countBody (bodyOf n) ≤ out
-    body-room l z r = omega (arith, block-count, at-least (natAbs (fromBits 32 m)) (countBody (bodyOf n)) (nonzero m l z))
+-- A group.
+module _ {bs : List ℕ} (g : IsGroup bs) {k m : ℕ} (e : k ≡ field 0 bs / 16) (f : m ≡ field 3 bs) where
+  shape : Shape k (fromBits 32 m) (g .node)
+  shape = rw (e, f) (shape-of (g .isNode))
 
-    lists-count : count (firstList n) + count (secondList n) ≤ countBody (bodyOf n)
-    unfolding countBody count
-    lists-count = go n
-      where
-        both : (g : BinaryGroupKind) (a b : ℕ) → a + b ≤ countBinary g a b
-        both Commutator a b = omega arith
-        both Conjugate a b = omega arith
+  block-flat : flat undo false (unpack bs) ≡ copies (natAbs (fromBits 32 m)) (flatBody undo (turned (fromBits 32 m) false) (bodyOf (g .node)))
+  unfolding flatNode
+  block-flat = one-flat (g .isNode) ∙ go (g .node) shape
+    where
+      go : {z : ℤ} (n : Node Leaf) → Shape k z n → flatNode undo false n ≡ copies (natAbs z) (flatBody undo (turned z false) (bodyOf n))
+      go (leaf x) (isLeaf l) = absurd (omega (arith, g .low))
+      go (block (group g a) m) (isGroup l q) = refl
+      go (block (binaryGroup g a b) m) (isBinary l l′ q) = refl
 
-        go : (n : Node Leaf) → count (firstList n) + count (secondList n) ≤ countBody (bodyOf n)
-        go (leaf x) = omega arith
-        go (block (group g a) m) = omega arith
-        go (block (binaryGroup g a b) m) = both g (count a) (count b)
+  block-count : count (unpack bs) ≡ natAbs (fromBits 32 m) * countBody (bodyOf (g .node))
+  unfolding countNode
+  block-count = one-count (g .isNode) ∙ go (g .node) shape
+    where
+      go : {z : ℤ} (n : Node Leaf) → Shape k z n → countNode n ≡ natAbs z * countBody (bodyOf n)
+      go (leaf x) (isLeaf l) = absurd (omega (arith, g .low))
+      go (block (group g a) m) (isGroup l q) = refl
+      go (block (binaryGroup g a b) m) (isBinary l l′ q) = refl
 
-    pub first-room : {out : ℕ} → m < 2 ^ 32 → ((m ≡ 0) → ⊥) → RECORD * countNode n ≤ out → {t : Tree} → t ≡ firstList n → RECORD * count t ≤ out
-    first-room l z r q = let j = ap count q in omega (arith, body-room l z r, lists-count)
+  pub none-written : {out : List ℕ} → m ≡ 0 → Wrote out out (flat undo false (unpack bs)) 0
+  unfolding copies records
+  none-written {out} z =
+      let c : flat undo false (unpack bs) ≡ [] = block-flat ∙ ap (λ (j : ℕ). copies (natAbs (fromBits 32 j)) (flatBody undo (turned (fromBits 32 j) false) (bodyOf (g .node)))) z in
+      subst (λ (l : List Leaf). Wrote out out l 0) (sym c) (record { size = refl; bytes = refl })
 
-    pub second-room : (out : List ℕ) {a : ℕ} → m < 2 ^ 32 → ((m ≡ 0) → ⊥) → RECORD * countNode n ≤ length out → {before : List ℕ} {t : Tree} → t ≡ firstList n →
-        Wrote before out (flat undo false t) a → {t′ : Tree} → t′ ≡ secondList n → RECORD * count t′ ≤ length (part a (length out) out)
-    second-room out {a} l z r {before} {t} p w q =
-        let j = ap count q in
-        let i = ap count p in
-        omega (arith, body-room l z r, lists-count, w .size, count-is t false, ap length (part-rest a out), length-drop a out)
+  body-undoable : All Undoable (flatBody undo false (bodyOf (g .node)))
+  unfolding FitsNode FitsBody FitsTree
+  body-undoable = go (g .node) (g .isNode .fits)
+    where
+      go : (n : Node Leaf) → FitsNode n → All Undoable (flatBody undo false (bodyOf n))
+      go (leaf x) q = all-flatBody (group Simple nil) false tt
+      go (block b m) q = all-flatBody b false (q .1)
 
-    -- the contents, written once, and their repeats
-    block-room : {out : List ℕ} {s₁ : List ℕ} {a : ℕ} → m < 2 ^ 32 → ((m ≡ 0) → ⊥) → RECORD * countNode n ≤ length s₁ → AllUndoable (flatBody undo false (bodyOf n)) →
-        Wrote out s₁ (flatBody undo false (bodyOf n)) a → Room s₁ a (flatBody undo false (bodyOf n)) (natAbs (fromBits 32 m))
-    block-room l z r u w =
-        record {
-          long = w .size;
-          front = written-front w;
-          undoable = u;
-          some = nonzero m l z;
-          room = omega (arith, block-count, ap (λ (j : ℕ). natAbs (fromBits 32 m) * j) (countBody-is (bodyOf n) false));
-        }
+  lists-count : count (firstList (g .node)) + count (secondList (g .node)) ≤ countBody (bodyOf (g .node))
+  unfolding countBody count
+  lists-count = go (g .node)
+    where
+      both : (g : BinaryGroupKind) (a b : ℕ) → a + b ≤ countBinary g a b
+      both Commutator a b = omega arith
+      both Conjugate a b = omega arith
 
-    block-done : {out s₁ s₂ : List ℕ} {a r : ℕ} → m < 2 ^ 32 → ((m ≡ 0) → ⊥) → Wrote out s₁ (flatBody undo false (bodyOf n)) a →
-        Wrote s₁ s₂ (copies (natAbs (fromBits 32 m)) (either (flatBody undo false (bodyOf n)) (turned (fromBits 32 m) false))) r → Wrote out s₂ (flatNode undo false n) r
-    block-done {out} {s₁} {s₂} {a} {r} l z w w′ =
-        let c = ap (copies (natAbs (fromBits 32 m))) (either-body (bodyOf n) (turned (fromBits 32 m) false)) ∙ sym block-flat in
-        let w″ = subst (λ (x : List Leaf). Wrote s₁ s₂ x r) c w′ in
-        over w w″ (omega (arith, w .size, w″ .size, countBody-is (bodyOf n) false, countNode-is n false, block-count, at-least (natAbs (fromBits 32 m)) (countBody (bodyOf n)) (nonzero m l z)))
+      go : (n : Node Leaf) → count (firstList n) + count (secondList n) ≤ countBody (bodyOf n)
+      go (leaf x) = omega arith
+      go (block (group g a) m) = omega arith
+      go (block (binaryGroup g a b) m) = both g (count a) (count b)
 
-    body-undoable : AllUndoable (flatBody undo false (bodyOf n))
-    unfolding FitsNode FitsBody FitsTree
-    body-undoable = go n (s .fits)
-      where
-        go : (n : Node Leaf) → FitsNode n → AllUndoable (flatBody undo false (bodyOf n))
-        go (leaf x) q = all-flatBody (group Simple nil) false tt
-        go (block b m) q = all-flatBody b false (q .1)
+  -- that is repeated at least once
+  module _ (v : m < 2 ^ 32) (z : (m ≡ 0) → ⊥) where
+    body-room : {out : ℕ} → RECORD * count (unpack bs) ≤ out → RECORD * countBody (bodyOf (g .node)) ≤ out
+    body-room r = omega (arith, block-count, at-least (natAbs (fromBits 32 m)) (countBody (bodyOf (g .node))) (nonzero m v z))
 
-    -- a plain group
-    group-flat : k < 4 → flat undo false (firstList n) ≡ flatBody undo false (bodyOf n)
-    unfolding flatBody
-    group-flat l = go n (shape m f)
-      where
-        go : {z : ℤ} (n : Node Leaf) → Shape k z n → flat undo false (firstList n) ≡ flatBody undo false (bodyOf n)
-        go (leaf x) (isLeaf l′) = absurd (omega arith)
-        go (block (group g a) m) (isGroup l′ q) = refl
-        go (block (binaryGroup g a b) m) (isBinary l′ l″ q) = absurd (omega arith)
+    -- its contents, written once, and their repeats
+    module _ {out s₁ : List ℕ} {l : List Leaf} {a : ℕ} (w : Wrote out s₁ l a) (q : l ≡ flatBody undo false (bodyOf (g .node))) (r : RECORD * count (unpack bs) ≤ length out) where
+      l-undoable : All Undoable l
+      l-undoable = subst (All Undoable) (sym q) body-undoable
 
-    group-wrote : k < 4 → {out s₁ : List ℕ} {a : ℕ} {t : Tree} → t ≡ firstList n → Wrote out s₁ (flat undo false t) a → Wrote out s₁ (flatBody undo false (bodyOf n)) a
-    group-wrote l {out} {s₁} {a} q w = subst (λ (x : List Leaf). Wrote out s₁ x a) (ap (flat undo false) q ∙ group-flat l) w
+      l-count : length l ≡ countBody (bodyOf (g .node))
+      l-count = ap length q ∙ countBody-is (bodyOf (g .node)) false
 
-    pub group-room : k < 4 → m < 2 ^ 32 → ((m ≡ 0) → ⊥) → {out s₁ : List ℕ} {a : ℕ} {t : Tree} → RECORD * countNode n ≤ length s₁ → t ≡ firstList n →
-        Wrote out s₁ (flat undo false t) a → (l : List Leaf) × Room s₁ a l (natAbs (fromBits 32 m))
-    group-room l b z r q w = (flatBody undo false (bodyOf n), block-room b z r body-undoable (group-wrote l q w))
-
-    pub group-written : k < 4 → m < 2 ^ 32 → ((m ≡ 0) → ⊥) → {out s₁ s₂ : List ℕ} {a r : ℕ} {t : Tree} → RECORD * countNode n ≤ length s₁ → t ≡ firstList n →
-        Wrote out s₁ (flat undo false t) a →
-        ((l : List Leaf) → Room s₁ a l (natAbs (fromBits 32 m)) → Wrote s₁ s₂ (copies (natAbs (fromBits 32 m)) (either l (turned (fromBits 32 m) false))) r) →
-        Wrote out s₂ (flatNode undo false n) r
-    group-written l b z h q w c =
-        let v = group-wrote l q w in
-        block-done b z v (c (flatBody undo false (bodyOf n)) (block-room b z h body-undoable v))
-
-    -- a commutator or a conjugate
-    module _ (l : 4 ≤ k) {out s₁ y : List ℕ} {a b : ℕ} {t t′ : Tree} (o : a ≤ length s₁) (q : t ≡ firstList n) (w : Wrote out s₁ (flat undo false t) a)
-        (q′ : t′ ≡ secondList n) (w′ : Wrote (part a (length s₁) s₁) y (flat undo false t′) b) (r : RECORD * countNode n ≤ length (putMid a (length s₁ - a) s₁ y))
-        (v : m < 2 ^ 32) (z : (m ≡ 0) → ⊥) where
-      both-wrote : Wrote out (putMid a (length s₁ - a) s₁ y) (flat undo false (firstList n) ++ flat undo false (secondList n)) (a + b)
-      both-wrote = behind o (subst (λ (x : Tree). Wrote out s₁ (flat undo false x) a) q w) (subst (λ (x : Tree). Wrote (part a (length s₁) s₁) y (flat undo false x) b) q′ w′)
-
-      binary-count : countBody (bodyOf n) ≡ countBinary (binaryKind (eqb k 4)) (count (firstList n)) (count (secondList n))
-      unfolding countBody
-      binary-count = go n (shape m f)
-        where
-          go : {z : ℤ} (n : Node Leaf) → Shape k z n → countBody (bodyOf n) ≡ countBinary (binaryKind (eqb k 4)) (count (firstList n)) (count (secondList n))
-          go (leaf x) (isLeaf l′) = absurd (omega arith)
-          go (block (group g a) m) (isGroup l′ q) = absurd (omega arith)
-          go (block (binaryGroup g a b) m) (isBinary l′ l″ q) = rw q
-
-      binary-flat : flatBinary (binaryKind (eqb k 4)) false (either (flat undo false (firstList n))) (either (flat undo false (secondList n))) ≡ flatBody undo false (bodyOf n)
-      unfolding flatBody
-      binary-flat = go n (shape m f)
-        where
-          go : {z : ℤ} (n : Node Leaf) → Shape k z n →
-              flatBinary (binaryKind (eqb k 4)) false (either (flat undo false (firstList n))) (either (flat undo false (secondList n))) ≡ flatBody undo false (bodyOf n)
-          go (leaf x) (isLeaf l′) = absurd (omega arith)
-          go (block (group g a) m) (isGroup l′ q) = absurd (omega arith)
-          go (block (binaryGroup g a b) m) (isBinary l′ l″ q) =
-              rw q (ap₂ (λ (x x′ : Bool → List Leaf). flatBinary g false x x′) (fun-ext λ d. either-flat a d) (fun-ext λ d. either-flat b d))
-
-      lists-pair : Pair (putMid a (length s₁ - a) s₁ y) (eqb k 4) a b (flat undo false (firstList n)) (flat undo false (secondList n))
-      unfolding FitsNode FitsBody FitsTree
-      lists-pair =
+      block-room : Room s₁ a (natAbs (fromBits 32 m))
+      block-room =
           record {
-            first = w .size ∙ ap (λ (x : Tree). RECORD * length (flat undo false x)) q;
-            second = w′ .size ∙ ap (λ (x : Tree). RECORD * length (flat undo false x)) q′;
-            front = written-front both-wrote ∙ records-append (flat undo false (firstList n)) (flat undo false (secondList n));
-            undoableFirst = first n (s .fits);
-            undoableSecond = second n (s .fits);
-            room = subst (λ (j : ℕ). RECORD * j ≤ length (putMid a (length s₁ - a) s₁ y))
-                (binary-count ∙ ap₂ (countBinary (binaryKind (eqb k 4))) (sym (count-is (firstList n) false)) (sym (count-is (secondList n) false)))
-                (body-room v z r);
+            contents = holds (written-front w) l-undoable;
+            some = nonzero m v z;
+            room = omega (arith, wrote-longer w, block-count, total);
           }
         where
-          first : (n : Node Leaf) → FitsNode n → AllUndoable (flat undo false (firstList n))
-          first (leaf x) p = all-flat nil false tt
-          first (block (group g a) m) p = all-flat a false (p .1)
-          first (block (binaryGroup g a b) m) p = all-flat a false (p .1 .0)
+          total : a * natAbs (fromBits 32 m) ≡ RECORD * (natAbs (fromBits 32 m) * countBody (bodyOf (g .node)))
+          total = ap (λ (j : ℕ). j * natAbs (fromBits 32 m)) (w .size ∙ ap (λ (j : ℕ). RECORD * j) l-count) ∙ mul-assoc RECORD (countBody (bodyOf (g .node))) (natAbs (fromBits 32 m))
+              ∙ ap (λ (j : ℕ). RECORD * j) (mul-comm (countBody (bodyOf (g .node))) (natAbs (fromBits 32 m)))
 
-          second : (n : Node Leaf) → FitsNode n → AllUndoable (flat undo false (secondList n))
-          second (leaf x) p = all-flat nil false tt
-          second (block (group g a) m) p = all-flat nil false tt
-          second (block (binaryGroup g a b) m) p = all-flat b false (p .1 .1)
+      block-done : {s₂ : List ℕ} {r₂ : ℕ} → Wrote s₁ s₂ (repeats (fromBits 32 m) (held (take a s₁))) r₂ → Wrote out s₂ (flat undo false (unpack bs)) r₂
+      block-done {s₂} {r₂} w′ =
+          let c = ap (copies (natAbs (fromBits 32 m))) (ap (λ (x : List Leaf). either x (turned (fromBits 32 m) false)) q ∙ either-body (bodyOf (g .node)) (turned (fromBits 32 m) false)) ∙ sym block-flat in
+          let w″ = subst (λ (x : List Leaf). Wrote s₁ s₂ x r₂) c (wrote-same (same-repeats (written-front w) l-undoable (fromBits 32 m)) w′) in
+          over w w″ (omega (arith, w .size, w″ .size, l-count, count-is (unpack bs) false, block-count, at-least (natAbs (fromBits 32 m)) (countBody (bodyOf (g .node))) (nonzero m v z)))
 
-      pub binary-pair : (x : List Leaf) × ((x′ : List Leaf) × Pair (putMid a (length s₁ - a) s₁ y) (eqb k 4) a b x x′)
-      binary-pair = (flat undo false (firstList n), (flat undo false (secondList n), lists-pair))
+    -- given where its lists lie
+    module _ {mid : ℕ} (p : Lists bs mid) where
+      abbrev t : Tree
+      t = unpack (part RECORD mid bs)
 
-      module _ {s₃ : List ℕ} {size : ℕ} (r₃ : RECORD * countNode n ≤ length s₃)
-          (c : (x x′ : List Leaf) → Pair (putMid a (length s₁ - a) s₁ y) (eqb k 4) a b x x′ →
-          Wrote (putMid a (length s₁ - a) s₁ y) s₃ (flatBinary (binaryKind (eqb k 4)) false (either x) (either x′)) size) where
-        body-wrote : Wrote out s₃ (flatBody undo false (bodyOf n)) size
-        body-wrote =
-            let d = subst (λ (x : List Leaf). Wrote (putMid a (length s₁ - a) s₁ y) s₃ x size) binary-flat (c (flat undo false (firstList n)) (flat undo false (secondList n)) lists-pair) in
-            over both-wrote d (omega (arith, both-wrote .size, d .size, length-append (flat undo false (firstList n)) (flat undo false (secondList n)), count-is (firstList n) false, count-is (secondList n) false, countBody-is (bodyOf n) false, lists-count))
+      abbrev t′ : Tree
+      t′ = unpack (part mid (length bs) bs)
 
-        pub binary-room : (x : List Leaf) × Room s₃ size x (natAbs (fromBits 32 m))
-        binary-room = (flatBody undo false (bodyOf n), block-room v z r₃ body-undoable body-wrote)
+      first-is : t ≡ firstList (g .node)
+      first-is = p .unpacksFirst (g .node) (g .isNode)
 
-        pub binary-written : {s₄ : List ℕ} {r₄ : ℕ} →
-            ((x : List Leaf) → Room s₃ size x (natAbs (fromBits 32 m)) → Wrote s₃ s₄ (copies (natAbs (fromBits 32 m)) (either x (turned (fromBits 32 m) false))) r₄) →
-            Wrote out s₄ (flatNode undo false n) r₄
-        binary-written c′ = block-done v z body-wrote (c′ (flatBody undo false (bodyOf n)) (block-room v z r₃ body-undoable body-wrote))
+      second-is : t′ ≡ secondList (g .node)
+      second-is = p .unpacksSecond (g .node) (g .isNode)
+
+      counts : count t + count t′ ≤ countBody (bodyOf (g .node))
+      counts = omega (arith, lists-count, ap count first-is, ap count second-is)
+
+      pub first-room : {out : ℕ} → RECORD * count (unpack bs) ≤ out → RECORD * count t ≤ out
+      first-room r = omega (arith, body-room r, counts)
+
+      module _ {out s₁ : List ℕ} {a : ℕ} (w : Wrote out s₁ (flat undo false t) a) (r : RECORD * count (unpack bs) ≤ length out) where
+        -- a plain group
+        module _ (l : k < 4) where
+          group-flat : flat undo false t ≡ flatBody undo false (bodyOf (g .node))
+          unfolding flatBody
+          group-flat = ap (flat undo false) first-is ∙ go (g .node) shape
+            where
+              go : {z : ℤ} (n : Node Leaf) → Shape k z n → flat undo false (firstList n) ≡ flatBody undo false (bodyOf n)
+              go (leaf x) (isLeaf l′) = absurd (omega (arith, g .low))
+              go (block (group g a) m) (isGroup l′ q) = refl
+              go (block (binaryGroup g a b) m) (isBinary l′ l″ q) = absurd (omega arith)
+
+          pub group-room : Room s₁ a (natAbs (fromBits 32 m))
+          group-room = block-room w group-flat r
+
+          pub group-written : {s₂ : List ℕ} {r₂ : ℕ} → Wrote s₁ s₂ (repeats (fromBits 32 m) (held (take a s₁))) r₂ → Wrote out s₂ (flat undo false (unpack bs)) r₂
+          group-written w′ = block-done w group-flat r w′
+
+        -- a commutator or a conjugate
+        pub second-room : RECORD * count t′ ≤ length (part a (length s₁) s₁)
+        second-room = omega (arith, body-room r, counts, w .size, count-is t false, wrote-longer w, ap length (part-rest a s₁), length-drop a s₁)
+
+        module _ (l : 4 ≤ k) {y : List ℕ} {b : ℕ} (w′ : Wrote (part a (length s₁) s₁) y (flat undo false t′) b) where
+          abbrev s₂ : List ℕ
+          s₂ = putMid a (length s₁ - a) s₁ y
+
+          both-wrote : Wrote out s₂ (flat undo false t ++ flat undo false t′) (a + b)
+          both-wrote = behind (wrote-fits w) w w′
+
+          binary-count : countBody (bodyOf (g .node)) ≡ countBinary (binaryKind (eqb k 4)) (count t) (count t′)
+          unfolding countBody
+          binary-count = go (g .node) shape ∙ sym (ap₂ (countBinary (binaryKind (eqb k 4))) (ap count first-is) (ap count second-is))
+            where
+              go : {z : ℤ} (n : Node Leaf) → Shape k z n → countBody (bodyOf n) ≡ countBinary (binaryKind (eqb k 4)) (count (firstList n)) (count (secondList n))
+              go (leaf x) (isLeaf l′) = absurd (omega (arith, g .low))
+              go (block (group g a) m) (isGroup l′ q) = absurd (omega arith)
+              go (block (binaryGroup g a b) m) (isBinary l′ l″ q) = rw q
+
+          binary-flat : completed (eqb k 4) (flat undo false t) (flat undo false t′) ≡ flatBody undo false (bodyOf (g .node))
+          unfolding flatBody
+          binary-flat = ap₂ (λ (x x′ : Tree). completed (eqb k 4) (flat undo false x) (flat undo false x′)) first-is second-is ∙ go (g .node) shape
+            where
+              go : {z : ℤ} (n : Node Leaf) → Shape k z n → completed (eqb k 4) (flat undo false (firstList n)) (flat undo false (secondList n)) ≡ flatBody undo false (bodyOf n)
+              go (leaf x) (isLeaf l′) = absurd (omega (arith, g .low))
+              go (block (group g a) m) (isGroup l′ q) = absurd (omega arith)
+              go (block (binaryGroup g a b) m) (isBinary l′ l″ q) =
+                  rw q (ap₂ (λ (x x′ : Bool → List Leaf). flatBinary g false x x′) (fun-ext λ d. either-flat a d) (fun-ext λ d. either-flat b d))
+
+          both-bytes : s₂ ≡ records (flat undo false t) ++ (records (flat undo false t′) ++ drop (a + b) out)
+          both-bytes =
+              both-wrote .bytes ∙ ap (λ (x : List ℕ). x ++ drop (a + b) out) (records-append (flat undo false t) (flat undo false t′))
+              ∙ append-assoc (records (flat undo false t)) (records (flat undo false t′)) (drop (a + b) out)
+
+          first-bytes : take a s₂ ≡ records (flat undo false t)
+          first-bytes = ap (take a) both-bytes ∙ take-at (records (flat undo false t)) _ a (length-records (flat undo false t) ∙ sym (w .size))
+
+          second-bytes : take b (drop a s₂) ≡ records (flat undo false t′)
+          second-bytes =
+              ap (λ (x : List ℕ). take b (drop a x)) both-bytes ∙ ap (take b) (drop-at (records (flat undo false t)) _ a (length-records (flat undo false t) ∙ sym (w .size)))
+              ∙ take-at (records (flat undo false t′)) (drop (a + b) out) b (length-records (flat undo false t′) ∙ sym (w′ .size))
+
+          first-undoable : All Undoable (flat undo false t)
+          first-undoable = all-flat t false (p .packedFirst .fits)
+
+          second-undoable : All Undoable (flat undo false t′)
+          second-undoable = all-flat t′ false (p .packedSecond .fits)
+
+          pub binary-pair : Pair s₂ (eqb k 4) a b
+          binary-pair =
+              record {
+                first = holds first-bytes first-undoable;
+                second = holds second-bytes second-undoable;
+                room = omega (arith, body-room r, binary-count, wrote-longer both-wrote, in-bytes (eqb k 4), w .size, w′ .size, count-is t false, count-is t′ false);
+              }
+            where
+              in-bytes : (h : Bool) → countBinary (binaryKind h) a b ≡ RECORD * countBinary (binaryKind h) (count t) (count t′)
+              in-bytes true = omega (arith, w .size, w′ .size, count-is t false, count-is t′ false)
+              in-bytes false = omega (arith, w .size, w′ .size, count-is t false, count-is t′ false)
+
+          module _ {s₃ : List ℕ} {size : ℕ} (c : Wrote s₂ s₃ (completed (eqb k 4) (held (take a s₂)) (held (take b (drop a s₂)))) size) where
+            body-wrote : Wrote out s₃ (flatBody undo false (bodyOf (g .node))) size
+            body-wrote =
+                let d = subst (λ (x : List Leaf). Wrote s₂ s₃ x size) binary-flat (wrote-same (same-completed (eqb k 4) first-bytes first-undoable second-bytes second-undoable) c) in
+                over both-wrote d (omega (arith, w .size, w′ .size, d .size, count-is t false, count-is t′ false, countBody-is (bodyOf (g .node)) false, counts))
+
+            pub binary-room : Room s₃ size (natAbs (fromBits 32 m))
+            binary-room = block-room body-wrote refl r
+
+            pub binary-written : {s₄ : List ℕ} {r₄ : ℕ} → Wrote s₃ s₄ (repeats (fromBits 32 m) (held (take size s₃))) r₄ → Wrote out s₄ (flat undo false (unpack bs)) r₄
+            binary-written c′ = block-done body-wrote refl r c′
 
 -- The loop over a list: what is done, followed by what is left, is the whole.
 pub record Flattening (tree before t out : List ℕ) (at : ℕ) : Type 0 where
@@ -310,8 +344,11 @@ module _ {tree before t out : List ℕ} {at e : ℕ} (w : Flattening tree before
   unfolding count
   counted = ap count (f .unpacks)
 
-  pub node-fits : RECORD * countNode (f .node) ≤ length (part at (length out) out)
-  node-fits = omega (arith, w .room, counted, ap length (part-rest at out), length-drop at out)
+  pub leaf-fits : RECORD * countNode (f .node) ≤ length (part at (length out) out)
+  leaf-fits = omega (arith, w .room, counted, ap length (part-rest at out), length-drop at out)
+
+  pub node-fits : RECORD * count (unpack (part 0 e t)) ≤ length (part at (length out) out)
+  node-fits = omega (arith, leaf-fits, one-count (f .isNode))
 
   pub next-fits : {y : List ℕ} {r : ℕ} → Wrote (part at (length out) out) y (flatNode undo false (f .node)) r → at + r ≤ length out
   next-fits v = omega (arith, w .room, counted, v .size, countNode-is (f .node) false)

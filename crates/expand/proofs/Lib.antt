@@ -4,6 +4,7 @@ pub mod Summaries
 pub mod Visiting
 pub mod Steps
 pub mod Undoing
+pub mod Held
 pub mod Parts
 pub mod Repeating
 pub mod Turning

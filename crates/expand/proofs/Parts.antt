@@ -6,9 +6,7 @@ use native.Mathlib.Omega.{arith}
 use borrow.Rule.Slice.PartMut.{midOf, putMid, post-is, same-len-mid}
 use lib.ListN.{length, take, drop, length-append}
 use lib.Seq.{take-at, drop-at}
-use Rattle.bytes.specs.Bytes.{slice}
 use Rattle.nodes.specs.Nodes.{part}
-use Rattle.nodes.proofs.Nodes.{length-part}
 
 pub record Three (s p x q : List ℕ) (a e : ℕ) : Type 0 where
   pub bytes : s ≡ p ++ (x ++ q)
@@ -32,13 +30,6 @@ module _ {s p x q : List ℕ} {a e : ℕ} (h : Three s p x q a e) where
 
   pub after-part : drop e s ≡ q
   after-part = ap (drop e) (h .bytes ∙ sym (append-assoc p x q)) ∙ drop-at (p ++ x) q e both-long
-
-  pub sliced-part : slice a e s ≡ x
-  unfolding slice
-  sliced-part =
-      ap (λ (t : List ℕ). drop a (take e t)) (h .bytes ∙ sym (append-assoc p x q))
-      ∙ ap (drop a) (take-at (p ++ x) q e both-long)
-      ∙ drop-at p x a (h .start)
 
   -- the middle put back after it was lent
   pub put-part : (y : List ℕ) → putMid a (e - a) s y ≡ p ++ (y ++ q)

@@ -1,12 +1,12 @@
 -- Steps written as records, one after the other, and which of them can be undone. Assumes nothing.
 use Prim.Native.Nat.{ℕ, zero, suc, _*_, _≤_, _<_}
-use mathlib.Core.Path.{_≡_, refl, sym, ap, _∙_, subst}
+use mathlib.Core.Path.{_≡_, refl, sym, ap, _∙_}
 use mathlib.Core.Bool.{Bool, true, false}
-use mathlib.Core.List.{List, [], _∷_, _++_, reverse, append-assoc, reverse-cons}
+use mathlib.Core.List.{List, [], _∷_, _++_, map, append-assoc}
 use native.Mathlib.Omega.{arith}
 use borrow.Author.Tests.{ltb-true}
 use lib.IntN.{ℤ, pos, negsuc, negℤ, natAbs}
-use lib.ListN.{length, length-append}
+use lib.ListN.{length, length-append, length-reverse, length-map}
 use Rattle.notation.specs.Basics.{pick}
 use Rattle.notation.specs.Tree.{Leaf, rotation, move, pause, pair, slash, megaminx, Node, leaf, block, Body, group, binaryGroup, nil, cons, Tree}
 use Rattle.notation.specs.Packed.{RECORD, leafHead, leafRecord}
@@ -18,8 +18,8 @@ use Rattle.notation.specs.declared.common.BinaryGroupKind.the-variants.{Commuta
 use Rattle.record.specs.Range.{FitsNumber, FitsLeaf}
 use Rattle.record.proofs.RoundTrip.{length-record25}
 use Rattle.laws.proofs.Packing.{FitsNode, FitsBody, FitsTree}
-use Rattle.laws.proofs.Unrolling.{flatBinary, flatNode, flatBody, flat}
-use Rattle.expand.specs.Steps.{Small, Undoable, AllUndoable, none, one}
+use Rattle.laws.proofs.Unrolling.{backwards, flatBinary, flatNode, flatBody, flat}
+use Rattle.expand.specs.Steps.{Small, Undoable, All, none, one}
 
 pub length-records : (l : List Leaf) → length (records l) ≡ RECORD * length l
 unfolding records
@@ -36,16 +36,34 @@ unfolding records copies
 records-copies zero l = refl
 records-copies (suc n) l = records-append l (copies n l) ∙ ap (λ (s : List ℕ). records l ++ s) (records-copies n l)
 
--- Steps that can be undone.
-pub all-append : {a b : List Leaf} → AllUndoable a → AllUndoable b → AllUndoable (a ++ b)
+pub long-backwards : (l : List Leaf) → length (backwards l) ≡ length l
+long-backwards l = length-reverse (map undo l) ∙ length-map l undo
+
+-- Lists of which something holds throughout.
+pub all-append : {P : Leaf → Type 0} {a b : List Leaf} → All P a → All P b → All P (a ++ b)
 all-append none q = q
 all-append (one h p) q = one h (all-append p q)
 
-pub all-copies : (n : ℕ) {l : List Leaf} → AllUndoable l → AllUndoable (copies n l)
+pub all-head : {P : Leaf → Type 0} {x : Leaf} {l : List Leaf} → All P (x ∷ l) → P x
+all-head (one h p) = h
+
+pub all-tail : {P : Leaf → Type 0} {x : Leaf} {l : List Leaf} → All P (x ∷ l) → All P l
+all-tail (one h p) = p
+
+pub all-left : {P : Leaf → Type 0} (a b : List Leaf) → All P (a ++ b) → All P a
+all-left [] b p = none
+all-left (x ∷ a) b (one h p) = one h (all-left a b p)
+
+pub all-right : {P : Leaf → Type 0} (a : List Leaf) {b : List Leaf} → All P (a ++ b) → All P b
+all-right [] p = p
+all-right (x ∷ a) (one h p) = all-right a p
+
+all-copies : {P : Leaf → Type 0} (n : ℕ) {l : List Leaf} → All P l → All P (copies n l)
 unfolding copies
 all-copies zero p = none
 all-copies (suc n) p = all-append p (all-copies n p)
 
+-- Steps that can be undone.
 pub small-opposite : {z : ℤ} → Small z → Small (negℤ z)
 small-opposite {z} h = go z (h .most)
   where
@@ -62,14 +80,6 @@ undo-undoable (pair u d) (h, k) = (small-opposite h, small-opposite k)
 undo-undoable slash h = tt
 undo-undoable (megaminx k) h = tt
 
-pub all-reverse : {l : List Leaf} → AllUndoable l → AllUndoable (reverse l)
-all-reverse none = none
-all-reverse (one {x = x} {l = l} h p) = subst AllUndoable (sym (reverse-cons x l)) (all-append (all-reverse p) (one h none))
-
-pub all-right : (a : List Leaf) {b : List Leaf} → AllUndoable (a ++ b) → AllUndoable b
-all-right [] p = p
-all-right (x ∷ a) (one h p) = all-right a p
-
 small-fits : (z : ℤ) → FitsNumber z → Small z
 small-fits (pos n) f = let h : n < 2147483648 = ltb-true n 2147483648 f in record { most = omega arith }
 small-fits (negsuc n) f = let h : n < 2147483648 = ltb-true n 2147483648 f in record { most = omega arith }
@@ -82,27 +92,27 @@ fits-undoable (pair u d) (h, k) = (small-fits u h, small-fits d k)
 fits-undoable slash h = tt
 fits-undoable (megaminx k) h = tt
 
-all-binary : (k : BinaryGroupKind) (d : Bool) (a b : Bool → List Leaf) → ((e : Bool) → AllUndoable (a e)) → ((e : Bool) → AllUndoable (b e)) → AllUndoable (flatBinary k d a b)
+all-binary : (k : BinaryGroupKind) (d : Bool) (a b : Bool → List Leaf) → ((e : Bool) → All Undoable (a e)) → ((e : Bool) → All Undoable (b e)) → All Undoable (flatBinary k d a b)
 all-binary Commutator false a b p q = all-append (p false) (all-append (q false) (all-append (p true) (q true)))
 all-binary Commutator true a b p q = all-append (q false) (all-append (p false) (all-append (q true) (p true)))
 all-binary Conjugate d a b p q = all-append (p false) (all-append (q d) (p true))
 
-all-leaf : (d : Bool) (x : Leaf) → FitsLeaf x → AllUndoable (pick d (undo x) x ∷ [])
+all-leaf : (d : Bool) (x : Leaf) → FitsLeaf x → All Undoable (pick d (undo x) x ∷ [])
 all-leaf true x f = one (undo-undoable x (fits-undoable x f)) none
 all-leaf false x f = one (fits-undoable x f) none
 
 mutual
   unfolding FitsNode FitsBody FitsTree flatNode flatBody flat
 
-  pub all-flatNode : (n : Node Leaf) (d : Bool) → FitsNode n → AllUndoable (flatNode undo d n)
+  pub all-flatNode : (n : Node Leaf) (d : Bool) → FitsNode n → All Undoable (flatNode undo d n)
   all-flatNode (leaf x) d f = all-leaf d x f
   all-flatNode (block b m) d f = all-copies (natAbs m) (all-flatBody b (turned m d) (f .1))
 
-  pub all-flatBody : (b : Body Leaf) (d : Bool) → FitsBody b → AllUndoable (flatBody undo d b)
+  pub all-flatBody : (b : Body Leaf) (d : Bool) → FitsBody b → All Undoable (flatBody undo d b)
   all-flatBody (group k a) d f = all-flat a d f
   all-flatBody (binaryGroup k a b) d f = all-binary k d (λ e. flat undo e a) (λ e. flat undo e b) (λ e. all-flat a e (f .0)) (λ e. all-flat b e (f .1))
 
-  pub all-flat : (t : Tree) (d : Bool) → FitsTree t → AllUndoable (flat undo d t)
+  pub all-flat : (t : Tree) (d : Bool) → FitsTree t → All Undoable (flat undo d t)
   all-flat nil d f = none
   all-flat (cons n l) true f = all-append (all-flat l true (f .1)) (all-flatNode n true (f .0))
   all-flat (cons n l) false f = all-append (all-flatNode n false (f .0)) (all-flat l false (f .1))

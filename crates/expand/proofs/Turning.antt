@@ -1,199 +1,309 @@
--- A run of steps turned round in place: the bytes are reversed, then those of each record, and the record is undone. Assumes nothing.
-use Prim.Native.Nat.{ℕ, suc, _+_, _-_, _*_, _≤_, _<_}
+-- A run of steps turned round in place: the first and the last change places, each undone, and so inwards. Assumes nothing.
+use Prim.Native.Nat.{ℕ, _+_, _-_, _*_, _≤_, _<_}
 use mathlib.Core.Path.{_≡_, refl, sym, ap, ap₂, _∙_, subst}
-use mathlib.Core.List.{List, [], _∷_, _++_, map, reverse, append-assoc, append-nil, reverse-cons, map-append}
+use mathlib.Core.List.{List, [], _∷_, _++_, append-assoc, append-nil}
 use native.Mathlib.Omega.{arith}
-use borrow.Rule.Slice.PartMut.{putMid}
-use lib.ListN.{length, take, drop, length-append, length-reverse, length-map}
-use lib.Seq.{take-length, drop-length}
-use Rattle.bytes.specs.Bytes.{rev, slice}
-use Rattle.bytes.proofs.Laws.{rev-rev, rev-append}
+use borrow.Rule.Slice.PartMut.{putMid, midOf, same-len-mid}
+use lib.ListN.{length, take, drop, length-append, length-drop, take-append-drop}
+use lib.Seq.{take-at, drop-at, drop-drop, drop-length}
 use Rattle.notation.specs.Tree.{Leaf}
 use Rattle.notation.specs.Invert.{undo}
-use Rattle.notation.specs.Packed.{RECORD, leafHead, leafRecord}
+use Rattle.notation.specs.Packed.{RECORD, Head, leafHead, leafRecord, record25, headAt}
 use Rattle.notation.specs.Entries.{records}
-use Rattle.record.specs.Undone.{StartsRecord}
+use Rattle.record.specs.Range.{FitsLeaf}
+use Rattle.record.specs.Undone.{StartsRecord, undoneHead}
 use Rattle.record.proofs.RoundTrip.{length-record25}
-use Rattle.record.proofs.Undoing.{Undone}
-use Rattle.laws.proofs.Unrolling.{backwards}
+use Rattle.record.proofs.Undoing.{Undone, head-with, starts-with, undone-with}
+use Rattle.laws.proofs.Unrolling.{backwards, backwards-append}
 use Rattle.nodes.specs.Nodes.{part}
-use Rattle.expand.specs.Steps.{Undoable, AllUndoable, one, Holds}
-use Rattle.expand.proofs.Parts.{Three, before-part, the-part, after-part, sliced-part, put-part}
-use Rattle.expand.proofs.Steps.{length-records, records-append, all-right, all-reverse}
-use Rattle.expand.proofs.Undoing.{step-starts, step-undone}
+use Rattle.expand.specs.Steps.{All, held, Holds, lastOf, undoneRecord}
+use Rattle.expand.proofs.Parts.{Three, from-part, the-part, put-part}
+use Rattle.expand.proofs.Steps.{length-records, records-append, long-backwards, all-head, all-tail, all-left, all-right}
+use Rattle.expand.proofs.Held.{records-backwards}
 
--- the records of steps, each with its bytes reversed
-unfoldable backBytes : List Leaf → List ℕ
-backBytes [] = []
-backBytes (x ∷ l) = rev (leafRecord x) ++ backBytes l
+-- Bytes with a record at either end.
+record Ends (s x m y : List ℕ) : Type 0 where
+  bytes : s ≡ x ++ (m ++ y)
+  first : length x ≡ RECORD
+  last : length y ≡ RECORD
 
-back-append : (a b : List Leaf) → backBytes (a ++ b) ≡ backBytes a ++ backBytes b
-unfolding backBytes
-back-append [] b = refl
-back-append (x ∷ a) b = ap (λ (s : List ℕ). rev (leafRecord x) ++ s) (back-append a b) ∙ sym (append-assoc (rev (leafRecord x)) (backBytes a) (backBytes b))
+module _ {s x m y : List ℕ} (e : Ends s x m y) where
+  ends-long : length s ≡ RECORD + (length m + RECORD)
+  ends-long = ap length (e .bytes) ∙ length-append x (m ++ y) ∙ omega (arith, length-append m y, e .first, e .last)
 
-rev-records : (l : List Leaf) → rev (records l) ≡ backBytes (reverse l)
-unfolding backBytes records rev
-rev-records [] = refl
-rev-records (x ∷ l) =
-    rev-append (leafRecord x) (records l)
-    ∙ ap₂ (λ (a b : List ℕ). a ++ b) (rev-records l) (sym (append-nil (rev (leafRecord x))))
-    ∙ sym (back-append (reverse l) (x ∷ []))
-    ∙ ap backBytes (sym (reverse-cons x l))
+  after-first : drop RECORD s ≡ m ++ y
+  after-first = ap (drop RECORD) (e .bytes) ∙ drop-at x (m ++ y) RECORD (e .first)
 
-long-back : (x : Leaf) → length (rev (leafRecord x)) ≡ RECORD
-unfolding rev
-long-back x = length-reverse (leafRecord x) ∙ length-record25 (leafHead x)
+  first-part : part 0 RECORD s ≡ x
+  first-part = ap (take RECORD) (e .bytes) ∙ take-at x (m ++ y) RECORD (e .first)
 
--- how far it is: the steps that are turned, and those to come
-record Turned (r : List Leaf) (steps : List ℕ) (from : ℕ) : Type 0 where
-  done : List Leaf
-  todo : List Leaf
-  splits : r ≡ done ++ todo
-  at : from ≡ RECORD * length done
-  bytes : steps ≡ records (map undo done) ++ backBytes todo
+  first-replaced : {s₁ x′ : List ℕ} → length x′ ≡ RECORD → s₁ ≡ x′ ++ drop RECORD s → Ends s₁ x′ m y
+  first-replaced {s₁} {x′} l p = record { bytes = p ∙ ap (λ (z : List ℕ). x′ ++ z) after-first; first = l; last = e .last }
 
-pub record Turning (before steps : List ℕ) (from : ℕ) : Type 0 where
-  pub long : length steps ≡ length before
-  turned : (r : List Leaf) → before ≡ backBytes r → AllUndoable r → Turned r steps from
+  middle-part : part RECORD (length s - RECORD) s ≡ m
+  middle-part =
+      let z : length m ≡ length s - RECORD - RECORD = omega (arith, ends-long) in
+      ap (take (length s - RECORD - RECORD)) after-first ∙ take-at m y (length s - RECORD - RECORD) z
 
-pub turning-starts : (before : List ℕ) → Turning before before 0
-unfolding records
-turning-starts before = record { long = refl; turned = λ r e u. record { done = []; todo = r; splits = refl; at = refl; bytes = e } }
+  module _ (to : ℕ) (t : to + RECORD ≡ length s) where
+    last-three : Three s (x ++ m) y [] to (length s)
+    last-three =
+        record {
+          bytes = e .bytes ∙ sym (append-assoc x m y) ∙ ap (λ (z : List ℕ). (x ++ m) ++ z) (sym (append-nil y));
+          start = length-append x m ∙ omega (arith, ends-long, e .first);
+          end = omega (arith, e .last);
+        }
 
--- the step that is next
-record Next (r : List Leaf) (s : List ℕ) (from : ℕ) : Type 0 where
-  done : List Leaf
-  step : Leaf
-  rest : List Leaf
-  splits : r ≡ done ++ (step ∷ rest)
-  at : from ≡ RECORD * length done
-  three : Three s (records (map undo done)) (rev (leafRecord step)) (backBytes rest) from (from + RECORD)
+    last-part : part to (length s) s ≡ y
+    last-part = the-part last-three
 
-next-of : (r : List Leaf) (s : List ℕ) (from : ℕ) → Turned r s from → from < length s → Next r s from
-unfolding backBytes
-next-of r s from t h = go (t .todo) (t .splits) (t .bytes)
-  where
-    long : length (records (map undo (t .done))) ≡ from
-    long = length-records (map undo (t .done)) ∙ ap (λ (n : ℕ). RECORD * n) (length-map (t .done) undo) ∙ sym (t .at)
+    last-replaced : {y′ : List ℕ} → length y′ ≡ RECORD → Ends (putMid to (length s - to) s y′) x m y′
+    last-replaced {y′} l =
+        record { bytes = put-part last-three y′ ∙ ap (λ (z : List ℕ). (x ++ m) ++ z) (append-nil y′) ∙ append-assoc x m y′; first = e .first; last = l }
 
-    go : (l : List Leaf) → r ≡ t .done ++ l → s ≡ records (map undo (t .done)) ++ backBytes l → Next r s from
-    go [] p e = absurd (let z : length s ≡ from = ap length (e ∙ append-nil (records (map undo (t .done)))) ∙ long in omega arith)
-    go (y ∷ l) p e =
-        record { done = t .done; step = y; rest = l; splits = p; at = t .at; three = record { bytes = e; start = long; end = omega (arith, long-back y) } }
+-- what is copied of a record lies over all of another
+over-all : {x r : List ℕ} (z : List ℕ) → length z ≡ RECORD → r ≡ x ++ drop RECORD z → r ≡ x
+over-all {x} z l e = e ∙ ap (λ (k : ℕ). x ++ drop k z) (sym l) ∙ ap (λ (d : List ℕ). x ++ d) (drop-length z) ∙ append-nil x
 
-long-all : (l : List Leaf) → length (backBytes l) ≡ RECORD * length l
-unfolding backBytes
-long-all [] = refl
-long-all (x ∷ l) = length-append (rev (leafRecord x)) (backBytes l) ∙ omega (arith, long-back x, long-all l)
+-- given a run of records whose ends are exchanged
+module _ {s : List ℕ} (l : RECORD + RECORD ≤ length s) (b : StartsRecord s × StartsRecord (lastOf s)) where
+  abbrev first-head : Head
+  first-head = headAt s
 
-turned-long : (r : List Leaf) (s : List ℕ) (from : ℕ) → Turned r s from → length s ≡ RECORD * length r
-turned-long r s from t =
-    let d : length (records (map undo (t .done))) ≡ RECORD * length (t .done) = length-records (map undo (t .done)) ∙ ap (λ (n : ℕ). RECORD * n) (length-map (t .done) undo) in
-    let z : length r ≡ length (t .done) + length (t .todo) = ap length (t .splits) ∙ length-append (t .done) (t .todo) in
-    ap length (t .bytes) ∙ length-append (records (map undo (t .done))) (backBytes (t .todo)) ∙ omega (arith, long-all (t .todo))
+  abbrev last-head : Head
+  last-head = headAt (lastOf s)
 
--- its record reversed
-next-reversed : {r : List Leaf} {s s₁ : List ℕ} {from : ℕ} (n : Next r s from) → s₁ ≡ take from s ++ (rev (slice from (from + RECORD) s) ++ drop (from + RECORD) s) →
-    Three s₁ (records (map undo (n .done))) (leafRecord (n .step)) (backBytes (n .rest)) from (from + RECORD)
-next-reversed {r} {s} {s₁} {from} n e =
-    record {
-      bytes = e ∙ ap₂ (λ (a b : List ℕ). a ++ (rev b ++ drop (from + RECORD) s)) (before-part (n .three)) (sliced-part (n .three))
-          ∙ ap₂ (λ (a b : List ℕ). records (map undo (n .done)) ++ (a ++ b)) (rev-rev (leafRecord (n .step))) (after-part (n .three));
-      start = n .three .start;
-      end = ap (λ (k : ℕ). from + k) (length-record25 (leafHead (n .step)));
-    }
+  abbrev to : ℕ
+  to = length s - RECORD
 
-next-undoable : {r : List Leaf} {s : List ℕ} {from : ℕ} (n : Next r s from) → AllUndoable r → Undoable (n .step)
-next-undoable n u = go (all-right (n .done) (subst AllUndoable (n .splits) u))
-  where
-    go : {z : Leaf} {l : List Leaf} → AllUndoable (z ∷ l) → Undoable z
-    go (one h t) = h
+  abbrev between : List ℕ
+  between = part RECORD to s
 
-next-part : {r : List Leaf} {s s₁ : List ℕ} {from : ℕ} (n : Next r s from) → s₁ ≡ take from s ++ (rev (slice from (from + RECORD) s) ++ drop (from + RECORD) s) →
-    part from (from + RECORD) s₁ ≡ leafRecord (n .step) ++ []
-next-part n e = the-part (next-reversed n e) ∙ sym (append-nil (leafRecord (n .step)))
+  to-last : to + RECORD ≡ length s
+  to-last = omega arith
 
--- one step further: the record reversed, then undone
-turned-on : (r : List Leaf) (s s₁ y : List ℕ) (from : ℕ) → Next r s from → AllUndoable r →
-    s₁ ≡ take from s ++ (rev (slice from (from + RECORD) s) ++ drop (from + RECORD) s) →
-    Undone (part from (from + RECORD) s₁) y →
-    Turned r (putMid from (from + RECORD - from) s₁ y) (from + RECORD)
-unfolding records
-turned-on r s s₁ y from n u e c =
-    record {
-      done = n .done ++ (n .step ∷ []);
-      todo = n .rest;
-      splits = n .splits ∙ sym (append-assoc (n .done) (n .step ∷ []) (n .rest));
-      at = omega (arith, n .at, length-append (n .done) (n .step ∷ []));
-      bytes = put-part (next-reversed n e) y
-          ∙ ap (λ (z : List ℕ). p ++ (z ++ q)) (step-undone (n .step) (next-undoable n u) (part from (from + RECORD) s₁) [] (next-part n e) c)
-          ∙ sym (append-assoc p (leafRecord (undo (n .step)) ++ []) q)
-          ∙ ap (λ (z : List ℕ). z ++ q) (sym (records-append (map undo (n .done)) (undo (n .step) ∷ [])) ∙ ap records (sym (map-append undo (n .done) (n .step ∷ []))));
-    }
-  where
-    p : List ℕ
-    p = records (map undo (n .done))
-
-    q : List ℕ
-    q = backBytes (n .rest)
-
--- given some steps that are turned
-module _ (entry : List ℕ) {before steps : List ℕ} {from : ℕ} (t : Turning before steps from) (e : before ≡ rev entry) where
-  turned-of : (l : List Leaf) → Holds entry l → Turned (reverse l) steps from
-  turned-of l h = t .turned (reverse l) (e ∙ ap rev (h .bytes) ∙ rev-records l) (all-reverse (h .undoable))
-
-  pub same-long : length steps ≡ length entry
-  unfolding rev
-  same-long = t .long ∙ ap length e ∙ length-reverse entry
-
-  pub record-left : (l : List Leaf) × Holds entry l → from < length entry → from + RECORD ≤ length entry
-  record-left (l, h) k =
-      let n = next-of (reverse l) steps from (turned-of l h) (omega (arith, same-long)) in
-      let z : length steps ≡ length (records (map undo (n .done))) + length (rev (leafRecord (n .step)) ++ backBytes (n .rest)) = ap length (n .three .bytes) ∙ length-append (records (map undo (n .done))) _ in
-      let y = length-append (rev (leafRecord (n .step))) (backBytes (n .rest)) in
-      omega (arith, n .three .start, n .three .end, same-long)
-
-  pub record-starts : (l : List Leaf) × Holds entry l → from < length entry → {s₁ : List ℕ} →
-      s₁ ≡ take from steps ++ (rev (slice from (from + RECORD) steps) ++ drop (from + RECORD) steps) →
-      StartsRecord (part from (from + RECORD) s₁)
-  record-starts (l, h) k {s₁} p =
-      let n = next-of (reverse l) steps from (turned-of l h) (omega (arith, same-long)) in
-      step-starts (n .step) (next-undoable n (all-reverse (h .undoable))) (part from (from + RECORD) s₁) [] (next-part n p)
-
-  pub turning-goes-on : (l : List Leaf) × Holds entry l → from < length entry → {s₁ y : List ℕ} →
-      s₁ ≡ take from steps ++ (rev (slice from (from + RECORD) steps) ++ drop (from + RECORD) steps) →
-      Undone (part from (from + RECORD) s₁) y →
-      Turning before (putMid from (from + RECORD - from) s₁ y) (from + RECORD)
-  turning-goes-on (l, h) k {s₁} {y} p c =
+  both-ends : Ends s (record25 first-head) between (record25 last-head)
+  both-ends =
       record {
-        long = turned-long (reverse l) _ _ (on (reverse l) (e ∙ ap rev (h .bytes) ∙ rev-records l) (all-reverse (h .undoable))) ∙ sym (turned-long (reverse l) steps from (turned-of l h)) ∙ t .long;
-        turned = on;
+        bytes = sym (b .0 .whole) ∙ ap (λ (z : List ℕ). record25 first-head ++ z)
+            (sym (take-append-drop (to - RECORD) (drop RECORD s)) ∙ ap (λ (z : List ℕ). between ++ z) (drop-drop (to - RECORD) RECORD s ∙ ap (λ (k : ℕ). drop k s) back ∙ alone));
+        first = length-record25 first-head;
+        last = length-record25 last-head;
       }
     where
-      on : (r : List Leaf) → before ≡ backBytes r → AllUndoable r → Turned r (putMid from (from + RECORD - from) s₁ y) (from + RECORD)
-      on r q u = turned-on r steps s₁ y from (next-of r steps from (t .turned r q u) (omega (arith, same-long))) u p c
+      back : RECORD + (to - RECORD) ≡ to
+      back = omega (arith, to-last)
 
-  pub turned-whole : length entry ≤ from → (l : List Leaf) → Holds entry l → steps ≡ records (backwards l)
-  unfolding backBytes
-  turned-whole k l h = go (w .todo) (w .splits) (w .bytes)
+      long : length (lastOf s) ≡ RECORD
+      long = length-drop to s ∙ omega (arith, to-last)
+
+      alone : lastOf s ≡ record25 last-head
+      alone = over-all (lastOf s) long (sym (b .1 .whole))
+
+  module _ {first last s₁ y : List ℕ} (e : first ≡ part 0 RECORD s ++ []) (e′ : last ≡ part to (length s) s ++ [])
+      (c : s₁ ≡ last ++ drop RECORD s) (c′ : y ≡ first ++ drop RECORD (part to (length s₁) s₁)) where
+    first-copied : first ≡ record25 first-head
+    first-copied = e ∙ append-nil (part 0 RECORD s) ∙ first-part both-ends
+
+    last-copied : last ≡ record25 last-head
+    last-copied = e′ ∙ append-nil (part to (length s) s) ∙ last-part both-ends to to-last
+
+    one-copied : Ends s₁ (record25 last-head) between (record25 last-head)
+    one-copied = first-replaced both-ends (length-record25 last-head) (c ∙ ap (λ (d : List ℕ). d ++ drop RECORD s) last-copied)
+
+    to-last₁ : to + RECORD ≡ length s₁
+    to-last₁ = to-last ∙ ends-long both-ends ∙ sym (ends-long one-copied)
+
+    y-is : y ≡ record25 first-head
+    y-is = over-all (part to (length s₁) s₁) (ap length (last-part one-copied to to-last₁) ∙ length-record25 last-head) c′ ∙ first-copied
+
+    exchanged : Ends (putMid to (length s₁ - to) s₁ y) (record25 last-head) between (record25 first-head)
+    exchanged =
+        subst (Ends (putMid to (length s₁ - to) s₁ y) (record25 last-head) between) y-is
+        (last-replaced one-copied to to-last₁ (ap length y-is ∙ length-record25 first-head))
+
+    pub front-starts : StartsRecord (putMid to (length s₁ - to) s₁ y)
+    front-starts = starts-with _ last-head (between ++ record25 first-head) (b .1 .fits) (exchanged .bytes)
+
+    module _ {s₃ : List ℕ} (u : Undone (putMid to (length s₁ - to) s₁ y) s₃) where
+      front-undone : Ends s₃ (record25 (undoneHead last-head)) between (record25 first-head)
+      front-undone =
+          record {
+            bytes = undone-with _ last-head (between ++ record25 first-head) (b .1 .fits) (exchanged .bytes) u;
+            first = length-record25 (undoneHead last-head);
+            last = length-record25 first-head;
+          }
+
+      to-last₃ : to + RECORD ≡ length s₃
+      to-last₃ = to-last ∙ ends-long both-ends ∙ sym (ends-long front-undone)
+
+      back-is : part to (length s₃) s₃ ≡ record25 first-head ++ []
+      back-is = last-part front-undone to to-last₃ ∙ sym (append-nil (record25 first-head))
+
+      pub back-starts : StartsRecord (part to (length s₃) s₃)
+      back-starts = starts-with _ first-head [] (b .0 .fits) back-is
+
+      pub ends-exchanged : {y₃ : List ℕ} → Undone (part to (length s₃) s₃) y₃ → putMid to (length s₃ - to) s₃ y₃ ≡ undoneRecord (lastOf s) ++ (between ++ undoneRecord s)
+      ends-exchanged {y₃} v =
+          let p : y₃ ≡ record25 (undoneHead first-head) = undone-with _ first-head [] (b .0 .fits) back-is v ∙ append-nil (record25 (undoneHead first-head)) in
+          last-replaced front-undone to to-last₃ (ap length p ∙ length-record25 (undoneHead first-head)) .bytes
+          ∙ ap (λ (d : List ℕ). record25 (undoneHead last-head) ++ (between ++ d)) p
+
+-- A list of two or more, taken apart at both ends.
+record Parted (l : List Leaf) : Type 0 where
+  first : Leaf
+  middle : List Leaf
+  last : Leaf
+  is : l ≡ first ∷ (middle ++ (last ∷ []))
+
+parted : (l : List Leaf) → 2 ≤ length l → Parted l
+parted [] h = absurd (omega arith)
+parted (x ∷ []) h = absurd (omega arith)
+parted (x ∷ (z ∷ l)) h = let p = from z l in record { first = x; middle = p .0; last = p .1 .0; is = ap (λ (d : List Leaf). x ∷ d) (p .1 .1) }
+  where
+    from : (z : Leaf) (l : List Leaf) → (m : List Leaf) × ((y : Leaf) × (z ∷ l ≡ m ++ (y ∷ [])))
+    from z [] = ([], (z, refl))
+    from z (w ∷ l) = let p = from w l in (z ∷ p .0, (p .1 .0, ap (λ (d : List Leaf). z ∷ d) (p .1 .1)))
+
+parted-records : {l : List Leaf} (p : Parted l) → records l ≡ leafRecord (p .first) ++ (records (p .middle) ++ leafRecord (p .last))
+unfolding records
+parted-records p =
+    ap records (p .is)
+    ∙ ap (λ (d : List ℕ). leafRecord (p .first) ++ d) (records-append (p .middle) (p .last ∷ []) ∙ ap (λ (d : List ℕ). records (p .middle) ++ d) (append-nil (leafRecord (p .last))))
+
+-- How far the steps are turned: those at the front were the last, those at the back the first.
+pub record Turning (entry steps : List ℕ) (from to : ℕ) : Type 0 where
+  front : List Leaf
+  todo : List Leaf
+  back : List Leaf
+  splits : held entry ≡ front ++ (todo ++ back)
+  at : from ≡ RECORD * length back
+  up : to ≡ from + RECORD * length todo
+  bytes : steps ≡ records (backwards back) ++ (records todo ++ records (backwards front))
+  pub long : length steps ≡ length entry
+  pub order : from ≤ to
+  pub within : to ≤ length steps
+
+pub turning-starts : (entry : List ℕ) → Holds entry → Turning entry entry 0 (length entry)
+unfolding records
+turning-starts entry h =
+    record {
+      front = [];
+      todo = held entry;
+      back = [];
+      splits = sym (append-nil (held entry));
+      at = refl;
+      up = omega (arith, ap length (h .bytes), length-records (held entry));
+      bytes = sym (h .bytes) ∙ sym (append-nil (records (held entry)));
+      long = refl;
+      order = omega arith;
+      within = omega arith;
+    }
+
+backwards-records : (l : List Leaf) (x : Leaf) → records (backwards (l ++ (x ∷ []))) ≡ leafRecord (undo x) ++ records (backwards l)
+unfolding records
+backwards-records l x = ap records (backwards-append l (x ∷ []))
+
+module _ {entry steps : List ℕ} {from to : ℕ} (h : Holds entry) (t : Turning entry steps from to) where
+  three : Three steps (records (backwards (t .back))) (records (t .todo)) (records (backwards (t .front))) from to
+  three =
+      record {
+        bytes = t .bytes;
+        start = length-records (backwards (t .back)) ∙ omega (arith, long-backwards (t .back), t .at);
+        end = omega (arith, t .up, length-records (t .todo));
+      }
+
+  todo-fits : All FitsLeaf (t .todo)
+  todo-fits = all-left (t .todo) (t .back) (all-right (t .front) (subst (All FitsLeaf) (t .splits) (h .fits)))
+
+  -- two or more are left
+  module _ (k : from + RECORD < to) where
+    two : Parted (t .todo)
+    two = parted (t .todo) (omega (arith, t .up))
+
+    ends : Ends (part from to steps) (leafRecord (two .first)) (records (two .middle)) (leafRecord (two .last))
+    ends = record { bytes = the-part three ∙ parted-records two; first = length-record25 (leafHead (two .first)); last = length-record25 (leafHead (two .last)) }
+
+    pub two-long : RECORD + RECORD ≤ length (part from to steps)
+    two-long = omega (arith, ends-long ends)
+
+    last-is : lastOf (part from to steps) ≡ leafRecord (two .last) ++ []
+    last-is = let z : length (part from to steps) - RECORD + RECORD ≡ length (part from to steps) = omega (arith, two-long) in from-part (last-three ends (length (part from to steps) - RECORD) z)
+
+    two-fit : FitsLeaf (two .first) × FitsLeaf (two .last)
+    two-fit = let p = subst (All FitsLeaf) (two .is) todo-fits in (all-head p, all-head (all-right (two .middle) (all-tail p)))
+
+    pub ends-start : StartsRecord (part from to steps) × StartsRecord (lastOf (part from to steps))
+    ends-start = (starts-with _ (leafHead (two .first)) _ (two-fit .0) (ends .bytes), starts-with _ (leafHead (two .last)) [] (two-fit .1) last-is)
+
+    module _ {y : List ℕ} (c : y ≡ undoneRecord (lastOf (part from to steps)) ++ (part RECORD (length (part from to steps) - RECORD) (part from to steps) ++ undoneRecord (part from to steps))) where
+      ends-turned : y ≡ leafRecord (undo (two .last)) ++ (records (two .middle) ++ leafRecord (undo (two .first)))
+      ends-turned =
+          c ∙ ap₂ (λ (g g′ : Head). record25 (undoneHead g) ++ (part RECORD (length (part from to steps) - RECORD) (part from to steps) ++ record25 (undoneHead g′)))
+          (head-with _ (leafHead (two .last)) [] (two-fit .1) last-is) (head-with _ (leafHead (two .first)) _ (two-fit .0) (ends .bytes))
+          ∙ ap (λ (z : List ℕ). leafRecord (undo (two .last)) ++ (z ++ leafRecord (undo (two .first)))) (middle-part ends)
+
+      pub turning-goes-on : length y ≡ length (midOf from (to - from) steps) → Turning entry (putMid from (to - from) steps y) (from + RECORD) (to - RECORD)
+      turning-goes-on q =
+          record {
+            front = t .front ++ (two .first ∷ []);
+            todo = two .middle;
+            back = two .last ∷ t .back;
+            splits = t .splits ∙ ap (λ (l : List Leaf). t .front ++ (l ++ t .back)) (two .is) ∙ moved;
+            at = omega (arith, t .at);
+            up = omega (arith, t .up, ap length (two .is), length-append (two .middle) (two .last ∷ []));
+            bytes = put-part three y ∙ ap (λ (z : List ℕ). records (backwards (t .back)) ++ (z ++ records (backwards (t .front)))) ends-turned ∙ outer;
+            long = same-len-mid from (to - from) steps y q ∙ t .long;
+            order = omega (arith, t .up, ap length (two .is), length-append (two .middle) (two .last ∷ []));
+            within = omega (arith, t .within, same-len-mid from (to - from) steps y q);
+          }
+        where
+          moved : t .front ++ ((two .first ∷ (two .middle ++ (two .last ∷ []))) ++ t .back) ≡ (t .front ++ (two .first ∷ [])) ++ (two .middle ++ (two .last ∷ t .back))
+          moved = simp append-assoc
+
+          outer : records (backwards (t .back)) ++ ((leafRecord (undo (two .last)) ++ (records (two .middle) ++ leafRecord (undo (two .first)))) ++ records (backwards (t .front)))
+              ≡ records (backwards (two .last ∷ t .back)) ++ (records (two .middle) ++ records (backwards (t .front ++ (two .first ∷ []))))
+          outer = rw (records-backwards (two .last) (t .back), backwards-records (t .front) (two .first)) (simp (append-assoc, append-nil))
+
+  whole : (l : List Leaf) → t .todo ≡ l → records (backwards (t .back)) ++ (records (backwards l) ++ records (backwards (t .front))) ≡ records (backwards (held entry))
+  whole l e =
+      sym (ap (λ (k : List Leaf). records (backwards k)) (t .splits ∙ ap (λ (k : List Leaf). t .front ++ (k ++ t .back)) e)
+      ∙ ap records (backwards-append (t .front) (l ++ t .back) ∙ ap (λ (k : List Leaf). k ++ backwards (t .front)) (backwards-append l (t .back)))
+      ∙ simp (records-append, append-assoc))
+
+  -- one is left
+  module _ (k : to ≤ from + RECORD) (o : from < to) where
+    only : (x : Leaf) × (t .todo ≡ x ∷ [])
+    only = go (t .todo) (omega (arith, t .up)) (omega (arith, t .up))
+      where
+        go : (l : List Leaf) → 1 ≤ length l → length l ≤ 1 → (x : Leaf) × (l ≡ x ∷ [])
+        go [] h h′ = absurd (omega arith)
+        go (x ∷ []) h h′ = (x, refl)
+        go (x ∷ (y ∷ l)) h h′ = absurd (omega arith)
+
+    only-is : part from to steps ≡ leafRecord (only .0) ++ []
+    unfolding records
+    only-is = the-part three ∙ ap records (only .1)
+
+    only-fits : FitsLeaf (only .0)
+    only-fits = all-head (subst (All FitsLeaf) (only .1) todo-fits)
+
+    pub only-starts : StartsRecord (part from to steps)
+    only-starts = starts-with _ (leafHead (only .0)) [] only-fits only-is
+
+    pub turned-odd : {y : List ℕ} → Undone (part from to steps) y → putMid from (to - from) steps y ≡ records (backwards (held entry))
+    unfolding records
+    turned-odd {y} c =
+        put-part three y
+        ∙ ap (λ (z : List ℕ). records (backwards (t .back)) ++ (z ++ records (backwards (t .front)))) (undone-with _ (leafHead (only .0)) [] only-fits only-is c)
+        ∙ whole (only .0 ∷ []) (only .1)
+
+  pub turned-even : to ≤ from → steps ≡ records (backwards (held entry))
+  unfolding records
+  turned-even k =
+      let e : t .todo ≡ [] = none (t .todo) (omega (arith, t .up)) in
+      t .bytes ∙ ap (λ (l : List Leaf). records (backwards (t .back)) ++ (records l ++ records (backwards (t .front)))) e ∙ whole [] e
     where
-      w : Turned (reverse l) steps from
-      w = turned-of l h
-
-      undo-reverse : (l : List Leaf) → map undo (reverse l) ≡ reverse (map undo l)
-      undo-reverse [] = refl
-      undo-reverse (x ∷ l) =
-          ap (map undo) (reverse-cons x l) ∙ map-append undo (reverse l) (x ∷ [])
-          ∙ ap (λ (z : List Leaf). z ++ (undo x ∷ [])) (undo-reverse l)
-          ∙ sym (reverse-cons (undo x) (map undo l))
-
-      go : (todo : List Leaf) → reverse l ≡ w .done ++ todo → steps ≡ records (map undo (w .done)) ++ backBytes todo → steps ≡ records (backwards l)
-      go [] p q = q ∙ append-nil _ ∙ ap (λ (d : List Leaf). records (map undo d)) (sym (p ∙ append-nil (w .done))) ∙ ap records (undo-reverse l)
-      go (x ∷ todo) p q =
-          let z : length (reverse l) ≡ length (w .done) + suc (length todo) = ap length p ∙ length-append (w .done) (x ∷ todo) in
-          absurd (omega (arith, w .at, turned-long (reverse l) steps from w, same-long))
-
-pub whole-reversed : (s : List ℕ) → take 0 s ++ (rev (slice 0 (length s) s) ++ drop (length s) s) ≡ rev s
-unfolding slice
-whole-reversed s = ap₂ (λ (a b : List ℕ). rev a ++ b) (take-length s) (drop-length s) ∙ append-nil (rev s)
+      none : (l : List Leaf) → length l ≤ 0 → l ≡ []
+      none [] h = refl
+      none (x ∷ l) h = absurd (omega arith)

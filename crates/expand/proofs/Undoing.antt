@@ -22,7 +22,7 @@ use Rattle.expand.specs.Steps.{Small, Undoable}
 abbrev wrap : ℤ → ℤ
 wrap z = fromBits 32 (toBits 32 z)
 
-abbrev wrapped : Leaf → Leaf
+abbrev pub wrapped : Leaf → Leaf
 wrapped (rotation f c m) = rotation f c (wrap m)
 wrapped (move t l f c m) = move t l f c (wrap m)
 wrapped pause = pause
@@ -41,7 +41,7 @@ wrap-fits n h = go (ltb n 2147483648) refl
     go true e = e
     go false e = lt-ltb (2 ^ 32 - suc n) 2147483648 (omega (arith, ltb-false n 2147483648 e))
 
-wrapped-fits : (x : Leaf) → Undoable x → FitsLeaf (wrapped x)
+pub wrapped-fits : (x : Leaf) → Undoable x → FitsLeaf (wrapped x)
 wrapped-fits (rotation f c m) (a, b, h) = (a, b, wrap-fits (toBits 32 m) (small-bits m h))
 wrapped-fits (move t l f c m) (a, b, d, h) = (a, b, d, wrap-fits (toBits 32 m) (small-bits m h))
 wrapped-fits pause h = tt
@@ -79,17 +79,23 @@ wrapped-undone (pair u d) (h, k) = rw (opposite-bits u h, opposite-bits d k)
 wrapped-undone slash h = refl
 wrapped-undone (megaminx k) h = refl
 
+pub wrapped-record : (x : Leaf) → Undoable x → leafRecord (wrapped x) ≡ leafRecord x
+unfolding record25
+wrapped-record x u = ap (layOut widths) (wrapped-fields x u)
+
+pub wrapped-undone-record : (x : Leaf) → Undoable x → leafRecord (undo (wrapped x)) ≡ leafRecord (undo x)
+unfolding record25
+wrapped-undone-record x u = ap (layOut widths) (wrapped-undone x u)
+
 -- a step's record in front of other bytes
 module _ (x : Leaf) (u : Undoable x) (bs rest : List ℕ) (e : bs ≡ leafRecord x ++ rest) where
   wrapped-is : bs ≡ leafRecord (wrapped x) ++ rest
-  unfolding record25
-  wrapped-is = e ∙ ap (λ (fs : List ℕ). layOut widths fs ++ rest) (sym (wrapped-fields x u))
+  wrapped-is = e ∙ ap (λ (r : List ℕ). r ++ rest) (sym (wrapped-record x u))
 
   pub step-starts : StartsRecord bs
   step-starts = starts-with bs (leafHead (wrapped x)) rest (wrapped-fits x u) wrapped-is
 
   pub step-undone : {out : List ℕ} → Undone bs out → out ≡ leafRecord (undo x) ++ rest
-  unfolding record25
   step-undone w =
       undone-with bs (leafHead (wrapped x)) rest (wrapped-fits x u) wrapped-is w
-      ∙ ap (λ (fs : List ℕ). layOut widths fs ++ rest) (wrapped-undone x u)
+      ∙ ap (λ (r : List ℕ). r ++ rest) (wrapped-undone-record x u)

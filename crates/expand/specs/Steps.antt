@@ -1,17 +1,22 @@
 -- Steps as the records that are written.
-use Prim.Native.Nat.{ℕ, _+_, _*_, _≤_}
+use Prim.Native.Nat.{ℕ, _-_, _*_, _/_, _≤_}
 use mathlib.Core.Path.{_≡_}
-use mathlib.Core.Bool.{Bool}
+use mathlib.Core.Bool.{Bool, false}
 use mathlib.Core.List.{List, [], _∷_, _++_}
 use lib.IntN.{ℤ, natAbs}
 use lib.ListN.{length, take, drop}
 use Rattle.notation.specs.Basics.{pick}
-use Rattle.notation.specs.Tree.{Leaf, rotation, move, pause, pair, slash, megaminx}
-use Rattle.notation.specs.Packed.{RECORD}
+use Rattle.notation.specs.Tree.{Leaf, rotation, move, pause, pair, slash, megaminx, Node}
+use Rattle.notation.specs.Packed.{RECORD, record25, headAt, unpack}
 use Rattle.notation.specs.Entries.{records}
-use Rattle.record.specs.Range.{FitsFamily, FitsConstraints, FitsLayers}
-use Rattle.laws.proofs.Unrolling.{backwards}
+use Rattle.notation.specs.Invert.{undo}
+use Rattle.notation.specs.Unroll.{copies, turned}
+use Rattle.record.specs.Meaning.{field}
+use Rattle.record.specs.Range.{FitsFamily, FitsConstraints, FitsLayers, FitsLeaf}
+use Rattle.record.specs.Undone.{undoneHead}
+use Rattle.laws.proofs.Unrolling.{backwards, flatBinary, flat}
 use Rattle.laws.proofs.Counting.{countBinary}
+use Rattle.nodes.specs.Nodes.{IsNode}
 use Rattle.expand.specs.Meaning.{binaryKind}
 
 -- at most 2147483648 either way: negating the bits stays right, also where a number of 32 bits ends
@@ -27,37 +32,58 @@ Undoable (pair u d) = Small u × Small d
 Undoable slash = Unit {0}
 Undoable (megaminx k) = Unit {0}
 
-pub data AllUndoable : List Leaf → Type 0 where
-  none : AllUndoable []
-  one : {x : Leaf} {l : List Leaf} → Undoable x → AllUndoable l → AllUndoable (x ∷ l)
+-- something that holds of every step
+pub data All (P : Leaf → Type 0) : List Leaf → Type 0 where
+  none : All P []
+  one : {x : Leaf} {l : List Leaf} → P x → All P l → All P (x ∷ l)
+
+-- the steps whose records bytes are, with the numbers that the records have: what the bytes unroll into, since a list of steps unrolls into itself
+abbrev pub held : List ℕ → List Leaf
+held bs = flat undo false (unpack bs)
 
 -- bytes that are the records of steps
-pub record Holds (bs : List ℕ) (l : List Leaf) : Type 0 where
-  pub bytes : bs ≡ records l
-  pub undoable : AllUndoable l
+pub record Holds (bs : List ℕ) : Type 0 where
+  pub bytes : records (held bs) ≡ bs
+  pub fits : All FitsLeaf (held bs)
 
 -- the steps l written to the front of a buffer, in r bytes; the rest stays
 pub record Wrote (before after : List ℕ) (l : List Leaf) (r : ℕ) : Type 0 where
   pub size : r ≡ RECORD * length l
   pub bytes : after ≡ records l ++ drop r before
 
+-- the bytes of one group
+pub record IsGroup (bs : List ℕ) : Type 0 where
+  pub node : Node Leaf
+  pub isNode : IsNode bs node
+  pub low : field 0 bs / 16 ≤ 5
+
 -- a list of steps in either direction
 abbrev pub either : List Leaf → Bool → List Leaf
 either l inverted = pick inverted (backwards l) l
 
--- The contents l of a group in the first bytes of a buffer that has room for n repeats, at least one.
-pub record Room (out : List ℕ) (size : ℕ) (l : List Leaf) (n : ℕ) : Type 0 where
-  pub long : size ≡ RECORD * length l
-  pub front : take size out ≡ records l
-  pub undoable : AllUndoable l
-  pub some : 1 ≤ n
-  pub room : RECORD * (n * length l) ≤ length out
+-- a commutator or a conjugate of two lists
+abbrev pub completed : Bool → List Leaf → List Leaf → List Leaf
+completed commutator l m = flatBinary (binaryKind commutator) false (either l) (either m)
 
--- The lists l and m of a commutator or a conjugate in the first bytes of a buffer that has room for the whole.
-pub record Pair (out : List ℕ) (commutator : Bool) (a b : ℕ) (l m : List Leaf) : Type 0 where
-  pub first : a ≡ RECORD * length l
-  pub second : b ≡ RECORD * length m
-  pub front : take (a + b) out ≡ records l ++ records m
-  pub undoableFirst : AllUndoable l
-  pub undoableSecond : AllUndoable m
-  pub room : RECORD * countBinary (binaryKind commutator) (length l) (length m) ≤ length out
+-- the contents of a group with the multiplier m
+abbrev pub repeats : ℤ → List Leaf → List Leaf
+repeats m l = copies (natAbs m) (either l (turned m false))
+
+-- The lists of a commutator or a conjugate in the first bytes of a buffer that has room for the whole.
+pub record Pair (out : List ℕ) (commutator : Bool) (a b : ℕ) : Type 0 where
+  pub first : Holds (take a out)
+  pub second : Holds (take b (drop a out))
+  pub room : countBinary (binaryKind commutator) a b ≤ length out
+
+-- The contents of a group in the first bytes of a buffer that has room for n repeats, at least one.
+pub record Room (out : List ℕ) (size n : ℕ) : Type 0 where
+  pub contents : Holds (take size out)
+  pub some : 1 ≤ n
+  pub room : size * n ≤ length out
+
+-- the last of some records, and a record undone
+abbrev pub lastOf : List ℕ → List ℕ
+lastOf bs = drop (length bs - RECORD) bs
+
+abbrev pub undoneRecord : List ℕ → List ℕ
+undoneRecord bs = record25 (undoneHead (headAt bs))

@@ -1,24 +1,21 @@
 // Unrolling a tree into a buffer, forward only: what stands inverted is written forward, turned round where it lies and undone.
 ghost use mathlib.Core.Path.{_≡_};
 ghost use mathlib.Core.Bool.{false};
-ghost use mathlib.Core.List.{List, _++_};
-ghost use Prim.Native.Nat.{ℕ, _+_, _*_, _/_, _≤_};
+ghost use mathlib.Core.List.{_++_};
+ghost use Prim.Native.Nat.{ℕ, _+_, _-_, _*_, _≤_};
 ghost use lib.IntN.{natAbs};
 ghost use lib.ListN.{length, take, drop};
-ghost use Rattle.notation.specs.Tree.{Node, Leaf};
 ghost use Rattle.notation.specs.Invert.{undo};
 ghost use Rattle.notation.specs.Numbers.{fromBits};
 ghost use Rattle.notation.specs.Packed.{RECORD as recordSize, unpack};
 ghost use Rattle.notation.specs.Entries.{records};
-ghost use Rattle.notation.specs.Unroll.{copies, turned};
-ghost use Rattle.record.specs.Meaning.{field};
+ghost use Rattle.notation.specs.Unroll.{copies};
+ghost use Rattle.record.specs.Undone.{StartsRecord};
 ghost use Rattle.laws.proofs.Walking.{Packed};
-ghost use Rattle.laws.proofs.Unrolling.{backwards, flatBinary, flatNode, flat};
-ghost use Rattle.laws.proofs.Counting.{count, countNode};
-ghost use Rattle.nodes.specs.Nodes.{IsNode};
-ghost use Rattle.expand.specs.Meaning.{binaryKind};
-ghost use Rattle.expand.specs.Steps.{Holds, Wrote, Room, Pair, either};
-use bytes::reverse;
+ghost use Rattle.laws.proofs.Unrolling.{backwards, flat};
+ghost use Rattle.laws.proofs.Counting.{count};
+ghost use Rattle.nodes.specs.Nodes.{part};
+ghost use Rattle.expand.specs.Steps.{held, Holds, Wrote, IsGroup, completed, repeats, Pair, Room, lastOf, undoneRecord};
 use nodes::first_end;
 use nodes::node_end;
 use numbers::signed::is_negative;
@@ -55,9 +52,9 @@ pub fn flatten(tree: &[u8], out: &mut [u8]) -> usize
 
 // The same of a group, given its bytes. What is repeated 0 times is not entered.
 fn flatten_node(node: &[u8], out: &mut [u8]) -> usize
-    requires { ⌜ ((n : Node Leaf) × (IsNode (now node) n × (recordSize * countNode n ≤ length (now out)))) ⌝ }
-    requires { ⌜ field 0 (now node) / 16 ≤ 5 ⌝ }
-    ensures { λ r. ⌜ ((n : Node Leaf) → IsNode (now (node .entry)) n → Wrote (now (out .entry)) (now (out .exit)) (flatNode undo false n) r) ⌝ }
+    requires { ⌜ IsGroup (now node) ⌝ }
+    requires { ⌜ recordSize * count (unpack (now node)) ≤ length (now out) ⌝ }
+    ensures { λ r. ⌜ Wrote (now (out .entry)) (now (out .exit)) (flat undo false (unpack (now (node .entry)))) r ⌝ }
 {
     let kind = fields::kind(node);
     let multiplier = fields::number(node);
@@ -76,17 +73,17 @@ fn flatten_node(node: &[u8], out: &mut [u8]) -> usize
 
 // A and B stand at the front: writes A' and, of a commutator, B' behind them.
 fn complete_binary(out: &mut [u8], commutator: bool, a: usize, b: usize) -> usize
-    requires { ⌜ ((l : List Leaf) × ((m : List Leaf) × Pair (now out) commutator a b l m)) ⌝ }
-    ensures { λ r. ⌜ ((l m : List Leaf) → Pair (now (out .entry)) commutator a b l m → Wrote (now (out .entry)) (now (out .exit)) (flatBinary (binaryKind commutator) false (either l) (either m)) r) ⌝ }
+    requires { ⌜ Pair (now out) commutator a b ⌝ }
+    ensures { λ r. ⌜ Wrote (now (out .entry)) (now (out .exit)) (completed commutator (held (take a (now (out .entry)))) (held (take b (drop a (now (out .entry)))))) r ⌝ }
 {
     let size = a + b;
     let third = size + a;
     if commutator {
-        let total = size + size;
-        repeat(out, size, total);
+        let whole = size + size;
+        repeat(out, size, whole);
         turn(&mut out[size..third]);
-        turn(&mut out[third..total]);
-        return total;
+        turn(&mut out[third..whole]);
+        return whole;
     }
     repeat(out, size, third);
     turn(&mut out[size..third]);
@@ -95,8 +92,8 @@ fn complete_binary(out: &mut [u8], commutator: bool, a: usize, b: usize) -> usiz
 
 // The contents of a group stand in the first `size` bytes: turns them round if the multiplier is negative, and repeats them.
 fn repeat_block(out: &mut [u8], size: usize, multiplier: u32) -> usize
-    requires { ⌜ ((l : List Leaf) × Room (now out) size l (natAbs (fromBits 32 multiplier))) ⌝ }
-    ensures { λ r. ⌜ ((l : List Leaf) → Room (now (out .entry)) size l (natAbs (fromBits 32 multiplier)) → Wrote (now (out .entry)) (now (out .exit)) (copies (natAbs (fromBits 32 multiplier)) (either l (turned (fromBits 32 multiplier) false))) r) ⌝ }
+    requires { ⌜ Room (now out) size (natAbs (fromBits 32 multiplier)) ⌝ }
+    ensures { λ r. ⌜ Wrote (now (out .entry)) (now (out .exit)) (repeats (fromBits 32 multiplier) (held (take size (now (out .entry))))) r ⌝ }
 {
     let total = size * (magnitude(multiplier) as usize);
     if is_negative(multiplier) {
@@ -120,18 +117,37 @@ fn repeat(out: &mut [u8], size: usize, total: usize)
     }
 }
 
-// Turns a run of steps round and undoes each.
+// Turns a run of steps round and undoes each, from both ends inwards.
 fn turn(steps: &mut [u8])
-    requires { ⌜ ((l : List Leaf) × Holds (now steps) l) ⌝ }
-    ensures { λ _. ⌜ ((l : List Leaf) → Holds (now (steps .entry)) l → now (steps .exit) ≡ records (backwards l)) ⌝ }
+    requires { ⌜ Holds (now steps) ⌝ }
+    ensures { λ _. ⌜ now (steps .exit) ≡ records (backwards (held (now (steps .entry)))) ⌝ }
 {
-    let size = steps.len();
-    reverse(steps, 0, size);
     let mut from = 0;
-    while from < size {
-        let to = from + RECORD;
-        reverse(steps, from, to);
-        undo_record(&mut steps[from..to]);
-        from = to;
+    let mut to = steps.len();
+    while from + RECORD < to {
+        exchange_ends(&mut steps[from..to]);
+        from += RECORD;
+        to -= RECORD;
     }
+    // Of an odd number, the one in the middle is only undone.
+    if from < to {
+        undo_record(&mut steps[from..to]);
+    }
+}
+
+// The first and the last of two records or more change places, each undone. Both are held apart, since a slice is not read while a part of it is written.
+fn exchange_ends(steps: &mut [u8])
+    requires { ⌜ recordSize + recordSize ≤ length (now steps) ⌝ }
+    requires { ⌜ StartsRecord (now steps) × StartsRecord (lastOf (now steps)) ⌝ }
+    ensures { λ _. ⌜ now (steps .exit) ≡ undoneRecord (lastOf (now (steps .entry))) ++ (part recordSize (length (now (steps .entry)) - recordSize) (now (steps .entry)) ++ undoneRecord (now (steps .entry))) ⌝ }
+{
+    let to = steps.len() - RECORD;
+    let mut first = [0; RECORD];
+    let mut last = [0; RECORD];
+    copy_record(&steps[0..RECORD], &mut first);
+    copy_record(&steps[to..], &mut last);
+    copy_record(&last, steps);
+    copy_record(&first, &mut steps[to..]);
+    undo_record(steps);
+    undo_record(&mut steps[to..]);
 }

@@ -1,22 +1,21 @@
 -- `flatten::flatten` and `flatten::flatten_node` meet their contracts. The measures are those of a visit. Assumes nothing.
 use Prim.Native.Nat.{ℕ, _+_, _-_, _*_, _<_}
-use mathlib.Core.Path.{_∙_}
 use borrow.Author.Needs.{needs}
 use native.Mathlib.Omega.{arith}
-use borrow.Rule.Slice.PartMut.{same-len-mid}
 use lib.Dec.{lit≤}
 use lib.ListN.{length}
-use Rattle.nodes.proofs.Nodes.{record-room, node-room, node-less, list-less, rest-less, first-low, first-leaf, leaf-record}
-use Rattle.expand.proofs.Parts.{put-room}
+use Rattle.nodes.proofs.Nodes.{record-room, node-room, node-less, list-less, rest-less, first-leaf, leaf-record}
 use Rattle.expand.proofs.Flattening.{
   Flattening,
   flattening-starts,
   flattening-goes-on,
   flattened,
+  leaf-fits,
   node-fits,
   next-fits,
   wrote-fits,
-  room-of,
+  group-of,
+  node-written,
   leaf-room,
   leaf-written,
   none-written,
@@ -90,7 +89,7 @@ pub +flatten+flatten-node-spec : {M : Type 1} → statement M
     (λ c. search needs)  -- flatten-sub-copy-record-2
     (λ c. search needs)  -- flatten-part-copy-record-start-2
     (λ c. search needs)  -- flatten-part-copy-record-end-2
-    (λ c κs. (leaf-record (first-leaf (c .before .before .before .before .before .loop .inv .packed) (c .before .before .before .before .loop-test .taken) (c .before .before .before .kind .ensures) (omega (arith, c .before .before .if1 .taken))), leaf-room (first-leaf (c .before .before .before .before .before .loop .inv .packed) (c .before .before .before .before .loop-test .taken) (c .before .before .before .kind .ensures) (omega (arith, c .before .before .if1 .taken))) (node-fits (c .before .before .before .before .before .loop .inv) ((first-leaf (c .before .before .before .before .before .loop .inv .packed) (c .before .before .before .before .loop-test .taken) (c .before .before .before .kind .ensures) (omega (arith, c .before .before .if1 .taken))) .first))))  -- flatten-copy-requires
+    (λ c κs. (leaf-record (first-leaf (c .before .before .before .before .before .loop .inv .packed) (c .before .before .before .before .loop-test .taken) (c .before .before .before .kind .ensures) (omega (arith, c .before .before .if1 .taken))), leaf-room (first-leaf (c .before .before .before .before .before .loop .inv .packed) (c .before .before .before .before .loop-test .taken) (c .before .before .before .kind .ensures) (omega (arith, c .before .before .if1 .taken))) (leaf-fits (c .before .before .before .before .before .loop .inv) ((first-leaf (c .before .before .before .before .before .loop .inv .packed) (c .before .before .before .before .loop-test .taken) (c .before .before .before .kind .ensures) (omega (arith, c .before .before .if1 .taken))) .first))))  -- flatten-copy-requires
     (λ c. omega (arith, next-fits (c .before .before .before .before .before .before .before .before .loop .inv) ((first-leaf (c .before .before .before .before .before .before .before .before .loop .inv .packed) (c .before .before .before .before .before .before .before .loop-test .taken) (c .before .before .before .before .before .before .kind .ensures) (omega (arith, c .before .before .before .before .before .if1 .taken))) .first) (leaf-written (first-leaf (c .before .before .before .before .before .before .before .before .loop .inv .packed) (c .before .before .before .before .before .before .before .loop-test .taken) (c .before .before .before .before .before .before .kind .ensures) (omega (arith, c .before .before .before .before .before .if1 .taken))) (c .before .before .copy-record .ensures)), c .before .before .before .before .before .before .before .before .loop .inv .long, c .before .before .before .before .before .before .before .before .before .before .before .good))  -- flatten-add-at
     (λ c. record-room _ (c .before .before .before .before .before .before .before .before .loop .inv .packed) (c .before .before .before .before .before .before .before .loop-test .taken))  -- flatten-sub-t
     (λ c. record-room _ (c .before .before .before .before .before .before .before .before .loop .inv .packed) (c .before .before .before .before .before .before .before .loop-test .taken))  -- flatten-part-t-start
@@ -106,61 +105,65 @@ pub +flatten+flatten-node-spec : {M : Type 1} → statement M
     (λ c. search needs)  -- flatten-part-flatten-node-end-2
     (λ c κs. (
       node-less (c .before .before .before .before .before .before .before .before .before .args .tree .now) (c .before .before .before .before .before .before .loop .t .now) (c .before .before .node-end .result) _ (c .before .before .before .before .before .before .loop .inv .shorter) (c .before .before .before .before .before .before .before .before .before .pre .0),
-      ((c .before .before .node-end .ensures .node, (c .before .before .node-end .ensures .isNode, node-fits (c .before .before .before .before .before .before .loop .inv) (c .before .before .node-end .ensures))), first-low (c .before .before .node-end .ensures) (c .before .before .before .before .kind .ensures) (c .before .before .before .if1 .left)),
+      (group-of (c .before .before .node-end .ensures) (c .before .before .before .before .kind .ensures) (c .before .before .before .if1 .left), node-fits (c .before .before .before .before .before .before .loop .inv) (c .before .before .node-end .ensures)),
     ))  -- flatten-flatten-node-requires
-    (λ c. omega (arith, next-fits (c .before .before .before .before .before .before .before .before .before .loop .inv) (c .before .before .before .before .before .node-end .ensures) (c .before .before .flatten-node .ensures (c .before .before .before .before .before .node-end .ensures .node) (c .before .before .before .before .before .node-end .ensures .isNode)), c .before .before .before .before .before .before .before .before .before .loop .inv .long, c .before .before .before .before .before .before .before .before .before .before .before .before .good))  -- flatten-add-at-2
+    (λ c. omega (arith, next-fits (c .before .before .before .before .before .before .before .before .before .loop .inv) (c .before .before .before .before .before .node-end .ensures) (node-written (c .before .before .before .before .before .node-end .ensures .isNode) (c .before .before .flatten-node .ensures)), c .before .before .before .before .before .before .before .before .before .loop .inv .long, c .before .before .before .before .before .before .before .before .before .before .before .before .good))  -- flatten-add-at-2
     (λ c. search needs)  -- flatten-sub-t-2
     (λ c. search needs)  -- flatten-part-t-start-2
     (λ c. search needs)  -- flatten-part-t-end-2
     (λ c. rest-less (c .before .before .before .before .before .before .before .before .before .before .loop .t .now) _ (c .before .before .before .before .before .before .node-end .ensures .least) (c .before .before .before .before .before .before .node-end .ensures .most))  -- flatten-loop-less-2
-    (λ c. flattening-goes-on (c .before .before .before .before .before .before .before .before .before .before .loop .inv) (c .before .before .before .before .before .before .node-end .ensures) (c .before .before .before .flatten-node .ensures (c .before .before .before .before .before .before .node-end .ensures .node) (c .before .before .before .before .before .before .node-end .ensures .isNode)) (c .before .before .before .flatten-node .kept .1 .0))  -- flatten-loop-again-2
+    (λ c. flattening-goes-on (c .before .before .before .before .before .before .before .before .before .before .loop .inv) (c .before .before .before .before .before .before .node-end .ensures) (node-written (c .before .before .before .before .before .before .node-end .ensures .isNode) (c .before .before .before .flatten-node .ensures)) (c .before .before .before .flatten-node .kept .1 .0))  -- flatten-loop-again-2
     (λ c. c .before .loop .inv .long)  -- flatten-same-length
     (λ c. flattened (c .before .loop .inv) (c .loop-test .left)))  -- flatten-returns
     λ t. flatten-node-lts.spec (kind-reads.Asked, kind-reads.Learnt, number-reads.Asked, number-reads.Learnt, first-end-reads.Asked, first-end-reads.Learnt, flatten-below t, flatten.Post, repeat-block-reads.Asked, repeat-block-reads.Learnt, complete-binary-reads.Asked, complete-binary-reads.Learnt)
     (flatten-node-at t)
     flatten-node.Post
-    (λ c κs. node-room (c .before .before .pre .1 .0 .1 .0))  -- flatten-node-kind-requires
-    (λ c κs. node-room (c .before .before .before .pre .1 .0 .1 .0))  -- flatten-node-number-requires
-    (λ c. λ n s. none-written n _ s (c .before .before .kind .ensures) (c .before .number .ensures) (c .before .before .before .before .before .pre .1 .1) (c .if1 .taken))  -- flatten-node-returns
-    (λ c κs. (c .before .before .before .before .before .pre .1 .0 .0, c .before .before .before .before .before .pre .1 .0 .1 .0))  -- flatten-node-first-end-requires
+    (λ c κs. node-room (c .before .before .pre .1 .0 .isNode))  -- flatten-node-kind-requires
+    (λ c κs. node-room (c .before .before .before .pre .1 .0 .isNode))  -- flatten-node-number-requires
+    (λ c. none-written (c .before .before .before .before .before .pre .1 .0) (c .before .before .kind .ensures) (c .before .number .ensures) (c .if1 .taken))  -- flatten-node-returns
+    (λ c κs. (c .before .before .before .before .before .pre .1 .0 .node, c .before .before .before .before .before .pre .1 .0 .isNode))  -- flatten-node-first-end-requires
     (λ c. search needs)  -- flatten-node-sub-flatten
     (λ c. search needs)  -- flatten-node-part-flatten-start
     (λ c. search needs)  -- flatten-node-part-flatten-end
-    (λ c κs. (
-      list-less (c .before .before .before .before .before .before .before .before .args .node .now) 25 (c .before .before .first-end .result) _ (lit≤ tt) (node-room (c .before .before .before .before .before .before .before .before .pre .1 .0 .1 .0)) (c .before .before .before .before .before .before .before .before .pre .0),
-      (c .before .before .first-end .ensures .packedFirst, first-room (c .before .before .before .before .before .before .before .before .pre .1 .0 .0) _ (c .before .before .before .before .before .before .before .before .pre .1 .0 .1 .0) (c .before .before .before .before .before .kind .ensures) (c .before .before .before .before .number .ensures) (c .before .before .before .before .before .before .before .before .pre .1 .1) (c .before .before .before .before .number .ok) (c .before .before .before .if1 .left) (c .before .before .before .before .before .before .before .before .pre .1 .0 .1 .1) (c .before .before .first-end .ensures .unpacksFirst (c .before .before .before .before .before .before .before .before .pre .1 .0 .0) (c .before .before .before .before .before .before .before .before .pre .1 .0 .1 .0))),
+    (λ c κs.
+    let lists = c .before .before in
+    let start = lists .before .before .before .before .before .before in
+    (
+      list-less (start .args .node .now) 25 (lists .first-end .result) _ (lit≤ tt) (node-room (start .pre .1 .0 .isNode)) (start .pre .0),
+      (lists .first-end .ensures .packedFirst, first-room (start .pre .1 .0) (lists .before .before .before .kind .ensures) (lists .before .before .number .ensures) (lists .before .before .number .ok) (lists .before .if1 .left) (lists .first-end .ensures) (start .pre .1 .1)),
     ))  -- flatten-node-flatten-requires
-    (λ c κs. group-room (c .before .before .before .before .before .before .before .before .before .before .before .before .before .pre .1 .0 .0) _ (c .before .before .before .before .before .before .before .before .before .before .before .before .before .pre .1 .0 .1 .0) (c .before .before .before .before .before .before .before .before .before .before .kind .ensures) (c .before .before .before .before .before .before .before .before .before .number .ensures) (c .before .before .before .before .before .before .before .before .before .before .before .before .before .pre .1 .1) (c .before .if2 .taken) (c .before .before .before .before .before .before .before .before .before .number .ok) (c .before .before .before .before .before .before .before .before .if1 .left) (room-of (c .before .before .before .before .before .before .before .before .before .before .before .before .before .pre .1 .0 .0) (c .before .before .before .before .before .before .before .before .before .before .before .before .before .pre .1 .0 .1 .0) (c .before .before .before .before .before .before .before .before .before .before .before .before .before .pre .1 .0) (c .before .before .before .before .flatten .kept .1 .0))
-    (c .before .before .before .before .before .before .before .first-end .ensures .unpacksFirst (c .before .before .before .before .before .before .before .before .before .before .before .before .before .pre .1 .0 .0) (c .before .before .before .before .before .before .before .before .before .before .before .before .before .pre .1 .0 .1 .0)) (c .before .before .before .before .flatten .ensures))  -- flatten-node-repeat-block-requires
+    (λ c κs.
+    let lists = c .before .before .before .before .before .before .before in
+    let start = lists .before .before .before .before .before .before in
+    group-room (start .pre .1 .0) (lists .before .before .before .kind .ensures) (lists .before .before .number .ensures) (lists .before .before .number .ok) (lists .before .if1 .left) (lists .first-end .ensures) (c .before .before .before .before .flatten .ensures) (start .pre .1 .1) (c .before .if2 .taken))  -- flatten-node-repeat-block-requires
     (λ c. search needs)  -- flatten-node-same-length
-    (λ c. λ n s. group-written n _ s (c .before .before .before .before .before .before .before .before .before .before .before .before .before .kind .ensures) (c .before .before .before .before .before .before .before .before .before .before .before .before .number .ensures) (c .before .before .before .before .before .before .before .before .before .before .before .before .before .before .before .before .pre .1 .1) (c .before .before .before .before .if2 .taken) (c .before .before .before .before .before .before .before .before .before .before .before .before .number .ok) (c .before .before .before .before .before .before .before .before .before .before .before .if1 .left) (room-of n s (c .before .before .before .before .before .before .before .before .before .before .before .before .before .before .before .before .pre .1 .0) (c .before .before .before .before .before .before .before .flatten .kept .1 .0))
-    (c .before .before .before .before .before .before .before .before .before .before .first-end .ensures .unpacksFirst n s) (c .before .before .before .before .before .before .before .flatten .ensures) (c .before .before .repeat-block .ensures))  -- flatten-node-returns-2
+    (λ c.
+    let lists = c .before .before .before .before .before .before .before .before .before .before in
+    let start = lists .before .before .before .before .before .before in
+    group-written (start .pre .1 .0) (lists .before .before .before .kind .ensures) (lists .before .before .number .ensures) (lists .before .before .number .ok) (lists .before .if1 .left) (lists .first-end .ensures) (c .before .before .before .before .before .before .before .flatten .ensures) (start .pre .1 .1) (c .before .before .before .before .if2 .taken) (c .before .before .repeat-block .ensures))  -- flatten-node-returns-2
     (λ c. search needs)  -- flatten-node-sub-flatten-2
     (λ c. search needs)  -- flatten-node-part-flatten-start-2
     (λ c. search needs)  -- flatten-node-part-flatten-end-2
     (λ c. wrote-fits (c .before .before .before .before .flatten .ensures))  -- flatten-node-sub-flatten-3
     (λ c. wrote-fits (c .before .before .before .before .flatten .ensures))  -- flatten-node-part-flatten-start-3
     (λ c. search needs)  -- flatten-node-part-flatten-end-3
-    (λ c κs. (
-      list-less (c .before .before .before .before .before .before .before .before .before .before .before .before .before .before .args .node .now) (c .before .before .before .before .before .before .before .before .first-end .result) _ _ (c .before .before .before .before .before .before .before .before .first-end .ensures .least) (node-room (c .before .before .before .before .before .before .before .before .before .before .before .before .before .before .pre .1 .0 .1 .0)) (c .before .before .before .before .before .before .before .before .before .before .before .before .before .before .pre .0),
-      (
-        c .before .before .before .before .before .before .before .before .first-end .ensures .packedSecond,
-        second-room (c .before .before .before .before .before .before .before .before .before .before .before .before .before .before .pre .1 .0 .0) _ (c .before .before .before .before .before .before .before .before .before .before .before .before .before .before .pre .1 .0 .1 .0) (c .before .before .before .before .before .before .before .before .before .before .before .kind .ensures) (c .before .before .before .before .before .before .before .before .before .before .number .ensures) (c .before .before .before .before .before .before .before .before .before .before .before .before .before .before .pre .1 .1) (c .before .before .before .before .before .flatten .last .1 .0) (c .before .before .before .before .before .before .before .before .before .before .number .ok) (c .before .before .before .before .before .before .before .before .before .if1 .left) (room-of (c .before .before .before .before .before .before .before .before .before .before .before .before .before .before .pre .1 .0 .0) (c .before .before .before .before .before .before .before .before .before .before .before .before .before .before .pre .1 .0 .1 .0) (c .before .before .before .before .before .before .before .before .before .before .before .before .before .before .pre .1 .0) (c .before .before .before .before .before .flatten .kept .1 .0))
-            (c .before .before .before .before .before .before .before .before .first-end .ensures .unpacksFirst (c .before .before .before .before .before .before .before .before .before .before .before .before .before .before .pre .1 .0 .0) (c .before .before .before .before .before .before .before .before .before .before .before .before .before .before .pre .1 .0 .1 .0)) (c .before .before .before .before .before .flatten .ensures) (c .before .before .before .before .before .before .before .before .first-end .ensures .unpacksSecond (c .before .before .before .before .before .before .before .before .before .before .before .before .before .before .pre .1 .0 .0) (c .before .before .before .before .before .before .before .before .before .before .before .before .before .before .pre .1 .0 .1 .0)),
-      ),
+    (λ c κs.
+    let lists = c .before .before .before .before .before .before .before .before in
+    let start = lists .before .before .before .before .before .before in
+    (
+      list-less (start .args .node .now) (lists .first-end .result) _ _ (lists .first-end .ensures .least) (node-room (start .pre .1 .0 .isNode)) (start .pre .0),
+      (lists .first-end .ensures .packedSecond, second-room (start .pre .1 .0) (lists .before .before .before .kind .ensures) (lists .before .before .number .ensures) (lists .before .before .number .ok) (lists .before .if1 .left) (lists .first-end .ensures) (c .before .before .before .before .before .flatten .ensures) (start .pre .1 .1)),
     ))  -- flatten-node-flatten-requires-2
-    (λ c κs. binary-pair (c .before .before .before .before .before .before .before .before .before .before .before .before .before .before .before .before .before .before .pre .1 .0 .0) _ (c .before .before .before .before .before .before .before .before .before .before .before .before .before .before .before .before .before .before .pre .1 .0 .1 .0) (c .before .before .before .before .before .before .before .before .before .before .before .before .before .before .before .kind .ensures) (c .before .before .before .before .before .before .before .before .before .before .before .before .before .before .number .ensures) (c .before .before .before .before .before .before .before .before .before .before .before .before .before .before .before .before .before .before .pre .1 .1) (c .before .before .before .before .before .before .if2 .left) (wrote-fits (c .before .before .before .before .before .before .before .before .before .flatten .ensures)) (c .before .before .before .before .before .before .before .before .before .before .before .before .first-end .ensures .unpacksFirst (c .before .before .before .before .before .before .before .before .before .before .before .before .before .before .before .before .before .before .pre .1 .0 .0) (c .before .before .before .before .before .before .before .before .before .before .before .before .before .before .before .before .before .before .pre .1 .0 .1 .0)) (c .before .before .before .before .before .before .before .before .before .flatten .ensures)
-    (c .before .before .before .before .before .before .before .before .before .before .before .before .first-end .ensures .unpacksSecond (c .before .before .before .before .before .before .before .before .before .before .before .before .before .before .before .before .before .before .pre .1 .0 .0) (c .before .before .before .before .before .before .before .before .before .before .before .before .before .before .before .before .before .before .pre .1 .0 .1 .0)) (c .before .before .before .flatten2 .ensures)
-    (put-room (c .before .before .before .before .before .before .before .before .before .flatten .result) (length (c .before .before .before .before .before .before .before .before .before .flatten .last .1 .0) - c .before .before .before .before .before .before .before .before .before .flatten .result) _ (c .before .before .before .before .before .before .before .before .before .flatten .last .1 .0) (c .before .before .before .flatten2 .last .1 .0) (c .before .before .before .flatten2 .kept .1 .0) (room-of (c .before .before .before .before .before .before .before .before .before .before .before .before .before .before .before .before .before .before .pre .1 .0 .0) (c .before .before .before .before .before .before .before .before .before .before .before .before .before .before .before .before .before .before .pre .1 .0 .1 .0) (c .before .before .before .before .before .before .before .before .before .before .before .before .before .before .before .before .before .before .pre .1 .0) (c .before .before .before .before .before .before .before .before .before .flatten .kept .1 .0)))
-    (c .before .before .before .before .before .before .before .before .before .before .before .before .before .before .number .ok) (c .before .before .before .before .before .before .before .before .before .before .before .before .before .if1 .left))  -- flatten-node-complete-binary-requires
-    (λ c κs. binary-room (c .before .before .before .before .before .before .before .before .before .before .before .before .before .before .before .before .before .before .before .before .before .before .pre .1 .0 .0) _ (c .before .before .before .before .before .before .before .before .before .before .before .before .before .before .before .before .before .before .before .before .before .before .pre .1 .0 .1 .0) (c .before .before .before .before .before .before .before .before .before .before .before .before .before .before .before .before .before .before .before .kind .ensures) (c .before .before .before .before .before .before .before .before .before .before .before .before .before .before .before .before .before .before .number .ensures) (c .before .before .before .before .before .before .before .before .before .before .before .before .before .before .before .before .before .before .before .before .before .before .pre .1 .1) (c .before .before .before .before .before .before .before .before .before .before .if2 .left) (wrote-fits (c .before .before .before .before .before .before .before .before .before .before .before .before .before .flatten .ensures)) (c .before .before .before .before .before .before .before .before .before .before .before .before .before .before .before .before .first-end .ensures .unpacksFirst (c .before .before .before .before .before .before .before .before .before .before .before .before .before .before .before .before .before .before .before .before .before .before .pre .1 .0 .0) (c .before .before .before .before .before .before .before .before .before .before .before .before .before .before .before .before .before .before .before .before .before .before .pre .1 .0 .1 .0)) (c .before .before .before .before .before .before .before .before .before .before .before .before .before .flatten .ensures)
-    (c .before .before .before .before .before .before .before .before .before .before .before .before .before .before .before .before .first-end .ensures .unpacksSecond (c .before .before .before .before .before .before .before .before .before .before .before .before .before .before .before .before .before .before .before .before .before .before .pre .1 .0 .0) (c .before .before .before .before .before .before .before .before .before .before .before .before .before .before .before .before .before .before .before .before .before .before .pre .1 .0 .1 .0)) (c .before .before .before .before .before .before .before .flatten2 .ensures)
-    (put-room (c .before .before .before .before .before .before .before .before .before .before .before .before .before .flatten .result) (length (c .before .before .before .before .before .before .before .before .before .before .before .before .before .flatten .last .1 .0) - c .before .before .before .before .before .before .before .before .before .before .before .before .before .flatten .result) _ (c .before .before .before .before .before .before .before .before .before .before .before .before .before .flatten .last .1 .0) (c .before .before .before .before .before .before .before .flatten2 .last .1 .0) (c .before .before .before .before .before .before .before .flatten2 .kept .1 .0) (room-of (c .before .before .before .before .before .before .before .before .before .before .before .before .before .before .before .before .before .before .before .before .before .before .pre .1 .0 .0) (c .before .before .before .before .before .before .before .before .before .before .before .before .before .before .before .before .before .before .before .before .before .before .pre .1 .0 .1 .0) (c .before .before .before .before .before .before .before .before .before .before .before .before .before .before .before .before .before .before .before .before .before .before .pre .1 .0) (c .before .before .before .before .before .before .before .before .before .before .before .before .before .flatten .kept .1 .0)))
-    (c .before .before .before .before .before .before .before .before .before .before .before .before .before .before .before .before .before .before .number .ok) (c .before .before .before .before .before .before .before .before .before .before .before .before .before .before .before .before .before .if1 .left)
-    (room-of (c .before .before .before .before .before .before .before .before .before .before .before .before .before .before .before .before .before .before .before .before .before .before .pre .1 .0 .0) (c .before .before .before .before .before .before .before .before .before .before .before .before .before .before .before .before .before .before .before .before .before .before .pre .1 .0 .1 .0) (c .before .before .before .before .before .before .before .before .before .before .before .before .before .before .before .before .before .before .before .before .before .before .pre .1 .0) (c .before .before .before .complete-binary .kept .0 ∙ same-len-mid (c .before .before .before .before .before .before .before .before .before .before .before .before .before .flatten .result) (length (c .before .before .before .before .before .before .before .before .before .before .before .before .before .flatten .last .1 .0) - c .before .before .before .before .before .before .before .before .before .before .before .before .before .flatten .result) (c .before .before .before .before .before .before .before .before .before .before .before .before .before .flatten .last .1 .0) (c .before .before .before .before .before .before .before .flatten2 .last .1 .0) (c .before .before .before .before .before .before .before .flatten2 .kept .1 .0) ∙ c .before .before .before .before .before .before .before .before .before .before .before .before .before .flatten .kept .1 .0)) (c .before .before .before .complete-binary .ensures))  -- flatten-node-repeat-block-requires-2
+    (λ c κs.
+    let lists = c .before .before .before .before .before .before .before .before .before .before .before .before in
+    let start = lists .before .before .before .before .before .before in
+    binary-pair (start .pre .1 .0) (lists .before .before .before .kind .ensures) (lists .before .before .number .ensures) (lists .before .before .number .ok) (lists .before .if1 .left) (lists .first-end .ensures) (c .before .before .before .before .before .before .before .before .before .flatten .ensures) (start .pre .1 .1) (c .before .before .before .before .before .before .if2 .left) (c .before .before .before .flatten2 .ensures))  -- flatten-node-complete-binary-requires
+    (λ c κs.
+    let lists = c .before .before .before .before .before .before .before .before .before .before .before .before .before .before .before .before in
+    let start = lists .before .before .before .before .before .before in
+    binary-room (start .pre .1 .0) (lists .before .before .before .kind .ensures) (lists .before .before .number .ensures) (lists .before .before .number .ok) (lists .before .if1 .left) (lists .first-end .ensures) (c .before .before .before .before .before .before .before .before .before .before .before .before .before .flatten .ensures) (start .pre .1 .1) (c .before .before .before .before .before .before .before .before .before .before .if2 .left) (c .before .before .before .before .before .before .before .flatten2 .ensures) (c .before .before .before .complete-binary .ensures))  -- flatten-node-repeat-block-requires-2
     (λ c. search needs)  -- flatten-node-same-length-2
-    (λ c. λ n s. binary-written n _ s (c .before .before .before .before .before .before .before .before .before .before .before .before .before .before .before .before .before .before .before .before .before .before .kind .ensures) (c .before .before .before .before .before .before .before .before .before .before .before .before .before .before .before .before .before .before .before .before .before .number .ensures) (c .before .before .before .before .before .before .before .before .before .before .before .before .before .before .before .before .before .before .before .before .before .before .before .before .before .pre .1 .1) (c .before .before .before .before .before .before .before .before .before .before .before .before .before .if2 .left) (wrote-fits (c .before .before .before .before .before .before .before .before .before .before .before .before .before .before .before .before .flatten .ensures)) (c .before .before .before .before .before .before .before .before .before .before .before .before .before .before .before .before .before .before .before .first-end .ensures .unpacksFirst n s) (c .before .before .before .before .before .before .before .before .before .before .before .before .before .before .before .before .flatten .ensures)
-    (c .before .before .before .before .before .before .before .before .before .before .before .before .before .before .before .before .before .before .before .first-end .ensures .unpacksSecond n s) (c .before .before .before .before .before .before .before .before .before .before .flatten2 .ensures)
-    (put-room (c .before .before .before .before .before .before .before .before .before .before .before .before .before .before .before .before .flatten .result) (length (c .before .before .before .before .before .before .before .before .before .before .before .before .before .before .before .before .flatten .last .1 .0) - c .before .before .before .before .before .before .before .before .before .before .before .before .before .before .before .before .flatten .result) _ (c .before .before .before .before .before .before .before .before .before .before .before .before .before .before .before .before .flatten .last .1 .0) (c .before .before .before .before .before .before .before .before .before .before .flatten2 .last .1 .0) (c .before .before .before .before .before .before .before .before .before .before .flatten2 .kept .1 .0) (room-of n s (c .before .before .before .before .before .before .before .before .before .before .before .before .before .before .before .before .before .before .before .before .before .before .before .before .before .pre .1 .0) (c .before .before .before .before .before .before .before .before .before .before .before .before .before .before .before .before .flatten .kept .1 .0)))
-    (c .before .before .before .before .before .before .before .before .before .before .before .before .before .before .before .before .before .before .before .before .before .number .ok) (c .before .before .before .before .before .before .before .before .before .before .before .before .before .before .before .before .before .before .before .before .if1 .left)
-    (room-of n s (c .before .before .before .before .before .before .before .before .before .before .before .before .before .before .before .before .before .before .before .before .before .before .before .before .before .pre .1 .0) (c .before .before .before .before .before .before .complete-binary .kept .0 ∙ same-len-mid (c .before .before .before .before .before .before .before .before .before .before .before .before .before .before .before .before .flatten .result) (length (c .before .before .before .before .before .before .before .before .before .before .before .before .before .before .before .before .flatten .last .1 .0) - c .before .before .before .before .before .before .before .before .before .before .before .before .before .before .before .before .flatten .result) (c .before .before .before .before .before .before .before .before .before .before .before .before .before .before .before .before .flatten .last .1 .0) (c .before .before .before .before .before .before .before .before .before .before .flatten2 .last .1 .0) (c .before .before .before .before .before .before .before .before .before .before .flatten2 .kept .1 .0) ∙ c .before .before .before .before .before .before .before .before .before .before .before .before .before .before .before .before .flatten .kept .1 .0)) (c .before .before .before .before .before .before .complete-binary .ensures) (c .before .before .repeat-block2 .ensures))  -- flatten-node-returns-3
+    (λ c.
+    let lists = c .before .before .before .before .before .before .before .before .before .before .before .before .before .before .before .before .before .before .before in
+    let start = lists .before .before .before .before .before .before in
+    binary-written (start .pre .1 .0) (lists .before .before .before .kind .ensures) (lists .before .before .number .ensures) (lists .before .before .number .ok) (lists .before .if1 .left) (lists .first-end .ensures) (c .before .before .before .before .before .before .before .before .before .before .before .before .before .before .before .before .flatten .ensures) (start .pre .1 .1) (c .before .before .before .before .before .before .before .before .before .before .before .before .before .if2 .left) (c .before .before .before .before .before .before .before .before .before .before .flatten2 .ensures) (c .before .before .before .before .before .before .complete-binary .ensures) (c .before .before .repeat-block2 .ensures))  -- flatten-node-returns-3

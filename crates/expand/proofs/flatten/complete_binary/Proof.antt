@@ -18,16 +18,16 @@ use Rattle.expand.proofs.flatten.complete_binary.Statement.{statement}
 use Rattle.expand.proofs.flatten.complete_binary.Tie as tie
 
 add-size : tie.Need-add-size
-add-size c = omega (arith, third-room (c .before .pre .1 .1), c .before .good)
+add-size c = omega (arith, third-room (c .before .pre), c .before .good)
 
 add-third : tie.Need-add-third
-add-third c = omega (arith, third-room (c .before .pre .1 .1), c .before .good)
+add-third c = omega (arith, third-room (c .before .pre), c .before .good)
 
-add-total : tie.Need-add-total
-add-total c = omega (arith, total-room (c .before .before .pre .1 .1) (c .if1 .taken), c .before .before .good)
+add-whole : tie.Need-add-whole
+add-whole c = omega (arith, total-room (c .before .before .pre) (c .if1 .taken), c .before .before .good)
 
 repeat-requires : tie.Need-repeat-requires
-repeat-requires c κs = omega (arith, total-room (c .before .before .before .pre .1 .1) (c .before .if1 .taken))
+repeat-requires c κs = omega (arith, total-room (c .before .before .before .pre) (c .before .if1 .taken))
 
 sub-turn : tie.Need-sub-turn
 sub-turn c = search needs
@@ -36,10 +36,10 @@ part-turn-start : tie.Need-part-turn-start
 part-turn-start c = search needs
 
 part-turn-end : tie.Need-part-turn-end
-part-turn-end c = omega (arith, third-room (c .before .before .before .before .before .before .pre .1 .1), c .before .before .repeat .kept .0)
+part-turn-end c = omega (arith, third-room (c .before .before .before .before .before .before .pre), c .before .before .repeat .kept .0)
 
 turn-requires : tie.Need-turn-requires
-turn-requires c κs = (c .before .before .before .before .before .before .before .pre .0, first-held (c .before .before .before .before .before .before .before .pre .1 .1) (twice (c .before .before .before .before .before .before .before .pre .1 .1) (c .before .before .before .repeat .ensures)))
+turn-requires c κs = let p = c .before .before .before .before .before .before .before .pre in first-held p (twice p (c .before .before .before .repeat .ensures))
 
 sub-turn-2 : tie.Need-sub-turn-2
 sub-turn-2 c = search needs
@@ -52,24 +52,23 @@ part-turn-end-2 c =
     let a = c .before .before .before .before .before .before .before .before .before .before .args .a in
     let b = c .before .before .before .before .before .before .before .before .before .before .args .b in
     put-room (a + b) (a + b + a - (a + b)) (a + b + (a + b)) (c .before .before .before .before .before .before .repeat .last .0) (c .before .before .turn .last .0) (c .before .before .turn .kept .0)
-    (omega (arith, total-room (c .before .before .before .before .before .before .before .before .before .before .pre .1 .1) (c .before .before .before .before .before .before .before .before .if1 .taken), c .before .before .before .before .before .before .repeat .kept .0))
+    (omega (arith, total-room (c .before .before .before .before .before .before .before .before .before .before .pre) (c .before .before .before .before .before .before .before .before .if1 .taken), c .before .before .before .before .before .before .repeat .kept .0))
 
 turn-requires-2 : tie.Need-turn-requires-2
 turn-requires-2 c κs =
-    let t = twice (c .before .before .before .before .before .before .before .before .before .before .before .pre .1 .1) (c .before .before .before .before .before .before .before .repeat .ensures) in
-    (c .before .before .before .before .before .before .before .before .before .before .before .pre .1 .0, second-held (c .before .before .before .before .before .before .before .before .before .before .before .pre .1 .1) (second-of (c .before .before .before .before .before .before .before .before .before .before .before .pre .1 .1) t (c .before .before .before .turn .ensures _ (first-held (c .before .before .before .before .before .before .before .before .before .before .before .pre .1 .1) t))))
+    let p = c .before .before .before .before .before .before .before .before .before .before .before .pre in
+    second-held p (second-of p (twice p (c .before .before .before .before .before .before .before .repeat .ensures)) (c .before .before .before .turn .ensures))
 
 same-length : tie.Need-same-length
 same-length c = search needs
 
 returns : tie.Need-returns
-returns c = λ l m p.
-    let t = twice p (c .before .before .before .before .before .before .before .before .before .before .repeat .ensures) in
-    let t′ = second-of p t (c .before .before .before .before .before .before .turn .ensures l (first-held p t)) in
-    commutator-written p (c .before .before .before .before .before .before .before .before .before .before .before .before .if1 .taken) t′ (c .before .before .turn2 .ensures m (second-held p t′))
+returns c =
+    let p = c .before .before .before .before .before .before .before .before .before .before .before .before .before .before .pre in
+    commutator-written p (c .before .before .before .before .before .before .before .before .before .before .before .before .if1 .taken) (second-of p (twice p (c .before .before .before .before .before .before .before .before .before .before .repeat .ensures)) (c .before .before .before .before .before .before .turn .ensures)) (c .before .before .turn2 .ensures)
 
 repeat-requires-2 : tie.Need-repeat-requires-2
-repeat-requires-2 c κs = omega (arith, third-room (c .before .before .before .pre .1 .1))
+repeat-requires-2 c κs = omega (arith, third-room (c .before .before .before .pre))
 
 sub-turn-3 : tie.Need-sub-turn-3
 sub-turn-3 c = search needs
@@ -78,18 +77,18 @@ part-turn-start-3 : tie.Need-part-turn-start-3
 part-turn-start-3 c = search needs
 
 part-turn-end-3 : tie.Need-part-turn-end-3
-part-turn-end-3 c = omega (arith, third-room (c .before .before .before .before .before .before .pre .1 .1), c .before .before .repeat2 .kept .0)
+part-turn-end-3 c = omega (arith, third-room (c .before .before .before .before .before .before .pre), c .before .before .repeat2 .kept .0)
 
 turn-requires-3 : tie.Need-turn-requires-3
-turn-requires-3 c κs = (c .before .before .before .before .before .before .before .pre .0, first-held (c .before .before .before .before .before .before .before .pre .1 .1) (once (c .before .before .before .before .before .before .before .pre .1 .1) (c .before .before .before .repeat2 .ensures)))
+turn-requires-3 c κs = let p = c .before .before .before .before .before .before .before .pre in first-held p (once p (c .before .before .before .repeat2 .ensures))
 
 same-length-2 : tie.Need-same-length-2
 same-length-2 c = search needs
 
 returns-2 : tie.Need-returns-2
-returns-2 c = λ l m p.
-    let t = once p (c .before .before .before .before .before .before .repeat2 .ensures) in
-    conjugate-written p (c .before .before .before .before .before .before .before .before .if1 .left) t (c .before .before .turn3 .ensures l (first-held p t))
+returns-2 c =
+    let p = c .before .before .before .before .before .before .before .before .before .before .pre in
+    conjugate-written p (c .before .before .before .before .before .before .before .before .if1 .left) (once p (c .before .before .before .before .before .before .repeat2 .ensures)) (c .before .before .turn3 .ensures)
 
 pub complete-binary-spec : {M : Type 1} → statement M
 complete-binary-spec =
@@ -97,7 +96,7 @@ complete-binary-spec =
     (tie.spec
     add-size
     add-third
-    add-total
+    add-whole
     repeat-requires
     sub-turn
     part-turn-start

@@ -4,7 +4,7 @@ use mathlib.Core.Path.{refl, sym, ap, _∙_}
 use Rattle.expand.proofs.Parts.{put-room}
 use native.Mathlib.Omega.{arith}
 use Rattle.notation.specs.Numbers.{fromBits}
-use Rattle.expand.proofs.Completing.{one-repeat, repeats-fit, contents-held, turned-written, kept-written}
+use Rattle.expand.proofs.Completing.{one-repeat, contents-held, turned-written, kept-written}
 use borrow.Author.Needs.{needs}
 use Rattle.expand.proofs.flatten.repeat_block.Statement.{statement}
 use Rattle.expand.proofs.flatten.repeat_block.Tie as tie
@@ -16,7 +16,7 @@ cast-total : tie.Need-cast-total
 cast-total c = search needs
 
 mul-total : tie.Need-mul-total
-mul-total c = omega (arith, ap (λ (z : ℕ). c .before .before .args .size * z) (c .magnitude .ensures), repeats-fit (c .before .before .pre .1), c .before .before .good)
+mul-total c = omega (arith, ap (λ (z : ℕ). c .before .before .args .size * z) (c .magnitude .ensures), c .before .before .pre .room, c .before .before .good)
 
 is-negative-requires : tie.Need-is-negative-requires
 is-negative-requires c κs = search needs
@@ -28,35 +28,35 @@ part-turn-start : tie.Need-part-turn-start
 part-turn-start c = search needs
 
 part-turn-end : tie.Need-part-turn-end
-part-turn-end c = omega (arith, one-repeat (c .before .before .before .before .pre .1), repeats-fit (c .before .before .before .before .pre .1))
+part-turn-end c = omega (arith, one-repeat (c .before .before .before .before .pre), c .before .before .before .before .pre .room)
 
 turn-requires : tie.Need-turn-requires
-turn-requires c κs = (c .before .before .before .before .before .pre .0, contents-held (c .before .before .before .before .before .pre .1))
+turn-requires c κs = contents-held (c .before .before .before .before .before .pre)
 
 repeat-requires : tie.Need-repeat-requires
 repeat-requires c κs = (
-  omega (arith, ap (λ (z : ℕ). c .before .before .before .before .before .before .before .before .before .args .size * z) (c .before .before .before .before .before .before .before .magnitude .ensures), one-repeat (c .before .before .before .before .before .before .before .before .before .pre .1)),
+  omega (arith, ap (λ (z : ℕ). c .before .before .before .before .before .before .before .before .before .args .size * z) (c .before .before .before .before .before .before .before .magnitude .ensures), one-repeat (c .before .before .before .before .before .before .before .before .before .pre)),
   put-room 0 (c .before .before .before .before .before .before .before .before .before .args .size - 0) (c .before .before .before .before .before .before .before .before .before .args .size * c .before .before .before .before .before .before .before .magnitude .result) (c .before .before .before .before .before .before .before .before .before .args .out .now) (c .before .before .before .turn .last .0) (c .before .before .before .turn .kept .0)
-      (omega (arith, ap (λ (z : ℕ). c .before .before .before .before .before .before .before .before .before .args .size * z) (c .before .before .before .before .before .before .before .magnitude .ensures), repeats-fit (c .before .before .before .before .before .before .before .before .before .pre .1))),
+      (omega (arith, ap (λ (z : ℕ). c .before .before .before .before .before .before .before .before .before .args .size * z) (c .before .before .before .before .before .before .before .magnitude .ensures), c .before .before .before .before .before .before .before .before .before .pre .room)),
 )
 
 same-length : tie.Need-same-length
 same-length c = search needs
 
 returns : tie.Need-returns
-returns c = λ l r.
-    turned-written (fromBits 32 (c .before .before .before .before .before .before .before .before .before .before .before .before .args .multiplier)) l (c .before .before .before .before .before .before .before .before .before .before .magnitude .ensures) (sym (c .before .before .before .before .before .before .before .before .before .is-negative .ensures) ∙ c .before .before .before .before .before .before .before .before .if1 .taken) r
-    (c .before .before .before .before .before .before .turn .ensures l (contents-held r)) refl (c .before .before .repeat .ensures)
+returns c =
+    turned-written (fromBits 32 (c .before .before .before .before .before .before .before .before .before .before .before .before .args .multiplier)) (c .before .before .before .before .before .before .before .before .before .before .magnitude .ensures) (c .before .before .before .before .before .before .before .before .before .before .before .before .pre) (sym (c .before .before .before .before .before .before .before .before .before .is-negative .ensures) ∙ c .before .before .before .before .before .before .before .before .if1 .taken)
+    (c .before .before .before .before .before .before .turn .ensures) refl (c .before .before .repeat .ensures)
 
 repeat-requires-2 : tie.Need-repeat-requires-2
-repeat-requires-2 c κs = omega (arith, ap (λ (z : ℕ). c .before .before .before .before .before .args .size * z) (c .before .before .before .magnitude .ensures), one-repeat (c .before .before .before .before .before .pre .1), repeats-fit (c .before .before .before .before .before .pre .1))
+repeat-requires-2 c κs = omega (arith, ap (λ (z : ℕ). c .before .before .before .before .before .args .size * z) (c .before .before .before .magnitude .ensures), one-repeat (c .before .before .before .before .before .pre), c .before .before .before .before .before .pre .room)
 
 same-length-2 : tie.Need-same-length-2
 same-length-2 c = search needs
 
 returns-2 : tie.Need-returns-2
-returns-2 c = λ l r.
-    kept-written (fromBits 32 (c .before .before .before .before .before .before .before .before .args .multiplier)) l (c .before .before .before .before .before .before .magnitude .ensures) (sym (c .before .before .before .before .before .is-negative .ensures) ∙ c .before .before .before .before .if1 .left) r
+returns-2 c =
+    kept-written (fromBits 32 (c .before .before .before .before .before .before .before .before .args .multiplier)) (c .before .before .before .before .before .before .magnitude .ensures) (c .before .before .before .before .before .before .before .before .pre) (sym (c .before .before .before .before .before .is-negative .ensures) ∙ c .before .before .before .before .if1 .left)
     (c .before .before .repeat2 .ensures)
 
 pub repeat-block-spec : {M : Type 1} → statement M

@@ -1,0 +1,87 @@
+-- The steps that bytes hold. Of the records of steps that fit these are the steps; of the records of any steps that can be undone, steps with
+-- the same records, also undone. Assumes nothing.
+use Prim.Native.Nat.{ℕ}
+use mathlib.Core.Path.{_≡_, refl, sym, ap, ap₂, _∙_, subst}
+use mathlib.Core.Bool.{Bool, true, false}
+use mathlib.Core.List.{List, [], _∷_, _++_, map, reverse-cons}
+use lib.IntN.{ℤ, natAbs}
+use Rattle.notation.specs.Tree.{Leaf, leaf, nil, cons, Tree}
+use Rattle.notation.specs.Packed.{leafRecord, packNode, pack}
+use Rattle.notation.specs.Entries.{records}
+use Rattle.notation.specs.Invert.{undo}
+use Rattle.notation.specs.Unroll.{copies, turned}
+use Rattle.record.specs.Range.{FitsLeaf}
+use Rattle.laws.proofs.Packing.{FitsNode, FitsTree, unpack-pack}
+use Rattle.laws.proofs.Unrolling.{backwards, flatNode, flat}
+use Rattle.expand.specs.Steps.{Undoable, All, none, one, held, Holds, either, completed, repeats}
+use Rattle.expand.proofs.Steps.{records-append, records-copies}
+use Rattle.expand.proofs.Undoing.{wrapped, wrapped-fits, wrapped-record, wrapped-undone-record}
+
+-- steps as a tree
+unfoldable listed : List Leaf → Tree
+listed [] = nil
+listed (x ∷ l) = cons (leaf x) (listed l)
+
+listed-bytes : (l : List Leaf) → pack (listed l) ≡ records l
+unfolding listed pack packNode records
+listed-bytes [] = refl
+listed-bytes (x ∷ l) = ap (λ (s : List ℕ). leafRecord x ++ s) (listed-bytes l)
+
+listed-fits : {l : List Leaf} → All FitsLeaf l → FitsTree (listed l)
+unfolding listed FitsTree FitsNode
+listed-fits none = tt
+listed-fits (one h p) = (h, listed-fits p)
+
+listed-flat : (l : List Leaf) → flat undo false (listed l) ≡ l
+unfolding listed flat flatNode
+listed-flat [] = refl
+listed-flat (x ∷ l) = ap (λ (s : List Leaf). x ∷ s) (listed-flat l)
+
+pub held-records : {l : List Leaf} → All FitsLeaf l → held (records l) ≡ l
+held-records {l} p = ap held (sym (listed-bytes l)) ∙ ap (flat undo false) (unpack-pack (listed l) (listed-fits p)) ∙ listed-flat l
+
+-- steps that can be undone, as the records have them
+all-wrapped : {l : List Leaf} → All Undoable l → All FitsLeaf (map wrapped l)
+all-wrapped none = none
+all-wrapped (one {x = x} h p) = one (wrapped-fits x h) (all-wrapped p)
+
+records-wrapped : {l : List Leaf} → All Undoable l → records (map wrapped l) ≡ records l
+unfolding records
+records-wrapped none = refl
+records-wrapped (one {x = x} h p) = ap₂ (λ (a b : List ℕ). a ++ b) (wrapped-record x h) (records-wrapped p)
+
+-- the records of a step and more, backwards
+pub records-backwards : (x : Leaf) (l : List Leaf) → records (backwards (x ∷ l)) ≡ records (backwards l) ++ (leafRecord (undo x) ++ [])
+unfolding records
+records-backwards x l = ap records (reverse-cons (undo x) (map undo l)) ∙ records-append (backwards l) (undo x ∷ [])
+
+backwards-wrapped : {l : List Leaf} → All Undoable l → records (backwards (map wrapped l)) ≡ records (backwards l)
+backwards-wrapped none = refl
+backwards-wrapped (one {x = x} {l = l} h p) =
+    records-backwards (wrapped x) (map wrapped l)
+    ∙ ap₂ (λ (a b : List ℕ). a ++ (b ++ [])) (backwards-wrapped p) (wrapped-undone-record x h)
+    ∙ sym (records-backwards x l)
+
+-- bytes that are the records of steps that can be undone
+module _ {bs : List ℕ} {l : List Leaf} (e : bs ≡ records l) (u : All Undoable l) where
+  held-wrapped : held bs ≡ map wrapped l
+  held-wrapped = ap held (e ∙ sym (records-wrapped u)) ∙ held-records (all-wrapped u)
+
+  pub holds : Holds bs
+  holds = record { bytes = ap records held-wrapped ∙ records-wrapped u ∙ sym e; fits = subst (All FitsLeaf) (sym held-wrapped) (all-wrapped u) }
+
+  pub same-either : (d : Bool) → records (either (held bs) d) ≡ records (either l d)
+  same-either true = ap (λ (k : List Leaf). records (backwards k)) held-wrapped ∙ backwards-wrapped u
+  same-either false = ap records held-wrapped ∙ records-wrapped u
+
+  pub same-repeats : (m : ℤ) → records (repeats m (held bs)) ≡ records (repeats m l)
+  same-repeats m =
+      records-copies (natAbs m) (either (held bs) (turned m false))
+      ∙ ap (copies (natAbs m)) (same-either (turned m false))
+      ∙ sym (records-copies (natAbs m) (either l (turned m false)))
+
+-- the same of two lists
+pub same-completed : (k : Bool) {xs ys : List ℕ} {l m : List Leaf} → xs ≡ records l → All Undoable l → ys ≡ records m → All Undoable m →
+    records (completed k (held xs) (held ys)) ≡ records (completed k l m)
+same-completed true {xs} {ys} e u e′ u′ = simp (records-append, same-either e u true, same-either e u false, same-either e′ u′ true, same-either e′ u′ false)
+same-completed false {xs} {ys} e u e′ u′ = simp (records-append, same-either e u true, same-either e u false, same-either e′ u′ false)
