@@ -6,7 +6,7 @@ root=$(cd "$(dirname "$0")/../.." && pwd)
 kit=$(dirname "$(dirname "$(readlink -f "$(command -v rt)")")")
 own=$kit/on/$(uname -m)
 out=$root/target/forms
-crates="notation charsets numbers layer record laws nodes parse tree display simplify invert expand hypuz_notation reader ranges"
+crates="notation charsets numbers layer record laws nodes parse tree display simplify invert expand sound entries hypuz_notation reader ranges"
 rm -rf "$out" && mkdir -p "$out"
 for c in $crates; do mkdir -p "$out/$c" && cp -r "$root/crates/$c/src" "$out/$c/src"; done
 # Handed over as sources, a library may not have a module with another library's name: notation's `charsets` and parse's `nodes` get other ones here.

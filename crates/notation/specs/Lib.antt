@@ -1,4 +1,7 @@
--- Every rule of document 01, in its order. Nothing else in the repository has to be believed.
+-- Every rule of document 01, in its order. Nothing else in the repository has to be believed, but what a value of a crate's own type stands for where a
+-- public contract names one: hypuz_notation/specs/Agreement (the answers of `agree`), entries/specs/Parts (`family_part`), layer/specs/Meaning (`range`, of
+-- `ranges::simplify`), reader/specs/Cursor with parse/specs/Meaning and record/specs/Meaning (`Reader`), listing/specs/Listing (`list_whole`). The programs lister and
+-- replay rest on two axioms of the kit: the contracts of libc's `read` and `write`.
 pub mod Basics
 pub mod Features
 pub mod Chars
