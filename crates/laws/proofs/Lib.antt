@@ -4,6 +4,7 @@ pub mod Bools
 pub mod Unrolling
 pub mod Inverses
 pub mod Reached
+pub mod Refused
 pub mod Counting
 pub mod Seeking
 -- Packed trees and their inverses.

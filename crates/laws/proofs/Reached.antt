@@ -63,11 +63,11 @@ order-both : (d : Bool) (r q : Option ℕ) → r ≡ none → q ≡ none → fir
 order-both true r q e h = first-both q r h e
 order-both false r q e h = first-both r q e h
 
-order-left : (d : Bool) (r q : Option ℕ) → firstInOrder d r q ≡ none → r ≡ none
+pub order-left : (d : Bool) (r q : Option ℕ) → firstInOrder d r q ≡ none → r ≡ none
 order-left true r q e = first-right q r e
 order-left false r q e = first-left r q e
 
-order-right : (d : Bool) (r q : Option ℕ) → firstInOrder d r q ≡ none → q ≡ none
+pub order-right : (d : Bool) (r q : Option ℕ) → firstInOrder d r q ≡ none → q ≡ none
 order-right true r q e = first-left q r e
 order-right false r q e = first-right r q e
 
@@ -136,7 +136,7 @@ leaf-clean x true r e = go (overflows x) r
     go false h = refl
 leaf-clean x false r e = and-left _ _ e
 
-niss-clean : (t : Bool) (q : Option ℕ) → pick t (some NISS) q ≡ none → (not t ≡ true) × (q ≡ none)
+pub niss-clean : (t : Bool) (q : Option ℕ) → pick t (some NISS) q ≡ none → (not t ≡ true) × (q ≡ none)
 niss-clean true q e = no-some e
 niss-clean false q e = (refl, e)
 
