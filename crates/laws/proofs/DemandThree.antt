@@ -96,7 +96,7 @@ undo-fits (pair u d) n h =
 undo-fits slash n h = refl
 undo-fits (megaminx k) n h = refl
 
-undo-negatable : (x : Leaf) → leafFits x ≡ true → negatable (undo x) ≡ true
+pub undo-negatable : (x : Leaf) → leafFits x ≡ true → negatable (undo x) ≡ true
 unfolding leafFits
 undo-negatable (rotation f c m) h = refl
 undo-negatable (move t l f c m) h = refl
@@ -232,7 +232,7 @@ pub record Tidy (f : Features) (text : List ℕ) (t : Tree) : Type 0 where
   pub ranged : inRange f (unspanned text t) ≡ true
   pub nested : parens t ≤ 64
 
-tidy-fits : {f : Features} {text : List ℕ} {t : Tree} → Tidy f text t → FitsTree t
+pub tidy-fits : {f : Features} {text : List ℕ} {t : Tree} → Tidy f text t → FitsTree t
 tidy-fits {text = text} {t = t} p = tree-fits text (p .accepted .short) t (p .inBounds) (p .fits) (p .small)
 
 tidy-well-formed : {f : Features} {text : List ℕ} {t : Tree} → Tidy f text t → wellFormed text (pack t) ≡ true

@@ -29,3 +29,4 @@ pub mod ReadBack
 -- Demand 3.
 pub mod Accepting
 pub mod DemandThree
+pub mod Harmless

@@ -7,14 +7,13 @@ use mathlib.Core.Option.{Option, none, some}
 use native.Mathlib.Omega.{arith}
 use lib.IntN.{ℤ, pos, negsuc, natAbs}
 use Rattle.notation.specs.Basics.{pick}
-use Rattle.notation.specs.Refusals.{refusal, result, NISS, OVERFLOW}
+use Rattle.notation.specs.Refusals.{refusal, NISS, OVERFLOW}
 use Rattle.notation.specs.Tree.{Leaf, Node, leaf, block, Body, group, binaryGroup, nil, cons, Tree}
 use Rattle.notation.specs.Invert.{undo, overflows}
 use Rattle.notation.specs.Unroll.{turned, isNiss, flatten}
 use Rattle.notation.specs.Reached.{
   Enters, inGroup, inFirst, inCommutator, inConjugate, Reached, here, later, inside, Causes, niss, least, RefusedWhereReached
 }
-use Rattle.notation.specs.declared.common.GroupKind.{GroupKind}
 use Rattle.notation.specs.declared.common.GroupKind.the-variants.{Simple, Macro, Simultaneous, Niss}
 use Rattle.notation.specs.declared.common.BinaryGroupKind.{BinaryGroupKind}
 use Rattle.notation.specs.declared.common.BinaryGroupKind.the-variants.{Commutator, Conjugate}
@@ -83,10 +82,15 @@ niss-causes (group Macro a) h = absurd (false-true h)
 niss-causes (group Simultaneous a) h = absurd (false-true h)
 niss-causes (binaryGroup k a b) h = absurd (false-true h)
 
+pub nonzero : {n : ℕ} (m : ℤ) → natAbs m ≡ suc n → m ≡ pos 0 → ⊥
+nonzero m e z = let w : natAbs m ≡ 0 = ap natAbs z in omega arith
+
 entered : {r : ℕ} (m : ℤ) (q : Option ℕ) → ifReached (natAbs m) q ≡ some r → (m ≡ pos 0 → ⊥) × (q ≡ some r)
-entered (pos zero) q h = no-some (sym h)
-entered (pos (suc n)) q h = (λ (z : pos (suc n) ≡ pos 0). let w : suc n ≡ 0 = cc in omega arith, h)
-entered (negsuc n) q h = (λ (z : negsuc n ≡ pos 0). let w : _≡_ {A = ℕ} 0 1 = cc in omega arith, h)
+entered {r} m q h = go (natAbs m) refl h
+  where
+    go : (n : ℕ) → natAbs m ≡ n → ifReached n q ≡ some r → (m ≡ pos 0 → ⊥) × (q ≡ some r)
+    go zero e h = no-some (sym h)
+    go (suc n) e h = (nonzero m e, h)
 
 block-met : {r : ℕ} (d : Bool) (g : Body Leaf) (m : ℤ) (l : Tree) → refusalNode d (block g m) ≡ some r →
     (refusalBody (turned m d) g ≡ some r → MetIn (turned m d) g r) → Met d (cons (block g m) l) r
