@@ -40,7 +40,8 @@ pub record RefusedWhereReached (t : Tree) : Type 0 where
   pub caused : (r : ℕ) → flatten t ≡ refusal r → (e : Bool) × (n : Node Leaf) × Reached false t e n × Causes e n r
   pub refused : (e : Bool) (n : Node Leaf) (r : ℕ) → Reached false t e n → Causes e n r → (r′ : ℕ) × (flatten t ≡ refusal r′)
 
--- What demand 3 asks of the nodes of a text, in its words: unrolled in direction d, no NISS group and no pair with −2147483648 is reached.
+-- Unrolled in direction d, a tree reaches no NISS group and no pair with −2147483648. Of an accepted text whose tree is such, and whose
+-- steps can be counted, demand 3 assumes nothing more (laws/proofs/Harmless.antt).
 pub record Harmless (d : Bool) (t : Tree) : Type 0 where
   pub noNiss : (e : Bool) (a : Tree) (m : ℤ) → Reached d t e (block (group Niss a) m) → ⊥
   pub noLeast : (e : Bool) (x : Leaf) → Reached d t e (leaf x) → overflows x ≡ false

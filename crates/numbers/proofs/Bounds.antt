@@ -15,7 +15,7 @@ use Rattle.notation.specs.Basics.{pick, choose}
 use Rattle.notation.specs.Numbers.{digitRun, decimal, isDigit, fromBits, toBits}
 use Rattle.notation.specs.Grammar.{Reading, rejected, read, andThen, orElse, done, uint, sint, just}
 use Rattle.numbers.proofs.DigitRuns.{run-low}
-use Rattle.numbers.proofs.TwosComplement.{opposite-magnitude, fromBits-toBits, signed-fits}
+use Rattle.numbers.proofs.TwosComplement.{opposite-magnitude, fromBits-toBits, opposite-fits}
 
 -- a run of digits lies within the text
 pub run-length : (s : List ℕ) → digitRun s ≤ length s
@@ -59,7 +59,7 @@ number low high at s value next rest e = go (ltb 0 (digitRun s)) (leb low (decim
 pub negated : (m bits : ℕ) → m ≤ 2147483648 → bits ≡ toBits 32 (negℤ (fromBits 32 m)) → fromBits 32 bits ≡ negℤ (pos m)
 negated m bits h e =
     ap (fromBits 32) (e ∙ opposite-magnitude m (omega arith))
-    ∙ fromBits-toBits 32 (negℤ (pos m)) (omega arith) (signed-fits 32 true m (omega arith))
+    ∙ fromBits-toBits 32 (negℤ (pos m)) (omega arith) (opposite-fits 32 m h)
 
 pub not-negated : (m : ℕ) → m ≤ 2147483647 → fromBits 32 m ≡ pos m
 not-negated m h = rw (lt-ltb m 2147483648 (omega arith))
