@@ -8,7 +8,7 @@ use native.Mathlib.Omega.{arith}
 use borrow.Author.Tests.{lt-ltb, le-ltb, le-leb, lt-leb, ltb-true, ltb-false}
 use lib.Dec.{ltb, leb}
 use lib.Pow.{pow-pos}
-use lib.IntN.{ℤ, pos, negsuc, negℤ}
+use lib.IntN.{ℤ, pos, negsuc, negℤ, natAbs}
 use Rattle.numbers.specs.Sign.{isNegative}
 use Rattle.notation.specs.Basics.{pick}
 use Rattle.notation.specs.Numbers.{toBits, fromBits, fitsBits}
@@ -35,6 +35,12 @@ toBits-fromBits w n h = go (ltb n (2 ^ (w - 1)))
     go : (t : Bool) → toBits w (pick t (pos n) (negsuc (2 ^ w - suc n))) ≡ n
     go true = refl
     go false = omega arith
+
+-- a number and its opposite
+pub natAbs-neg : (z : ℤ) → natAbs (negℤ z) ≡ natAbs z
+natAbs-neg (pos zero) = refl
+natAbs-neg (pos (suc n)) = refl
+natAbs-neg (negsuc n) = refl
 
 -- below 0 a number of w bits reaches one further than above
 pub opposite-fits : (w m : ℕ) → m ≤ 2 ^ (w - 1) → fitsBits w (negℤ (pos m)) ≡ true
