@@ -18,9 +18,7 @@ use Rattle.notation.specs.Unroll.{flatten}
 use Rattle.notation.specs.Entries.{Lent, lend, textOk, nestingOk, treeIn, reading, checked, steps, countSteps, stepAt, MAX-TEXT, MAX-STEPS}
 use Rattle.notation.specs.Demands.{Gives}
 use Rattle.notation.specs.declared.features.Features.{Features}
-
-no-refusal : {A B : Type 0} {r : ℕ} {a : A} → _≡_ {A = Outcome A} (refusal r) (result a) → B
-no-refusal e = absurd (let n : _≡_ {A = ℕ} 0 1 = cc in omega arith)
+use Rattle.laws.proofs.Bools.{no-refusal}
 
 -- what an accepted text is, and that such a text is accepted
 pub record Accepted (f : Features) (text : List ℕ) (t : Tree) : Type 0 where

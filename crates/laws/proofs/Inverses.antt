@@ -115,7 +115,7 @@ unfolding append
 append-assoc-nodes nil b c = refl
 append-assoc-nodes (cons n a) b c = ap (cons n) (append-assoc-nodes a b c)
 
-append-nil-nodes : (a : Tree) → append a nil ≡ a
+pub append-nil-nodes : (a : Tree) → append a nil ≡ a
 unfolding append
 append-nil-nodes nil = refl
 append-nil-nodes (cons n a) = ap (cons n) (append-nil-nodes a)

@@ -1,5 +1,6 @@
 -- Small facts.
 pub mod Bools
+pub mod ListEntries
 -- Unrolling, inverses, counting, seeking.
 pub mod Unrolling
 pub mod Inverses

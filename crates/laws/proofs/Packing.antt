@@ -95,7 +95,7 @@ record-step k h rest f =
         (ap (λ (s : List ℕ). unpackFrom k (take (RECORD * n′) s)) (past (RECORD * n)))
         ∙ ap (λ (s : List ℕ). cons (block (binaryGroup g (unpackFrom k (take (RECORD * n) rest)) (unpackFrom k (take (RECORD * n′) (drop (RECORD * n) rest)))) m) (unpackFrom k s)) (past (RECORD * (n + n′)))
 
-unpack-nil : (k : ℕ) → unpackFrom k [] ≡ nil
+pub unpack-nil : (k : ℕ) → unpackFrom k [] ≡ nil
 unfolding unpackFrom
 unpack-nil zero = refl
 unpack-nil (suc k) = refl

@@ -15,7 +15,8 @@ use Rattle.notation.specs.Unroll.{copies, turned, isNiss, flatten, flattenNodes
 use Rattle.notation.specs.declared.common.GroupKind.the-variants.{Simple, Macro, Simultaneous, Niss}
 use Rattle.notation.specs.declared.common.BinaryGroupKind.{BinaryGroupKind}
 use Rattle.notation.specs.declared.common.BinaryGroupKind.the-variants.{Commutator, Conjugate}
-use Rattle.laws.proofs.Bools.{and-left, and-right, and-both, not-true, no-some}
+use Rattle.numbers.proofs.TwosComplement.{natAbs-neg}
+use Rattle.laws.proofs.Bools.{and-left, and-right, and-both, not-true, no-some, no-refusal}
 use Rattle.laws.proofs.Unrolling.{
   backwards, verdict, first, ifReached, firstInOrder, inOrder, flatBinary, refusalBinary, flatNode, flatBody, flat, flatten-is,
   refusalNode, refusalBody, firstRefusal
@@ -196,11 +197,6 @@ unfolding firstRefusal append
 refusal-append nil b p q = q
 refusal-append (cons n a) b p q = first-both (refusalNode false n) _ (first-left _ _ p) (refusal-append a b (first-right (refusalNode false n) _ p) q)
 
-natAbs-neg : (m : ℤ) → natAbs (negℤ m) ≡ natAbs m
-natAbs-neg (ℤ.pos zero) = refl
-natAbs-neg (ℤ.pos (suc n)) = refl
-natAbs-neg (ℤ.negsuc n) = refl
-
 node-inverted-walks : (n : Node Leaf) → cleanNode negatable n ≡ true → refusalNode false (invertedNode n) ≡ none
 unfolding refusalNode cleanNode
 node-inverted-walks (leaf x) e = refl
@@ -218,7 +214,7 @@ inverted-walks (cons n l) e =
 -- From an unrolled list, all of whose steps can be undone, to the inverse's unrolled list.
 verdict-list : {A : Type 0} (r : Option ℕ) (l m : A) → verdict r l ≡ result m → (r ≡ none) × (l ≡ m)
 verdict-list none l m e = (refl, cc)
-verdict-list (some r) l m e = absurd (let n : _≡_ {A = ℕ} 0 1 = cc in omega arith)
+verdict-list (some r) l m e = no-refusal e
 
 pub unrolled-list : (t : Tree) (list : List Leaf) → flatten t ≡ result list → (firstRefusal false t ≡ none) × (flat undo false t ≡ list)
 unrolled-list t list e = verdict-list (firstRefusal false t) (flat undo false t) list (sym (flatten-is t false) ∙ e)

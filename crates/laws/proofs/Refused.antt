@@ -17,7 +17,7 @@ use Rattle.notation.specs.Reached.{
 use Rattle.notation.specs.declared.common.GroupKind.the-variants.{Simple, Macro, Simultaneous, Niss}
 use Rattle.notation.specs.declared.common.BinaryGroupKind.{BinaryGroupKind}
 use Rattle.notation.specs.declared.common.BinaryGroupKind.the-variants.{Commutator, Conjugate}
-use Rattle.laws.proofs.Bools.{false-true, no-some}
+use Rattle.laws.proofs.Bools.{false-true, no-some, no-refusal}
 use Rattle.laws.proofs.Unrolling.{
   verdict, first, ifReached, firstInOrder, refusalBinary, flat, flatten-is, refusalNode, refusalBody, firstRefusal
 }
@@ -162,7 +162,7 @@ blocked (inside {d} {g = g} {m = m} {l = l} z i w) c h =
 
 -- The theorem.
 verdict-refusal : {A : Type 0} {r : ℕ} (q : Option ℕ) (l : A) → verdict q l ≡ refusal r → q ≡ some r
-verdict-refusal none l h = absurd (let n : _≡_ {A = ℕ} 0 1 = cc in omega arith)
+verdict-refusal none l h = no-refusal (sym h)
 verdict-refusal (some q) l h = ap some cc
 
 pub refused-where-reached : (t : Tree) → RefusedWhereReached t

@@ -17,6 +17,7 @@ use Rattle.notation.specs.Unroll.{copies, turned}
 use Rattle.notation.specs.declared.common.BinaryGroupKind.{BinaryGroupKind}
 use Rattle.notation.specs.declared.common.BinaryGroupKind.the-variants.{Commutator, Conjugate}
 use Rattle.notation.proofs.Marked.{length-copies}
+use Rattle.laws.proofs.ListEntries.{get-append-left, get-append-right, get-past}
 use Rattle.laws.proofs.Unrolling.{inOrder, flatBinary, flatNode, flatBody, flat}
 use Rattle.laws.proofs.Counting.{countNode, countBody, count, countNode-is, countBody-is, count-is}
 
@@ -58,16 +59,6 @@ pub record Finds (l : List Leaf) (c : ℕ) (f : Finder) : Type 0 where
   pub long : length l ≡ c
   pub finds : (k : ℕ) → getElem? l k ≡ f k
 
-get-append-left : (a b : List Leaf) (k : ℕ) → k < length a → getElem? (a ++ b) k ≡ getElem? a k
-get-append-left [] b k h = absurd (omega arith)
-get-append-left (x ∷ a) b zero h = refl
-get-append-left (x ∷ a) b (suc k) h = get-append-left a b k (omega arith)
-
-get-append-right : (a b : List Leaf) (k : ℕ) → length a ≤ k → getElem? (a ++ b) k ≡ getElem? b (k - length a)
-get-append-right [] b k h = ap (getElem? b) (omega arith)
-get-append-right (x ∷ a) b zero h = absurd (omega arith)
-get-append-right (x ∷ a) b (suc k) h = get-append-right a b k (omega arith) ∙ ap (getElem? b) (omega arith)
-
 finds-parts : (a b : List Leaf) (c e : ℕ) (f g : Finder) → Finds a c f → Finds b e g → Finds (a ++ b) (c + e) (parts c f g)
 finds-parts a b c e f g p q = record { long = length-append a b ∙ omega (arith, p .long, q .long); finds = at }
   where
@@ -80,11 +71,6 @@ finds-parts a b c e f g p q = record { long = length-append a b ∙ omega (arith
         go false h =
             let l : c ≤ k = ltb-false k c h in
             get-append-right a b k (omega (arith, p .long)) ∙ ap (λ (m : ℕ). getElem? b (k - m)) (p .long) ∙ q .finds (k - c)
-
-get-past : (l : List Leaf) (k : ℕ) → length l ≤ k → getElem? l k ≡ none
-get-past [] k h = refl
-get-past (x ∷ l) zero h = absurd (omega arith)
-get-past (x ∷ l) (suc k) h = get-past l k (omega arith)
 
 get-copies : (l : List Leaf) (c : ℕ) (f : Finder) → Finds l c f → (n k : ℕ) → k < n * c → getElem? (copies n l) k ≡ f (k % c)
 unfolding copies

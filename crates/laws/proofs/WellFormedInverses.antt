@@ -13,15 +13,11 @@ use Rattle.notation.specs.WellFormed.{multiplierOk, leafOk, nodeOk, bodyOk, tre
 use Rattle.notation.specs.Invert.{undo}
 use Rattle.notation.specs.declared.common.BinaryGroupKind.{BinaryGroupKind}
 use Rattle.notation.specs.declared.common.BinaryGroupKind.the-variants.{Commutator, Conjugate}
+use Rattle.numbers.proofs.TwosComplement.{natAbs-neg}
 use Rattle.laws.proofs.Bools.{and-left, and-right, and-both}
 use Rattle.laws.proofs.Inverses.{inverted, invertedNode, deeply, deeplyNode, deeplyBody}
 
-natAbs-neg : (m : ℤ) → natAbs (negℤ m) ≡ natAbs m
-natAbs-neg (pos zero) = refl
-natAbs-neg (pos (suc n)) = refl
-natAbs-neg (negsuc n) = refl
-
-multiplier-neg : (m : ℤ) → multiplierOk (negℤ m) ≡ multiplierOk m
+pub multiplier-neg : (m : ℤ) → multiplierOk (negℤ m) ≡ multiplierOk m
 multiplier-neg m = ap (λ (n : ℕ). ltb n 2147483648) (natAbs-neg m)
 
 -- undoing keeps a leaf in bounds
