@@ -2,21 +2,20 @@
 use Prim.Native.Nat.{ℕ, zero, suc, _+_, _-_, _*_, _≤_}
 use mathlib.Core.Path.{_≡_, refl, sym, ap, ap₂, _∙_}
 use mathlib.Core.Bool.{Bool, true, false}
-use mathlib.Core.List.{List, [], _++_, map, append-assoc, append-nil}
+use mathlib.Core.List.{List, [], _++_, append-assoc, append-nil}
 use native.Mathlib.Nat.{mul-assoc, mul-comm}
 use native.Mathlib.Omega.{arith}
 use borrow.Rule.Slice.PartMut.{putMid}
 use lib.IntN.{ℤ, pos, negsuc, natAbs}
-use lib.ListN.{length, take, drop, length-append, length-reverse, length-map, take-append-drop}
+use lib.ListN.{length, take, drop, length-append, take-append-drop}
 use lib.Seq.{take-at, drop-at, take-all, take-append-add, drop-drop}
 use Rattle.notation.specs.Tree.{Leaf}
-use Rattle.notation.specs.Invert.{undo}
 use Rattle.notation.specs.Packed.{RECORD}
 use Rattle.notation.specs.Entries.{records}
 use Rattle.notation.specs.Unroll.{copies, turned}
 use Rattle.notation.proofs.Marked.{length-copies}
 use Rattle.numbers.specs.Sign.{isNegative}
-use Rattle.laws.proofs.Unrolling.{backwards, flatBinary}
+use Rattle.laws.proofs.Unrolling.{backwards, long-backwards, flatBinary}
 use Rattle.laws.proofs.Counting.{countBinary}
 use Rattle.notation.specs.declared.common.BinaryGroupKind.the-variants.{Commutator}
 use Rattle.expand.specs.Meaning.{binaryKind}
@@ -28,9 +27,6 @@ use Rattle.expand.proofs.Steps.{length-records, records-append, records
 -- what `repeat` leaves of s
 abbrev Repeated : List ℕ → ℕ → ℕ → List ℕ → Type 0
 Repeated s size total s₁ = (n : ℕ) → total ≤ n * size → s₁ ≡ take total (copies n (take size s)) ++ drop total s
-
-long-backwards : (l : List Leaf) → length (backwards l) ≡ length l
-long-backwards l = length-reverse (map undo l) ∙ length-map l undo
 
 held-part : {s p x q : List ℕ} {a e : ℕ} (l : List Leaf) → Three s p x q a e → x ≡ records l → AllUndoable l → Holds (part a e s) l
 held-part l t e u = record { bytes = the-part t ∙ e; undoable = u }
