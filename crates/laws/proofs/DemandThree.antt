@@ -1,38 +1,35 @@
 -- Demand 3 over the definitions. Assumes nothing.
-use Prim.Native.Nat.{ℕ, zero, suc, _+_, _-_, _≤_, _<_}
-use mathlib.Core.Path.{_≡_, refl, sym, ap, ap₂, _∙_, subst}
-use mathlib.Core.Bool.{Bool, true, false, not, _&&_, _||_}
-use mathlib.Core.List.{List, [], _∷_, _++_, map, reverse, reverse-cons}
-use mathlib.Core.Option.{Option, none, some}
+use Prim.Native.Nat.{ℕ, zero, suc, _-_, _≤_, _<_}
+use mathlib.Core.Path.{_≡_, refl, sym, ap, _∙_, subst}
+use mathlib.Core.Bool.{Bool, true, false, _&&_, _||_}
+use mathlib.Core.List.{List, map}
+use mathlib.Core.Option.{Option, some}
 use native.Mathlib.Omega.{arith}
 use borrow.Author.Tests.{ltb-true, lt-ltb, ne-eqb, eqb-false}
-use lib.Dec.{leb, ltb, eqb}
-use lib.IntN.{ℤ, pos, negsuc, negℤ, natAbs}
+use lib.Dec.{eqb}
+use lib.IntN.{ℤ, pos, negsuc, negℤ}
 use lib.ListN.{length, getElem?, length-map}
 use Rattle.notation.specs.Basics.{every}
 use Rattle.notation.specs.Numbers.{fitsBits}
-use Rattle.notation.specs.Utf8.{utf8}
-use Rattle.notation.specs.Tree.{LeafOf, Leaf, Step, rotation, move, pause, pair, slash, megaminx, Node, leaf, block, Body, group, binaryGroup, NodeList, nil, cons, append, Tree, mapNode, mapBody, mapNodes}
+use Rattle.notation.specs.Tree.{Leaf, Step, rotation, move, pause, pair, slash, megaminx, leaf, block, NodeList, nil, cons, append, Tree, mapNode, mapNodes}
 use Rattle.notation.specs.Packed.{pack, unpack, size, leafRecord}
-use Rattle.notation.specs.Refusals.{Outcome, refusal, result, _>>=_}
+use Rattle.notation.specs.Refusals.{result, _>>=_}
 use Rattle.notation.specs.Grammar.{notation}
-use Rattle.notation.specs.Meaning.{stepOf, unspanned, SameStep}
-use Rattle.notation.specs.WellFormed.{treeOk, wellFormed, depth, multiplierOk}
-use Rattle.notation.specs.Invert.{undo, overflows, isMin, inv}
-use Rattle.notation.specs.Print.{putNodes, printed}
+use Rattle.notation.specs.Meaning.{stepOf, unspanned}
+use Rattle.notation.specs.WellFormed.{treeOk, wellFormed}
+use Rattle.notation.specs.Invert.{undo, isMin}
+use Rattle.notation.specs.Print.{printed}
 use Rattle.notation.specs.Unroll.{flatten}
-use Rattle.notation.specs.Entries.{nestingOk, checked, reading, steps, countSteps, stepAt, inverse, display, parseNotation, invEntry, displayEntry, seekStep, MAX-TEXT, MAX-STEPS}
-use Rattle.notation.specs.Demands.{Gives, Unrollable, Agrees, Demand3, demand3}
+use Rattle.notation.specs.Entries.{checked, reading, steps, stepAt, inverse, display, MAX-TEXT, MAX-STEPS}
+use Rattle.notation.specs.Demands.{Unrollable, Agrees, Demand3, demand3}
 use Rattle.notation.specs.declared.features.Features.{Features}
 use Rattle.numbers.proofs.TwosComplement.{natAbs-neg}
-use Rattle.laws.proofs.Bools.{and-left, and-right, and-both, not-true, no-some, false-true}
+use Rattle.laws.proofs.Bools.{and-left, and-right, and-both, not-true, false-true}
 use Rattle.laws.proofs.ListEntries.{get-reverse, get-map, get-of-map}
-use Rattle.laws.proofs.Unrolling.{backwards, long-backwards, flat, flat-map, verdict, firstRefusal, flatten-is}
-use Rattle.laws.proofs.Inverses.{inverted, invertedNode, inverse-unrolls}
-use Rattle.laws.proofs.Reached.{
-  negatable, clean, cleanNode, cleanBody, cleanNodes, clean-map, clean-walks, unrollable-clean, unrolled-list, inverse-accepted, allIfReached
-}
-use Rattle.laws.proofs.InRange.{stepInRange, nodeInRange, bodyInRange, inRange}
+use Rattle.laws.proofs.Unrolling.{backwards, long-backwards, flat, flat-map, verdict, flatten-is}
+use Rattle.laws.proofs.Inverses.{inverted, inverse-unrolls}
+use Rattle.laws.proofs.Reached.{negatable, clean, cleanNode, cleanNodes, clean-map, clean-walks, unrollable-clean, unrolled-list, inverse-accepted}
+use Rattle.laws.proofs.InRange.{stepInRange, nodeInRange, inRange}
 use Rattle.laws.proofs.WellFormedInverses.{multiplier-neg, inverted-ok, inverted-size, inverted-depth}
 use Rattle.laws.proofs.Fits.{leafFits, nodeFits, bodyFits, treeFits}
 use Rattle.laws.proofs.Packing.{FitsTree, tree-fits, unpack-pack, packed-well-formed}

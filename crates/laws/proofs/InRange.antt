@@ -1,7 +1,7 @@
 -- The range of a setting's reading: the steps and trees that some text is read to. `reading-in-range` and `reads-back` show that this
 -- is exactly so. Assumes nothing.
 use Prim.Native.Nat.{ℕ}
-use mathlib.Core.Bool.{Bool, true, false, not, _&&_, _||_}
+use mathlib.Core.Bool.{Bool, true, not, _&&_, _||_}
 use mathlib.Core.List.{List}
 use mathlib.Core.Option.{Option, none, some}
 use lib.Dec.{leb, ltb, eqb}

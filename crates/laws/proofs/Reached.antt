@@ -5,13 +5,12 @@ use mathlib.Core.Path.{_≡_, refl, sym, ap, ap₂, _∙_}
 use mathlib.Core.Bool.{Bool, true, false, not, _&&_}
 use mathlib.Core.List.{List, [], _∷_, _++_}
 use mathlib.Core.Option.{Option, none, some}
-use native.Mathlib.Omega.{arith}
-use lib.IntN.{ℤ, natAbs, negℤ}
+use lib.IntN.{natAbs, negℤ}
 use Rattle.notation.specs.Basics.{pick, every}
-use Rattle.notation.specs.Refusals.{Outcome, refusal, result, NISS, OVERFLOW}
+use Rattle.notation.specs.Refusals.{result, NISS, OVERFLOW}
 use Rattle.notation.specs.Tree.{LeafOf, Leaf, Node, leaf, block, Body, group, binaryGroup, NodeList, nil, cons, append, Tree, mapNode, mapBody, mapNodes}
 use Rattle.notation.specs.Invert.{undo, overflows, inv}
-use Rattle.notation.specs.Unroll.{copies, turned, isNiss, flatten, flattenNodes}
+use Rattle.notation.specs.Unroll.{copies, turned, isNiss, flatten}
 use Rattle.notation.specs.declared.common.GroupKind.the-variants.{Simple, Macro, Simultaneous, Niss}
 use Rattle.notation.specs.declared.common.BinaryGroupKind.{BinaryGroupKind}
 use Rattle.notation.specs.declared.common.BinaryGroupKind.the-variants.{Commutator, Conjugate}
@@ -21,7 +20,7 @@ use Rattle.laws.proofs.Unrolling.{
   backwards, verdict, first, ifReached, firstInOrder, inOrder, flatBinary, refusalBinary, flatNode, flatBody, flat, flatten-is,
   refusalNode, refusalBody, firstRefusal
 }
-use Rattle.laws.proofs.Inverses.{inverted, invertedNode, invRefusal, invRefusalNode, inv-is, flat-inverted, inverse-unrolls}
+use Rattle.laws.proofs.Inverses.{inverted, invertedNode, invRefusal, inv-is, inverse-unrolls}
 
 -- a step that can be undone
 abbrev pub negatable : {F C S : Type 0} → LeafOf F C S → Bool

@@ -12,10 +12,10 @@ use lib.Dec.{eqb, ltb}
 use lib.ListN.{length, take, drop, length-append, take-append-drop}
 use lib.Seq.{length-take-le, drop-append-seam}
 use borrow.Author.Tests.{ltb-true}
-use Rattle.notation.specs.Basics.{pick, choose, between}
+use Rattle.notation.specs.Basics.{pick, between}
 use Rattle.notation.specs.Chars.{whiteSpace}
 use Rattle.notation.specs.Utf8.{runFrom, run, afterFirst, widthIf}
-use Rattle.notation.specs.Numbers.{digitRun, decimal, isDigit}
+use Rattle.notation.specs.Numbers.{digitRun, decimal}
 use Rattle.notation.specs.Tree.{Span, span}
 use Rattle.notation.specs.Grammar.{
   Reading, rejected, read, Reader, done, fail, andThen, _>>=_, _>>_, orElse, _or_, when, just, word, takeWhile, whitespace,

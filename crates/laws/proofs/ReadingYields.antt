@@ -6,19 +6,19 @@ use mathlib.Core.Bool.{Bool, true, not, _&&_, _||_}
 use mathlib.Core.List.{List, [], _∷_, _++_}
 use mathlib.Core.Option.{Option, some}
 use native.Mathlib.Omega.{arith}
-use lib.Dec.{leb, ltb, eqb, eqb·suc-zero}
-use lib.IntN.{ℤ, pos, negsuc, negℤ}
+use lib.Dec.{leb, ltb, eqb·suc-zero}
+use lib.IntN.{ℤ, pos, negℤ}
 use lib.ListN.{length, take, drop, length-append}
 use lib.Seq.{length-take-le, take-append-seam, drop-append-seam, drop-drop}
-use borrow.Author.Tests.{leb-true, ltb-true, le-leb, lt-ltb, eq-eqb}
-use Rattle.notation.specs.Basics.{pick, between, every}
+use borrow.Author.Tests.{leb-true, le-leb, lt-ltb, eq-eqb}
+use Rattle.notation.specs.Basics.{between, every}
 use Rattle.notation.specs.Chars.{isFamilyChar}
 use Rattle.notation.specs.Utf8.{run, runFrom}
 use Rattle.notation.specs.Numbers.{fitsBits}
 use Rattle.notation.specs.Layers.{LayerSetElement, MAX-LAYER}
 use Rattle.notation.specs.Tree.{
-  Span, span, partOf, Constraint, Layers, layerRange, layerSet, Leaf, rotation, move, pause, pair, slash, megaminx,
-  Node, leaf, block, Body, group, binaryGroup, nil, cons, Tree, mapNode, mapBody, mapNodes
+  Span, span, partOf, Constraint, Layers, layerRange, layerSet, Leaf, rotation, move, pause, pair, slash, megaminx, Node, leaf, block, group,
+  binaryGroup, nil, cons, Tree, mapNode, mapBody, mapNodes
 }
 use Rattle.notation.specs.Packed.{familyAt, nowhere, nodeSize, bodySize, size}
 use Rattle.notation.specs.Grammar.{

@@ -1,14 +1,14 @@
 -- Seeking: entry k of the unrolled list, found by passing over whole records and whole repeats by their counts. Assumes nothing.
 use Prim.Native.Nat.{ℕ, zero, suc, _+_, _-_, _*_, _%_, _≤_, _<_}
 use mathlib.Core.Path.{_≡_, refl, sym, ap, _∙_}
-use mathlib.Core.Bool.{Bool, true, false, not}
+use mathlib.Core.Bool.{Bool, true, false}
 use mathlib.Core.List.{List, [], _∷_, _++_}
 use mathlib.Core.Option.{Option, none, some}
 use native.Mathlib.Nat.{mod-eq-of-lt, mod-eq-sub-mod, zero-mul}
 use native.Mathlib.Omega.{arith}
 use borrow.Author.Tests.{ltb-true, ltb-false, le-ltb}
 use lib.Dec.{ltb}
-use lib.IntN.{ℤ, natAbs}
+use lib.IntN.{natAbs}
 use lib.ListN.{length, length-append, getElem?}
 use Rattle.notation.specs.Basics.{pick}
 use Rattle.notation.specs.Tree.{Leaf, Node, leaf, block, Body, group, binaryGroup, nil, cons, Tree}
@@ -19,7 +19,7 @@ use Rattle.notation.specs.declared.common.BinaryGroupKind.the-variants.{Commuta
 use Rattle.notation.proofs.Marked.{length-copies}
 use Rattle.laws.proofs.ListEntries.{get-append-left, get-append-right, get-past}
 use Rattle.laws.proofs.Unrolling.{inOrder, flatBinary, flatNode, flatBody, flat}
-use Rattle.laws.proofs.Counting.{countNode, countBody, count, countNode-is, countBody-is, count-is}
+use Rattle.laws.proofs.Counting.{countNode, countBody, count, countBody-is, count-is}
 
 abbrev pub Finder : Type 0
 Finder = ℕ → Option Leaf
