@@ -1,25 +1,15 @@
 -- Tests on numbers and their joins.
-use mathlib.Core.Path.{_≡_, refl, sym, subst}
-use mathlib.Core.Bool.{Bool, true, false, not, _&&_, _||_}
+use mathlib.Core.Path.{_≡_, refl}
+use mathlib.Core.Bool.{Bool, true, false, _||_}
 use Prim.Native.Nat.{ℕ, _≤_, _<_}
 use borrow.Author.Tests.{leb-true, lt-leb}
-use lib.Dec.{T, leb}
+use lib.Dec.{leb}
 use Rattle.notation.specs.Basics.{between}
+use Rattle.notation.proofs.Bools.{false-true}
+pub use Rattle.notation.proofs.Bools.{and-left, and-right, and-false}
 
 pub contra : {X : Type 0} → false ≡ true → X
-contra e = absurd (subst T (sym e) tt)
-
-pub and-left : (a b : Bool) → (a && b) ≡ true → a ≡ true
-and-left true b e = refl
-and-left false b e = e
-
-pub and-right : (a b : Bool) → (a && b) ≡ true → b ≡ true
-and-right true b e = e
-and-right false b e = contra e
-
-pub and-false : (a : Bool) → (a && false) ≡ false
-and-false true = refl
-and-false false = refl
+contra e = absurd (false-true e)
 
 pub or-true : (a : Bool) → (a || true) ≡ true
 or-true true = refl

@@ -5,7 +5,7 @@ use mathlib.Core.List.{List, [], _∷_, _++_}
 use native.Mathlib.Omega.{arith}
 use native.Mathlib.Nat.{pow-suc}
 use borrow.Author.Tests.{lt-ltb, le-ltb}
-use lib.ListN.{length, take, drop, set, length-set, length-drop}
+use lib.ListN.{length, take, drop, set, length-set, length-drop, drop-of-length-le}
 use lib.Seq.{set-split, drop-at, length-take-le, take-all}
 use Rattle.notation.specs.Numbers.{showFrom, show}
 use Rattle.laws.proofs.ReadBack.Numbers.{show-apart}
@@ -42,15 +42,8 @@ all-left digits n l h =
       short = omega arith;
       long = l;
       room = omega arith;
-      shows = ap (showFrom 10 n) none;
+      shows = ap (showFrom 10 n) (drop-of-length-le digits {i = 10} (omega arith));
     }
-  where
-    none : drop 10 digits ≡ []
-    none = go (drop 10 digits) (omega (arith, length-drop 10 digits))
-      where
-        go : (s : List ℕ) → length s ≡ 0 → s ≡ []
-        go [] e = refl
-        go (a ∷ s) e = absurd (omega arith)
 
 module _ {digits : List ℕ} {rest i : ℕ} {whole : List ℕ} (w : Left digits rest i whole) where
   -- one more digit

@@ -10,7 +10,7 @@ use native.Mathlib.Numerals.{add-one}
 use native.Mathlib.Omega.{arith}
 use borrow.Author.Tests.{eq-eqb, le-leb, lt-leb}
 use lib.Dec.{eqb, leb, ltb}
-use lib.ListN.{length, getD, take, drop, length-drop, take-append-drop}
+use lib.ListN.{length, getD, take, drop, length-drop, drop-of-length-le, take-append-drop}
 use lib.Seq.{length-take-le, drop-cons, drop-drop}
 use Rattle.notation.specs.Basics.{pick, between, oneOf, every}
 use Rattle.notation.specs.Chars.{isFamilyChar, whiteSpace}
@@ -317,9 +317,5 @@ module _ {part : List ℕ} {i : ℕ} {old mid : List ℕ} {at next : ℕ} (w : R
   pub none-remains : length part ≤ i → Wrote old mid at next (λ rest. squeezed part ++ rest)
   unfolding squeezedFrom
   none-remains h =
-      let e : drop i part ≡ [] = nothing (drop i part) (omega (arith, length-drop i part)) in
+      let e : drop i part ≡ [] = drop-of-length-le part h in
       w .onward mid next (rw e (wrote-none mid (w .place)))
-    where
-      nothing : (s : List ℕ) → length s ≡ 0 → s ≡ []
-      nothing [] z = refl
-      nothing (b ∷ s) z = absurd (omega arith)

@@ -14,6 +14,7 @@ use Rattle.notation.specs.Invert.{undo}
 use Rattle.notation.specs.Unroll.{flatten}
 use Rattle.notation.specs.Entries.{Lent, lend, steps, records, unrolled, flattenEntry, countSteps, stepAt, seekStep, refusalNumber, value, MAX-STEPS}
 use Rattle.record.proofs.RoundTrip.{length-record25}
+use Rattle.laws.proofs.ListEntries.{get-past}
 use Rattle.laws.proofs.Unrolling.{flat, firstRefusal, flatten-is}
 use Rattle.laws.proofs.Counting.{count, count-is, visit, visit-is}
 use Rattle.laws.proofs.Seeking.{seek, seek-is}
@@ -94,11 +95,6 @@ module _ (text tree : List ℕ) (o : Outcome ℕ) (e : o ≡ countSteps text tre
   seek-refused k = lend-handed (stepAt text tree k) buffer q (rw refused-steps)
 
 -- Where it is not, the steps are those of the tree.
-past : (l : List Leaf) (k : ℕ) → length l ≤ k → getElem? l k ≡ none
-past [] k h = refl
-past (x ∷ l) zero h = absurd (omega arith)
-past (x ∷ l) (suc k) h = past l k (omega arith)
-
 within : (l : List Leaf) (k : ℕ) → k < length l → (x : Leaf) × (getElem? l k ≡ some x)
 within [] k h = absurd (omega arith)
 within (x ∷ l) zero h = (x, refl)
@@ -128,7 +124,7 @@ module _ (text tree : List ℕ) (n : ℕ) (c : Counted text tree n) (buffer : Li
   pub seek-past : (k : ℕ) → n ≤ k → record { answer = refusal NO-SUCH-PLACE; buffer = buffer } ≡ seekStep text tree k buffer
   seek-past k h =
       lend-refused (stepAt text tree k) buffer NO-SUCH-PLACE
-      (rw (these, past (flat undo false (unpack tree)) k (omega (arith, count-is (unpack tree) false, c .steps))))
+      (rw (these, get-past (flat undo false (unpack tree)) k (omega (arith, count-is (unpack tree) false, c .steps))))
 
   there : (k : ℕ) → k < n → (x : Leaf) × (getElem? (flat undo false (unpack tree)) k ≡ some x)
   there k h = within (flat undo false (unpack tree)) k (omega (arith, count-is (unpack tree) false, c .steps))

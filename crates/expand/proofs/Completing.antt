@@ -15,14 +15,14 @@ use Rattle.notation.specs.Entries.{records}
 use Rattle.notation.specs.Unroll.{copies, turned}
 use Rattle.notation.proofs.Marked.{length-copies}
 use Rattle.numbers.specs.Sign.{isNegative}
-use Rattle.laws.proofs.Unrolling.{backwards}
+use Rattle.laws.proofs.Unrolling.{backwards, long-backwards}
 use Rattle.laws.proofs.Counting.{countBinary}
 use Rattle.notation.specs.declared.common.BinaryGroupKind.the-variants.{Commutator}
 use Rattle.expand.specs.Meaning.{binaryKind}
 use Rattle.nodes.specs.Nodes.{part}
 use Rattle.expand.specs.Steps.{held, Holds, Wrote, completed, repeats, Pair, Room}
 use Rattle.expand.proofs.Parts.{Three, the-part, put-part}
-use Rattle.expand.proofs.Steps.{length-records, records-append, records-copies, long-backwards}
+use Rattle.expand.proofs.Steps.{length-records, records-append, records-copies}
 
 -- what `repeat` leaves of s
 abbrev Repeated : List ℕ → ℕ → ℕ → List ℕ → Type 0

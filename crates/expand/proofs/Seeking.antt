@@ -9,7 +9,7 @@ use native.Mathlib.Omega.{arith}
 use borrow.Author.Tests.{lt-ltb, le-ltb, ltb-true, ltb-false}
 use lib.Dec.{ltb, eqb}
 use lib.IntN.{ℤ, pos, negsuc, natAbs}
-use lib.ListN.{length, take, drop, getElem?, length-reverse, length-map}
+use lib.ListN.{length, take, drop, getElem?}
 use Rattle.notation.specs.Basics.{pick}
 use Rattle.notation.specs.Numbers.{fromBits}
 use Rattle.notation.specs.Tree.{Leaf, Node, leaf, block, group, binaryGroup, cons, Tree}
@@ -26,7 +26,8 @@ use Rattle.record.proofs.RoundTrip.{length-record25}
 use Rattle.record.proofs.Undoing.{Undone}
 use Rattle.laws.proofs.Packing.{FitsNode}
 use Rattle.laws.proofs.Walking.{Packed, no-node}
-use Rattle.laws.proofs.Unrolling.{undo-undo, backwards, flat, flat-backwards}
+use Rattle.laws.proofs.ListEntries.{get-append-left}
+use Rattle.laws.proofs.Unrolling.{undo-undo, backwards, long-backwards, flat, flat-backwards}
 use Rattle.laws.proofs.Counting as counting
 use Rattle.laws.proofs.Counting.{countBinary, countNode, countBody, count, count-is, visitNode, visitNode-is, visit, visit-is}
 use Rattle.laws.proofs.Seeking.{seekBinary, seekNode, seekBody, seek, seek-is}
@@ -44,17 +45,9 @@ use Rattle.expand.proofs.Undoing.{step-starts, step-undone}
 use Rattle.expand.proofs.Flattening.{bodyOf, at-least}
 
 -- The other direction, place by place.
-get-left : (a b : List Leaf) (k : ℕ) → k < length a → getElem? (a ++ b) k ≡ getElem? a k
-get-left [] b k h = absurd (omega arith)
-get-left (x ∷ a) b zero h = refl
-get-left (x ∷ a) b (suc k) h = get-left a b k (omega arith)
-
 get-last : (a : List Leaf) (x : Leaf) → getElem? (a ++ (x ∷ [])) (length a) ≡ some x
 get-last [] x = refl
 get-last (y ∷ a) x = get-last a x
-
-long-backwards : (l : List Leaf) → length (backwards l) ≡ length l
-long-backwards l = length-reverse (map undo l) ∙ length-map l undo
 
 get-backwards : (l : List Leaf) (k : ℕ) → k < length l → getElem? (backwards l) k ≡ undoIf true (getElem? l (length l - 1 - k))
 get-backwards [] k h = absurd (omega arith)
@@ -65,7 +58,7 @@ get-backwards (x ∷ l) k h = ap (λ (s : List Leaf). getElem? s k) (reverse-con
     go true e again =
         let j : k < length l = ltb-true k (length l) e in
         let i : suc (length l) - 1 - k ≡ suc (length l - 1 - k) = omega arith in
-        get-left (backwards l) (undo x ∷ []) k (omega (arith, long-backwards l)) ∙ again j ∙ ap (λ (n : ℕ). undoIf true (getElem? (x ∷ l) n)) (sym i)
+        get-append-left (backwards l) (undo x ∷ []) k (omega (arith, long-backwards l)) ∙ again j ∙ ap (λ (n : ℕ). undoIf true (getElem? (x ∷ l) n)) (sym i)
     go false e again =
         let j : k ≡ length (backwards l) = omega (arith, long-backwards l, ltb-false k (length l) e) in
         let i : suc (length l) - 1 - k ≡ 0 = omega (arith, long-backwards l) in

@@ -6,7 +6,7 @@ use mathlib.Core.List.{List, [], _∷_, _++_, map, append-assoc}
 use native.Mathlib.Omega.{arith}
 use borrow.Author.Tests.{ltb-true}
 use lib.IntN.{ℤ, pos, negsuc, negℤ, natAbs}
-use lib.ListN.{length, length-append, length-reverse, length-map}
+use lib.ListN.{length, length-append}
 use Rattle.notation.specs.Basics.{pick}
 use Rattle.notation.specs.Tree.{Leaf, rotation, move, pause, pair, slash, megaminx, Node, leaf, block, Body, group, binaryGroup, nil, cons, Tree}
 use Rattle.notation.specs.Packed.{RECORD, leafHead, leafRecord}
@@ -35,9 +35,6 @@ pub records-copies : (n : ℕ) (l : List Leaf) → records (copies n l) ≡ copi
 unfolding records copies
 records-copies zero l = refl
 records-copies (suc n) l = records-append l (copies n l) ∙ ap (λ (s : List ℕ). records l ++ s) (records-copies n l)
-
-pub long-backwards : (l : List Leaf) → length (backwards l) ≡ length l
-long-backwards l = length-reverse (map undo l) ∙ length-map l undo
 
 -- Lists of which something holds throughout.
 pub all-append : {P : Leaf → Type 0} {a b : List Leaf} → All P a → All P b → All P (a ++ b)

@@ -14,11 +14,11 @@ use Rattle.record.specs.Range.{FitsLeaf}
 use Rattle.record.specs.Undone.{StartsRecord, undoneHead}
 use Rattle.record.proofs.RoundTrip.{length-record25}
 use Rattle.record.proofs.Undoing.{Undone, head-with, starts-with, undone-with}
-use Rattle.laws.proofs.Unrolling.{backwards, backwards-append}
+use Rattle.laws.proofs.Unrolling.{backwards, backwards-append, long-backwards}
 use Rattle.nodes.specs.Nodes.{part}
 use Rattle.expand.specs.Steps.{All, held, Holds, lastOf, undoneRecord}
 use Rattle.expand.proofs.Parts.{Three, from-part, the-part, put-part}
-use Rattle.expand.proofs.Steps.{length-records, records-append, long-backwards, all-head, all-tail, all-left, all-right}
+use Rattle.expand.proofs.Steps.{length-records, records-append, all-head, all-tail, all-left, all-right}
 use Rattle.expand.proofs.Held.{records-backwards}
 
 -- Bytes with a record at either end.

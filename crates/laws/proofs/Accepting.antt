@@ -1,26 +1,23 @@
 -- When a text is read and a tree is checked, and what a lent buffer then gets. Assumes nothing.
-use Prim.Native.Nat.{ℕ, _≤_, _<_}
-use mathlib.Core.Path.{_≡_, refl, sym, ap, _∙_}
+use Prim.Native.Nat.{ℕ, _≤_}
+use mathlib.Core.Path.{_≡_, refl}
 use mathlib.Core.Bool.{Bool, true, false}
-use mathlib.Core.List.{List, [], _∷_, _++_}
+use mathlib.Core.List.{List}
 use mathlib.Core.Option.{Option, none, some}
-use native.Mathlib.Omega.{arith}
 use borrow.Author.Tests.{leb-true, le-leb}
 use lib.Dec.{leb}
-use lib.ListN.{length, drop, getElem?}
+use lib.ListN.{length}
 use Rattle.notation.specs.Utf8.{utf8}
-use Rattle.notation.specs.Refusals.{Outcome, refusal, result, _>>=_, _>>_, unless, orRefuse, TOO-LONG, NOT-UTF8, TOO-NESTED, NOT-NOTATION, TOO-MANY-STEPS}
+use Rattle.notation.specs.Refusals.{Outcome, result, _>>=_, _>>_, unless, orRefuse, TOO-LONG, NOT-UTF8, TOO-NESTED, NOT-NOTATION}
 use Rattle.notation.specs.Tree.{Leaf, Tree}
-use Rattle.notation.specs.Packed.{pack, unpack, leafRecord}
+use Rattle.notation.specs.Packed.{pack, unpack}
 use Rattle.notation.specs.Grammar.{notation}
 use Rattle.notation.specs.WellFormed.{wellFormed}
 use Rattle.notation.specs.Unroll.{flatten}
-use Rattle.notation.specs.Entries.{Lent, lend, textOk, nestingOk, treeIn, reading, checked, steps, countSteps, stepAt, MAX-TEXT, MAX-STEPS}
+use Rattle.notation.specs.Entries.{lend, nestingOk, treeIn, reading, checked, steps, MAX-TEXT, MAX-STEPS}
 use Rattle.notation.specs.Demands.{Gives}
 use Rattle.notation.specs.declared.features.Features.{Features}
-
-no-refusal : {A B : Type 0} {r : ℕ} {a : A} → _≡_ {A = Outcome A} (refusal r) (result a) → B
-no-refusal e = absurd (let n : _≡_ {A = ℕ} 0 1 = cc in omega arith)
+use Rattle.laws.proofs.Bools.{no-refusal}
 
 -- what an accepted text is, and that such a text is accepted
 pub record Accepted (f : Features) (text : List ℕ) (t : Tree) : Type 0 where

@@ -1,27 +1,2 @@
--- Small facts of tests and options, for every law. Assumes nothing.
-use Prim.Native.Nat.{ℕ}
-use mathlib.Core.Path.{_≡_, refl, sym}
-use mathlib.Core.Bool.{Bool, true, false, not, _&&_}
-use mathlib.Core.Option.{Option, none, some}
-use native.Mathlib.Omega.{arith}
-
-pub false-true : _≡_ {A = Bool} false true → ⊥
-false-true e = let n : _≡_ {A = ℕ} 0 1 = cc in omega arith
-
-pub and-left : (a b : Bool) → (a && b) ≡ true → a ≡ true
-and-left true b e = refl
-and-left false b e = e
-
-pub and-right : (a b : Bool) → (a && b) ≡ true → b ≡ true
-and-right true b e = e
-and-right false b e = absurd (false-true e)
-
-pub and-both : (a b : Bool) → a ≡ true → b ≡ true → (a && b) ≡ true
-and-both a b p q = rw (p, q)
-
-pub not-true : (b : Bool) → not b ≡ true → b ≡ false
-not-true true e = sym e
-not-true false e = refl
-
-pub no-some : {A : Type 0} {a : A} {B : Type 0} → _≡_ {A = Option A} (some a) none → B
-no-some e = absurd (let n : _≡_ {A = ℕ} 0 1 = cc in omega arith)
+-- Small facts of tests, options and outcomes, passed on from `notation`.
+pub use Rattle.notation.proofs.Bools.{false-true, and-left, and-right, and-both, and-false, not-true, no-some, no-refusal}

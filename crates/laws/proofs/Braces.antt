@@ -22,8 +22,9 @@ use Rattle.notation.specs.Grammar.{
   Reading, rejected, read, Reader, done, fail, andThen, _>>=_, _>>_, _or_, when, just, word, takeWhile, whitespace,
   padded, uint, sint, moreOf, separatedBy, braces, familyText, constraint, layer, signedLayer, layerSetElement, atEnd
 }
+use Rattle.numbers.proofs.Bounds.{digits-le}
 use Rattle.laws.proofs.Readers.{
-  anywhere, Took, Yields, Takes, not-read, pick-read, weaken, yields-bind, yields-just, yields-padded, yields-separatedBy, run-le, digits-le
+  anywhere, Took, Yields, Takes, not-read, pick-read, weaken, yields-bind, yields-just, yields-padded, yields-separatedBy, run-le
 }
 use Rattle.laws.proofs.Runs.{run-cut, digits-cut}
 

@@ -1,9 +1,9 @@
 -- Counting without unrolling: by multiplication, and in one visit of each record that settles both directions and the first refusal
 -- of each. Assumes nothing.
 use Prim.Native.Nat.{ℕ, zero, suc, _+_, _*_, _≤_, _<_, min}
-use mathlib.Core.Path.{_≡_, refl, sym, ap, ap₂, _∙_, fun-ext}
-use mathlib.Core.Bool.{Bool, true, false, not, _&&_}
-use mathlib.Core.List.{List, [], _∷_, _++_}
+use mathlib.Core.Path.{_≡_, refl, ap, ap₂, _∙_}
+use mathlib.Core.Bool.{Bool, true, false, _&&_}
+use mathlib.Core.List.{List}
 use mathlib.Core.Option.{Option, none, some}
 use native.Mathlib.Nat.{zero-mul}
 use native.Mathlib.Omega.{arith}
@@ -15,13 +15,11 @@ use Rattle.notation.specs.Basics.{pick}
 use Rattle.notation.specs.Refusals.{NISS, OVERFLOW}
 use Rattle.notation.specs.Tree.{Leaf, Node, leaf, block, Body, group, binaryGroup, nil, cons, Tree}
 use Rattle.notation.specs.Invert.{undo, overflows}
-use Rattle.notation.specs.Unroll.{copies, turned, isNiss}
+use Rattle.notation.specs.Unroll.{turned, isNiss}
 use Rattle.notation.specs.declared.common.BinaryGroupKind.{BinaryGroupKind}
 use Rattle.notation.specs.declared.common.BinaryGroupKind.the-variants.{Commutator, Conjugate}
 use Rattle.notation.proofs.Marked.{length-copies}
-use Rattle.laws.proofs.Unrolling.{
-  first, ifReached, firstInOrder, inOrder, flatBinary, refusalBinary, flatNode, flatBody, flat, refusalNode, refusalBody, firstRefusal
-}
+use Rattle.laws.proofs.Unrolling.{ifReached, firstInOrder, inOrder, flatBinary, refusalBinary, flatNode, flatBody, flat, refusalNode, refusalBody, firstRefusal}
 
 -- The number of steps, the same in both directions.
 abbrev pub countBinary : BinaryGroupKind → ℕ → ℕ → ℕ

@@ -1,37 +1,36 @@
 -- Demand 3 over the definitions. Assumes nothing.
-use Prim.Native.Nat.{ℕ, zero, suc, _+_, _-_, _≤_, _<_}
-use mathlib.Core.Path.{_≡_, refl, sym, ap, ap₂, _∙_, subst}
-use mathlib.Core.Bool.{Bool, true, false, not, _&&_, _||_}
-use mathlib.Core.List.{List, [], _∷_, _++_, map, reverse, reverse-cons}
-use mathlib.Core.Option.{Option, none, some}
+use Prim.Native.Nat.{ℕ, zero, suc, _-_, _≤_, _<_}
+use mathlib.Core.Path.{_≡_, refl, sym, ap, _∙_, subst}
+use mathlib.Core.Bool.{Bool, true, false, _&&_, _||_}
+use mathlib.Core.List.{List, map}
+use mathlib.Core.Option.{Option, some}
 use native.Mathlib.Omega.{arith}
-use borrow.Author.Tests.{ltb-true, lt-ltb, leb-true, le-leb, ne-eqb, eqb-false}
-use lib.Dec.{leb, ltb, eqb}
-use lib.IntN.{ℤ, pos, negsuc, negℤ, natAbs}
-use lib.ListN.{length, getElem?, length-append, length-map, length-reverse}
+use borrow.Author.Tests.{ltb-true, lt-ltb, ne-eqb, eqb-false}
+use lib.Dec.{eqb}
+use lib.IntN.{ℤ, pos, negsuc, negℤ}
+use lib.ListN.{length, getElem?, length-map}
 use Rattle.notation.specs.Basics.{every}
 use Rattle.notation.specs.Numbers.{fitsBits}
-use Rattle.notation.specs.Utf8.{utf8}
-use Rattle.notation.specs.Tree.{LeafOf, Leaf, Step, rotation, move, pause, pair, slash, megaminx, Node, leaf, block, Body, group, binaryGroup, NodeList, nil, cons, append, Tree, mapNode, mapBody, mapNodes}
+use Rattle.notation.specs.Tree.{Leaf, Step, rotation, move, pause, pair, slash, megaminx, leaf, block, NodeList, nil, cons, append, Tree, mapNode, mapNodes}
 use Rattle.notation.specs.Packed.{pack, unpack, size, leafRecord}
-use Rattle.notation.specs.Refusals.{Outcome, refusal, result, _>>=_}
+use Rattle.notation.specs.Refusals.{result, _>>=_}
 use Rattle.notation.specs.Grammar.{notation}
-use Rattle.notation.specs.Meaning.{stepOf, unspanned, SameStep}
-use Rattle.notation.specs.WellFormed.{treeOk, wellFormed, depth, multiplierOk}
-use Rattle.notation.specs.Invert.{undo, overflows, isMin, inv}
-use Rattle.notation.specs.Print.{putNodes, printed}
+use Rattle.notation.specs.Meaning.{stepOf, unspanned}
+use Rattle.notation.specs.WellFormed.{treeOk, wellFormed}
+use Rattle.notation.specs.Invert.{undo, isMin}
+use Rattle.notation.specs.Print.{printed}
 use Rattle.notation.specs.Unroll.{flatten}
-use Rattle.notation.specs.Entries.{nestingOk, checked, reading, steps, countSteps, stepAt, inverse, display, parseNotation, invEntry, displayEntry, seekStep, MAX-TEXT, MAX-STEPS}
-use Rattle.notation.specs.Demands.{Gives, Unrollable, Agrees, Demand3, demand3}
+use Rattle.notation.specs.Entries.{checked, reading, steps, stepAt, inverse, display, MAX-TEXT, MAX-STEPS}
+use Rattle.notation.specs.Demands.{Unrollable, Agrees, Demand3, demand3}
 use Rattle.notation.specs.declared.features.Features.{Features}
-use Rattle.laws.proofs.Bools.{and-left, and-right, and-both, not-true, no-some, false-true}
-use Rattle.laws.proofs.Unrolling.{backwards, flat, flat-map, verdict, firstRefusal, flatten-is}
-use Rattle.laws.proofs.Inverses.{inverted, invertedNode, inverse-unrolls}
-use Rattle.laws.proofs.Reached.{
-  negatable, clean, cleanNode, cleanBody, cleanNodes, clean-map, clean-walks, unrollable-clean, unrolled-list, inverse-accepted, allIfReached
-}
-use Rattle.laws.proofs.InRange.{stepInRange, nodeInRange, bodyInRange, inRange, i32InRange}
-use Rattle.laws.proofs.WellFormedInverses.{inverted-ok, inverted-size, inverted-depth}
+use Rattle.numbers.proofs.TwosComplement.{natAbs-neg}
+use Rattle.laws.proofs.Bools.{and-left, and-right, and-both, not-true, false-true}
+use Rattle.laws.proofs.ListEntries.{get-reverse, get-map, get-of-map}
+use Rattle.laws.proofs.Unrolling.{backwards, long-backwards, flat, flat-map, verdict, flatten-is}
+use Rattle.laws.proofs.Inverses.{inverted, inverse-unrolls}
+use Rattle.laws.proofs.Reached.{negatable, clean, cleanNode, cleanNodes, clean-map, clean-walks, unrollable-clean, unrolled-list, inverse-accepted}
+use Rattle.laws.proofs.InRange.{stepInRange, nodeInRange, inRange}
+use Rattle.laws.proofs.WellFormedInverses.{multiplier-neg, inverted-ok, inverted-size, inverted-depth}
 use Rattle.laws.proofs.Fits.{leafFits, nodeFits, bodyFits, treeFits}
 use Rattle.laws.proofs.Packing.{FitsTree, tree-fits, unpack-pack, packed-well-formed}
 use Rattle.laws.proofs.Accepting.{Accepted, accepts, accepted-tree, checks, counts-as, gives}
@@ -96,7 +95,7 @@ undo-fits (pair u d) n h =
 undo-fits slash n h = refl
 undo-fits (megaminx k) n h = refl
 
-undo-negatable : (x : Leaf) → leafFits x ≡ true → negatable (undo x) ≡ true
+pub undo-negatable : (x : Leaf) → leafFits x ≡ true → negatable (undo x) ≡ true
 unfolding leafFits
 undo-negatable (rotation f c m) h = refl
 undo-negatable (move t l f c m) h = refl
@@ -104,11 +103,6 @@ undo-negatable pause h = refl
 undo-negatable (pair u d) h = rw (neg-not-min u (and-left _ _ h), neg-not-min d (and-right (fitsBits 32 u) _ h))
 undo-negatable slash h = refl
 undo-negatable (megaminx k) h = refl
-
-natAbs-neg : (m : ℤ) → natAbs (negℤ m) ≡ natAbs m
-natAbs-neg (pos zero) = refl
-natAbs-neg (pos (suc n)) = refl
-natAbs-neg (negsuc n) = refl
 
 fits-append : (a b : Tree) → treeFits a ≡ true → treeFits b ≡ true → treeFits (append a b) ≡ true
 unfolding append treeFits
@@ -141,19 +135,6 @@ inverted-clean (cons (block b m) l) c h =
     (and-both (cleanNode negatable (block b (negℤ m))) true (rw (natAbs-neg m) (and-left _ _ c)) refl)
 
 -- the range, over unspanned trees
-i32-neg : (u : ℤ) → isMin u ≡ false → i32InRange u ≡ true → i32InRange (negℤ u) ≡ true
-i32-neg (pos zero) h f = refl
-i32-neg (pos (suc n)) h f =
-    let e : suc n ≤ 2147483647 = leb-true (suc n) 2147483647 f in
-    le-leb n 2147483647 (omega arith)
-i32-neg (negsuc n) h f =
-    let e : n ≤ 2147483647 = leb-true n 2147483647 f in
-    let d : (n ≡ 2147483647 → ⊥) = eqb-false n 2147483647 h in
-    le-leb (suc n) 2147483647 (omega arith)
-
-multiplier-neg : (m : ℤ) → multiplierOk (negℤ m) ≡ multiplierOk m
-multiplier-neg m = ap (λ (n : ℕ). ltb n 2147483648) (natAbs-neg m)
-
 undo-in-range : (f : Features) (x : Step) → negatable x ≡ true → stepInRange f x ≡ true → stepInRange f (undo x) ≡ true
 unfolding stepInRange
 undo-in-range f (rotation a c m) n h = rw (multiplier-neg m) h
@@ -161,9 +142,9 @@ undo-in-range f (move t l a c m) n h = rw (multiplier-neg m) h
 undo-in-range f pause n h = refl
 undo-in-range f (pair u d) n h =
     let e = or-false (isMin u) (isMin d) (not-true (isMin u || isMin d) n) in
-    let i = and-right (f .sq1) (i32InRange u && i32InRange d) h in
+    let i = and-right (f .sq1) (fitsBits 32 u && fitsBits 32 d) h in
     and-both (f .sq1) _ (and-left _ _ h)
-    (and-both (i32InRange (negℤ u)) _ (i32-neg u (e .0) (and-left _ _ i)) (i32-neg d (e .1) (and-right (i32InRange u) _ i)))
+    (and-both (fitsBits 32 (negℤ u)) _ (neg-fits u (e .0) (and-left _ _ i)) (neg-fits d (e .1) (and-right (fitsBits 32 u) _ i)))
 undo-in-range f slash n h = h
 undo-in-range f (megaminx k) n h = h
 
@@ -189,40 +170,6 @@ inverted-in-range f text (cons (block b m) l) c h =
     (inverted-in-range f text l (and-right (cleanNode negatable (block b m)) _ c) (and-right (nodeInRange f (mapNode (stepOf text) (block b m))) _ h))
     (and-both (nodeInRange f (mapNode (stepOf text) (block b (negℤ m)))) true (rw (multiplier-neg m) (and-left _ _ h)) refl)
 
--- Entries of lists, forwards and backwards.
-get-map : {A B : Type 0} (g : A → B) (l : List A) (k : ℕ) (x : A) → getElem? l k ≡ some x → getElem? (map g l) k ≡ some (g x)
-get-map g [] k x h = no-some (sym h)
-get-map g (y ∷ l) zero x h = cc
-get-map g (y ∷ l) (suc k) x h = get-map g l k x h
-
-get-of-map : {A B : Type 0} (g : A → B) (l : List A) (k : ℕ) (b : B) → getElem? (map g l) k ≡ some b → (x : A) × (getElem? l k ≡ some x) × (g x ≡ b)
-get-of-map g [] k b h = no-some (sym h)
-get-of-map g (y ∷ l) zero b h = (y, refl, cc)
-get-of-map g (y ∷ l) (suc k) b h = get-of-map g l k b h
-
-get-below : {A : Type 0} (l : List A) (k : ℕ) (x : A) → getElem? l k ≡ some x → k < length l
-get-below [] k x h = no-some (sym h)
-get-below (y ∷ l) zero x h = omega arith
-get-below (y ∷ l) (suc k) x h = let e : k < length l = get-below l k x h in omega arith
-
-get-left : {A : Type 0} (a b : List A) (k : ℕ) (x : A) → getElem? a k ≡ some x → getElem? (a ++ b) k ≡ some x
-get-left [] b k x h = no-some (sym h)
-get-left (y ∷ a) b zero x h = h
-get-left (y ∷ a) b (suc k) x h = get-left a b k x h
-
-get-seam : {A : Type 0} (a b : List A) (k : ℕ) → length a ≡ k → getElem? (a ++ b) k ≡ getElem? b 0
-get-seam [] b k h = ap (getElem? b) (sym h)
-get-seam (y ∷ a) b zero h = absurd (omega arith)
-get-seam (y ∷ a) b (suc k) h = get-seam a b k (omega arith)
-
-get-reverse : {A : Type 0} (l : List A) (k : ℕ) (x : A) → getElem? l k ≡ some x → getElem? (reverse l) (length l - suc k) ≡ some x
-get-reverse [] k x h = no-some (sym h)
-get-reverse (y ∷ l) zero x h =
-    rw (reverse-cons y l) (get-seam (reverse l) (y ∷ []) (suc (length l) - 1) (length-reverse l ∙ omega arith) ∙ h)
-get-reverse (y ∷ l) (suc k) x h =
-    let e : suc (length l) - suc (suc k) ≡ length l - suc k = omega arith in
-    rw (reverse-cons y l, e) (get-left (reverse l) (y ∷ []) (length l - suc k) x (get-reverse l k x h))
-
 -- Everything that an accepted text's tree is.
 pub record Tidy (f : Features) (text : List ℕ) (t : Tree) : Type 0 where
   pub accepted : Accepted f text t
@@ -232,7 +179,7 @@ pub record Tidy (f : Features) (text : List ℕ) (t : Tree) : Type 0 where
   pub ranged : inRange f (unspanned text t) ≡ true
   pub nested : parens t ≤ 64
 
-tidy-fits : {f : Features} {text : List ℕ} {t : Tree} → Tidy f text t → FitsTree t
+pub tidy-fits : {f : Features} {text : List ℕ} {t : Tree} → Tidy f text t → FitsTree t
 tidy-fits {text = text} {t = t} p = tree-fits text (p .accepted .short) t (p .inBounds) (p .fits) (p .small)
 
 tidy-well-formed : {f : Features} {text : List ℕ} {t : Tree} → Tidy f text t → wellFormed text (pack t) ≡ true
@@ -330,7 +277,7 @@ module _ (f : Features) (text : List ℕ) (t : Tree) (list : List Leaf) (p : Tid
   same-length : length list′ ≡ length list
   same-length =
       sym (length-map list′ (stepOf text′)) ∙ ap length same-steps ∙ length-map (backwards list) (stepOf text)
-      ∙ length-reverse (map undo list) ∙ length-map list undo
+      ∙ long-backwards list
 
   found : (k : ℕ) (x : Leaf) → getElem? list k ≡ some x → getElem? (map (stepOf text′) list′) (length list - suc k) ≡ some (stepOf text (undo x))
   found k x h =

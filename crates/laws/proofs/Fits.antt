@@ -1,6 +1,6 @@
 -- What reading and unpacking give and packing needs, beside the bounds of well-formed trees: pair numbers of 32 bits, and an empty family at
 -- offset 0. Assumes nothing.
-use mathlib.Core.Bool.{Bool, true, false, _&&_}
+use mathlib.Core.Bool.{Bool, true, _&&_}
 use lib.Dec.{eqb}
 use Rattle.notation.specs.Basics.{pick}
 use Rattle.notation.specs.Numbers.{fitsBits}

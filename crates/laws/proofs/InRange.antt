@@ -1,13 +1,14 @@
 -- The range of a setting's reading: the steps and trees that some text is read to. `reading-in-range` and `reads-back` show that this
 -- is exactly so. Assumes nothing.
 use Prim.Native.Nat.{ℕ}
-use mathlib.Core.Bool.{Bool, true, false, not, _&&_, _||_}
+use mathlib.Core.Bool.{Bool, true, not, _&&_, _||_}
 use mathlib.Core.List.{List}
 use mathlib.Core.Option.{Option, none, some}
 use lib.Dec.{leb, ltb, eqb}
-use lib.IntN.{ℤ, pos, negsuc, natAbs}
+use lib.IntN.{ℤ, natAbs}
 use lib.ListN.{length}
 use Rattle.notation.specs.Basics.{between, every}
+use Rattle.notation.specs.Numbers.{fitsBits}
 use Rattle.notation.specs.Chars.{isFamilyChar}
 use Rattle.notation.specs.Utf8.{run}
 use Rattle.notation.specs.Layers.{LayerSetElement, single, range, MAX-LAYER}
@@ -47,17 +48,12 @@ layersInRange f (singleLayer i) = between 1 MAX-LAYER i
 layersInRange f (layerRange i j) = leb 1 i && (leb i j && leb j MAX-LAYER)
 layersInRange f (layerSet l) = f .layers .«layer_sets» && every elementInRange l
 
--- a signed 32-bit number
-abbrev pub i32InRange : ℤ → Bool
-i32InRange (pos n) = leb n 2147483647
-i32InRange (negsuc n) = leb n 2147483647
-
 unfoldable pub stepInRange : Features → Step → Bool
 stepInRange f (rotation a c m) = f .«generalized_rotations» && (familyInRange a && (constraintsInRange f c && multiplierOk m))
 stepInRange f (move t l a c m) =
     (not t || f .layers .«inverted_layers») && (layersInRange f l && (nameInRange a && (constraintsInRange f c && multiplierOk m)))
 stepInRange f pause = true
-stepInRange f (pair u d) = f .sq1 && (i32InRange u && i32InRange d)
+stepInRange f (pair u d) = f .sq1 && (fitsBits 32 u && fitsBits 32 d)
 stepInRange f slash = f .sq1
 stepInRange f (megaminx k) = f .megaminx
 

@@ -2,23 +2,20 @@
 -- direction; inverting twice gives the tree back. Assumes nothing.
 use Prim.Native.Nat.{ℕ, zero, suc}
 use mathlib.Core.Path.{_≡_, refl, sym, ap, _∙_}
-use mathlib.Core.Bool.{Bool, true, false, not, _&&_}
+use mathlib.Core.Bool.{Bool, true, false, not}
 use mathlib.Core.List.{List, [], _∷_, _++_, append-assoc, append-nil}
 use mathlib.Core.Option.{Option, none, some}
 use lib.IntN.{ℤ, pos, negsuc, negℤ, natAbs, negℤ-negℤ}
-use Rattle.notation.specs.Basics.{pick, every}
+use Rattle.notation.specs.Basics.{pick}
 use Rattle.notation.specs.Refusals.{Outcome, refusal, result, _>>=_, NISS, OVERFLOW}
-use Rattle.notation.specs.Tree.{Leaf, Node, leaf, block, Body, group, binaryGroup, NodeList, nil, cons, append, Tree}
+use Rattle.notation.specs.Tree.{Leaf, Node, leaf, block, Body, group, binaryGroup, nil, cons, append, Tree}
 use Rattle.notation.specs.Invert.{undo, undone, overflows, thenLast, asLeaf, invNode, inv, deepGroup, deepBinary, invDeepNode, invDeepBody, invDeep}
-use Rattle.notation.specs.Unroll.{copies, turned, isNiss, flattenNodes, flatten}
+use Rattle.notation.specs.Unroll.{copies, turned}
 use Rattle.notation.specs.declared.common.GroupKind.{GroupKind}
 use Rattle.notation.specs.declared.common.GroupKind.the-variants.{Simple, Macro, Simultaneous, Niss}
 use Rattle.notation.specs.declared.common.BinaryGroupKind.{BinaryGroupKind}
 use Rattle.notation.specs.declared.common.BinaryGroupKind.the-variants.{Commutator, Conjugate}
-use Rattle.laws.proofs.Unrolling.{
-  undo-undo, backwards, verdict, first, ifReached, inOrder, flatBinary, flatNode, flatBody, flat, flat-backwards, flatten-is,
-  refusalNode, refusalBody, firstRefusal
-}
+use Rattle.laws.proofs.Unrolling.{undo-undo, backwards, verdict, first, inOrder, flatBinary, flatNode, flatBody, flat, flat-backwards}
 
 -- The shallow inverse without refusals.
 abbrev pub invertedNode : Node Leaf → Node Leaf
@@ -115,7 +112,7 @@ unfolding append
 append-assoc-nodes nil b c = refl
 append-assoc-nodes (cons n a) b c = ap (cons n) (append-assoc-nodes a b c)
 
-append-nil-nodes : (a : Tree) → append a nil ≡ a
+pub append-nil-nodes : (a : Tree) → append a nil ≡ a
 unfolding append
 append-nil-nodes nil = refl
 append-nil-nodes (cons n a) = ap (cons n) (append-nil-nodes a)

@@ -1,9 +1,11 @@
 -- Small facts.
 pub mod Bools
+pub mod ListEntries
 -- Unrolling, inverses, counting, seeking.
 pub mod Unrolling
 pub mod Inverses
 pub mod Reached
+pub mod Refused
 pub mod Counting
 pub mod Seeking
 -- Packed trees and their inverses.
@@ -28,3 +30,4 @@ pub mod ReadBack
 -- Demand 3.
 pub mod Accepting
 pub mod DemandThree
+pub mod Harmless

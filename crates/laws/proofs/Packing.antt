@@ -1,12 +1,12 @@
 -- Packing and unpacking undo one another, and what that says of well-formed trees. Assumes nothing.
 use Prim.Native.Nat.{ℕ, zero, suc, _+_, _*_, _≤_, _<_}
 use mathlib.Core.Path.{_≡_, refl, sym, ap, ap₂, _∙_}
-use mathlib.Core.Bool.{Bool, true, false, not, _&&_, _||_}
+use mathlib.Core.Bool.{true, _&&_}
 use mathlib.Core.List.{List, [], _∷_, _++_, append-assoc}
 use mathlib.Core.Option.{Option, none, some}
 use native.Mathlib.Omega.{arith}
-use borrow.Author.Tests.{leb-true, le-leb, eqb-true, eq-eqb, ltb-true, lt-ltb}
-use lib.Dec.{leb, ltb, eqb}
+use borrow.Author.Tests.{leb-true, le-leb, eqb-true, ltb-true, lt-ltb}
+use lib.Dec.{leb}
 use lib.IntN.{ℤ, pos, negsuc}
 use lib.ListN.{length, take, drop, length-append}
 use lib.Seq.{take-at, drop-at, drop-drop}
@@ -19,13 +19,13 @@ use Rattle.notation.specs.WellFormed.{
   inside, familyOk, constraintsOk, layersOk, multiplierOk, leafOk, nodeOk, bodyOk, treeOk, depth, wellFormed, MAX-NESTING
 }
 use Rattle.notation.specs.Packed.{
-  RECORD, Head, leafHead, groupHead, binaryHead, record25, leafRecord, nodeSize, bodySize, size, bodyHead, packNode, packBody, pack,
-  headAt, openHead, unpackFrom, unpack
+  RECORD, Head, leafHead, groupHead, binaryHead, record25, nodeSize, bodySize, size, bodyHead, packNode, packBody, pack, headAt, openHead, unpackFrom,
+  unpack
 }
 use Rattle.record.specs.Range.{FitsSpan, FitsFamily, FitsConstraints, FitsLayers, FitsNumber, FitsLeaf, FitsHead}
 use Rattle.record.proofs.RoundTrip.{length-record25, headAt-record25}
 use Rattle.record.proofs.Same.{same-refl, same-eq}
-use Rattle.laws.proofs.Bools.{and-left, and-right, and-both, false-true}
+use Rattle.laws.proofs.Bools.{and-left, and-right}
 use Rattle.laws.proofs.Fits.{familyFits, leafFits, nodeFits, bodyFits, treeFits}
 
 -- Trees whose numbers fit their fields.
@@ -95,7 +95,7 @@ record-step k h rest f =
         (ap (λ (s : List ℕ). unpackFrom k (take (RECORD * n′) s)) (past (RECORD * n)))
         ∙ ap (λ (s : List ℕ). cons (block (binaryGroup g (unpackFrom k (take (RECORD * n) rest)) (unpackFrom k (take (RECORD * n′) (drop (RECORD * n) rest)))) m) (unpackFrom k s)) (past (RECORD * (n + n′)))
 
-unpack-nil : (k : ℕ) → unpackFrom k [] ≡ nil
+pub unpack-nil : (k : ℕ) → unpackFrom k [] ≡ nil
 unfolding unpackFrom
 unpack-nil zero = refl
 unpack-nil (suc k) = refl

@@ -5,22 +5,22 @@ use mathlib.Core.Path.{_≡_, refl, sym, ap, ap₂, _∙_}
 use mathlib.Core.Bool.{Bool, true, false, not, _&&_}
 use mathlib.Core.List.{List, [], _∷_, _++_}
 use mathlib.Core.Option.{Option, none, some}
-use native.Mathlib.Omega.{arith}
-use lib.IntN.{ℤ, natAbs, negℤ}
+use lib.IntN.{natAbs, negℤ}
 use Rattle.notation.specs.Basics.{pick, every}
-use Rattle.notation.specs.Refusals.{Outcome, refusal, result, NISS, OVERFLOW}
+use Rattle.notation.specs.Refusals.{result, NISS, OVERFLOW}
 use Rattle.notation.specs.Tree.{LeafOf, Leaf, Node, leaf, block, Body, group, binaryGroup, NodeList, nil, cons, append, Tree, mapNode, mapBody, mapNodes}
 use Rattle.notation.specs.Invert.{undo, overflows, inv}
-use Rattle.notation.specs.Unroll.{copies, turned, isNiss, flatten, flattenNodes}
+use Rattle.notation.specs.Unroll.{copies, turned, isNiss, flatten}
 use Rattle.notation.specs.declared.common.GroupKind.the-variants.{Simple, Macro, Simultaneous, Niss}
 use Rattle.notation.specs.declared.common.BinaryGroupKind.{BinaryGroupKind}
 use Rattle.notation.specs.declared.common.BinaryGroupKind.the-variants.{Commutator, Conjugate}
-use Rattle.laws.proofs.Bools.{and-left, and-right, and-both, not-true, no-some}
+use Rattle.numbers.proofs.TwosComplement.{natAbs-neg}
+use Rattle.laws.proofs.Bools.{and-left, and-right, and-both, not-true, no-some, no-refusal}
 use Rattle.laws.proofs.Unrolling.{
   backwards, verdict, first, ifReached, firstInOrder, inOrder, flatBinary, refusalBinary, flatNode, flatBody, flat, flatten-is,
   refusalNode, refusalBody, firstRefusal
 }
-use Rattle.laws.proofs.Inverses.{inverted, invertedNode, invRefusal, invRefusalNode, inv-is, flat-inverted, inverse-unrolls}
+use Rattle.laws.proofs.Inverses.{inverted, invertedNode, invRefusal, inv-is, inverse-unrolls}
 
 -- a step that can be undone
 abbrev pub negatable : {F C S : Type 0} → LeafOf F C S → Bool
@@ -63,11 +63,11 @@ order-both : (d : Bool) (r q : Option ℕ) → r ≡ none → q ≡ none → fir
 order-both true r q e h = first-both q r h e
 order-both false r q e h = first-both r q e h
 
-order-left : (d : Bool) (r q : Option ℕ) → firstInOrder d r q ≡ none → r ≡ none
+pub order-left : (d : Bool) (r q : Option ℕ) → firstInOrder d r q ≡ none → r ≡ none
 order-left true r q e = first-right q r e
 order-left false r q e = first-left r q e
 
-order-right : (d : Bool) (r q : Option ℕ) → firstInOrder d r q ≡ none → q ≡ none
+pub order-right : (d : Bool) (r q : Option ℕ) → firstInOrder d r q ≡ none → q ≡ none
 order-right true r q e = first-left q r e
 order-right false r q e = first-right r q e
 
@@ -136,7 +136,7 @@ leaf-clean x true r e = go (overflows x) r
     go false h = refl
 leaf-clean x false r e = and-left _ _ e
 
-niss-clean : (t : Bool) (q : Option ℕ) → pick t (some NISS) q ≡ none → (not t ≡ true) × (q ≡ none)
+pub niss-clean : (t : Bool) (q : Option ℕ) → pick t (some NISS) q ≡ none → (not t ≡ true) × (q ≡ none)
 niss-clean true q e = no-some e
 niss-clean false q e = (refl, e)
 
@@ -196,11 +196,6 @@ unfolding firstRefusal append
 refusal-append nil b p q = q
 refusal-append (cons n a) b p q = first-both (refusalNode false n) _ (first-left _ _ p) (refusal-append a b (first-right (refusalNode false n) _ p) q)
 
-natAbs-neg : (m : ℤ) → natAbs (negℤ m) ≡ natAbs m
-natAbs-neg (ℤ.pos zero) = refl
-natAbs-neg (ℤ.pos (suc n)) = refl
-natAbs-neg (ℤ.negsuc n) = refl
-
 node-inverted-walks : (n : Node Leaf) → cleanNode negatable n ≡ true → refusalNode false (invertedNode n) ≡ none
 unfolding refusalNode cleanNode
 node-inverted-walks (leaf x) e = refl
@@ -218,7 +213,7 @@ inverted-walks (cons n l) e =
 -- From an unrolled list, all of whose steps can be undone, to the inverse's unrolled list.
 verdict-list : {A : Type 0} (r : Option ℕ) (l m : A) → verdict r l ≡ result m → (r ≡ none) × (l ≡ m)
 verdict-list none l m e = (refl, cc)
-verdict-list (some r) l m e = absurd (let n : _≡_ {A = ℕ} 0 1 = cc in omega arith)
+verdict-list (some r) l m e = no-refusal e
 
 pub unrolled-list : (t : Tree) (list : List Leaf) → flatten t ≡ result list → (firstRefusal false t ≡ none) × (flat undo false t ≡ list)
 unrolled-list t list e = verdict-list (firstRefusal false t) (flat undo false t) list (sym (flatten-is t false) ∙ e)

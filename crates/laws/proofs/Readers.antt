@@ -12,15 +12,16 @@ use lib.Dec.{eqb, ltb}
 use lib.ListN.{length, take, drop, length-append, take-append-drop}
 use lib.Seq.{length-take-le, drop-append-seam}
 use borrow.Author.Tests.{ltb-true}
-use Rattle.notation.specs.Basics.{pick, choose, between}
+use Rattle.notation.specs.Basics.{pick, between}
 use Rattle.notation.specs.Chars.{whiteSpace}
 use Rattle.notation.specs.Utf8.{runFrom, run, afterFirst, widthIf}
-use Rattle.notation.specs.Numbers.{digitRun, decimal, isDigit}
+use Rattle.notation.specs.Numbers.{digitRun, decimal}
 use Rattle.notation.specs.Tree.{Span, span}
 use Rattle.notation.specs.Grammar.{
   Reading, rejected, read, Reader, done, fail, andThen, _>>=_, _>>_, orElse, _or_, when, just, word, takeWhile, whitespace,
   someWhitespace, padded, spanned, uint, collect, moreOf, separatedBy
 }
+use Rattle.numbers.proofs.Bounds.{digits-le}
 use Rattle.laws.proofs.Bools.{and-left, and-right}
 
 -- A statement of places (an offset and the text from there) that reading on keeps: that a place lies in a certain text, or nothing.
@@ -159,15 +160,6 @@ run-le p zero (b ∷ s) = go (widthIf p (b ∷ s)) (λ k. run-le p k s)
     go : (w : ℕ) → ((k : ℕ) → runFrom p k s ≤ length s) → afterFirst w 0 (λ k. suc (runFrom p k s)) ≤ suc (length s)
     go zero h = omega arith
     go (suc k) h = omega (arith, h k)
-
-pub digits-le : (s : List ℕ) → digitRun s ≤ length s
-unfolding digitRun
-digits-le [] = omega arith
-digits-le (b ∷ s) = go (isDigit b) (digits-le s)
-  where
-    go : (t : Bool) → digitRun s ≤ length s → choose t (λ _. suc (digitRun s)) (λ _. 0) ≤ suc (length s)
-    go true h = omega arith
-    go false h = omega arith
 
 -- a property that more bytes keep
 abbrev pub Grows : {A : Type 0} → (A → ℕ → Type 0) → Type 0

@@ -6,19 +6,19 @@ use mathlib.Core.Bool.{Bool, true, not, _&&_, _||_}
 use mathlib.Core.List.{List, [], _∷_, _++_}
 use mathlib.Core.Option.{Option, some}
 use native.Mathlib.Omega.{arith}
-use lib.Dec.{leb, ltb, eqb, eqb·suc-zero}
-use lib.IntN.{ℤ, pos, negsuc, negℤ}
+use lib.Dec.{leb, ltb, eqb·suc-zero}
+use lib.IntN.{ℤ, pos, negℤ}
 use lib.ListN.{length, take, drop, length-append}
 use lib.Seq.{length-take-le, take-append-seam, drop-append-seam, drop-drop}
-use borrow.Author.Tests.{leb-true, ltb-true, le-leb, lt-ltb, eq-eqb}
-use Rattle.notation.specs.Basics.{pick, between, every}
+use borrow.Author.Tests.{leb-true, le-leb, lt-ltb, eq-eqb}
+use Rattle.notation.specs.Basics.{between, every}
 use Rattle.notation.specs.Chars.{isFamilyChar}
 use Rattle.notation.specs.Utf8.{run, runFrom}
 use Rattle.notation.specs.Numbers.{fitsBits}
 use Rattle.notation.specs.Layers.{LayerSetElement, MAX-LAYER}
 use Rattle.notation.specs.Tree.{
-  Span, span, partOf, Constraint, Layers, layerRange, layerSet, Leaf, rotation, move, pause, pair, slash, megaminx,
-  Node, leaf, block, Body, group, binaryGroup, nil, cons, Tree, mapNode, mapBody, mapNodes
+  Span, span, partOf, Constraint, Layers, layerRange, layerSet, Leaf, rotation, move, pause, pair, slash, megaminx, Node, leaf, block, group,
+  binaryGroup, nil, cons, Tree, mapNode, mapBody, mapNodes
 }
 use Rattle.notation.specs.Packed.{familyAt, nowhere, nodeSize, bodySize, size}
 use Rattle.notation.specs.Grammar.{
@@ -35,9 +35,10 @@ use Rattle.notation.specs.declared.common.GroupKind.{GroupKind}
 use Rattle.notation.specs.declared.common.BinaryGroupKind.{BinaryGroupKind}
 use Rattle.notation.specs.declared.common.MegaminxScrambleMove.{MegaminxScrambleMove}
 use Rattle.laws.proofs.Fits.{familyFits, leafFits, nodeFits, bodyFits, treeFits}
+use Rattle.numbers.proofs.TwosComplement.{opposite-fits}
 use Rattle.laws.proofs.Bools.{and-left, and-right, and-both, no-some}
 use Rattle.laws.proofs.InRange.{
-  familyInRange, nameInRange, constraintInRange, constraintsInRange, signedInRange, elementInRange, layersInRange, i32InRange, stepInRange,
+  familyInRange, nameInRange, constraintInRange, constraintsInRange, signedInRange, elementInRange, layersInRange, stepInRange,
   nodeInRange, bodyInRange, inRange
 }
 use Rattle.laws.proofs.Readers.{
@@ -68,18 +69,13 @@ module _ {c : Place} where
       negative zero e = e
       negative (suc n) e = e
 
-  yields-i32 : Yields c i32 (λ i n. (i32InRange i ≡ true) × (fitsBits 32 i ≡ true))
-  yields-i32 = yields-sint 0 MAX-I32 2147483648 {Q = λ i. (i32InRange i ≡ true) × (fitsBits 32 i ≡ true)} positive negative
+  yields-i32 : Yields c i32 (λ i n. fitsBits 32 i ≡ true)
+  yields-i32 = yields-sint 0 MAX-I32 2147483648 {Q = λ i. fitsBits 32 i ≡ true} positive negative
     where
-      positive : (n : ℕ) → between 0 MAX-I32 n ≡ true → (i32InRange (pos n) ≡ true) × (fitsBits 32 (pos n) ≡ true)
-      positive n e =
-          let h : leb n MAX-I32 ≡ true = and-right (leb 0 n) _ e in
-          (h, lt-ltb n 2147483648 (omega (arith, leb-true n MAX-I32 h)))
-      negative : (n : ℕ) → between 0 2147483648 n ≡ true → (i32InRange (negℤ (pos n)) ≡ true) × (fitsBits 32 (negℤ (pos n)) ≡ true)
-      negative zero e = (refl, refl)
-      negative (suc n) e =
-          let h : suc n ≤ 2147483648 = leb-true (suc n) 2147483648 (and-right (leb 0 (suc n)) _ e) in
-          (le-leb n 2147483647 (omega arith), lt-ltb n 2147483648 (omega arith))
+      positive : (n : ℕ) → between 0 MAX-I32 n ≡ true → fitsBits 32 (pos n) ≡ true
+      positive n e = lt-ltb n 2147483648 (omega (arith, leb-true n MAX-I32 (and-right (leb 0 n) _ e)))
+      negative : (n : ℕ) → between 0 2147483648 n ≡ true → fitsBits 32 (negℤ (pos n)) ≡ true
+      negative n e = opposite-fits 32 n (leb-true n 2147483648 (and-right (leb 0 n) _ e))
 
   yields-multiplier : Yields c multiplier (λ m n. multiplierOk m ≡ true)
   yields-multiplier =
@@ -435,11 +431,11 @@ module _ (f : Features) (text : List ℕ) where
       (yields-or (yields-bind (yields-word-some "D" "++") λ _ n h. yields-done (omega arith))
       (yields-bind (yields-word-some "D" "--") λ _ n h. yields-done (omega arith))))
 
-  pair-good : (u d : ℤ) {n : ℕ} → f .sq1 ≡ true → (i32InRange u ≡ true) × (fitsBits 32 u ≡ true) → (i32InRange d ≡ true) × (fitsBits 32 d ≡ true) →
-      1 ≤ n → NodeGood f text (leaf (pair u d)) n
+  pair-good : (u d : ℤ) {n : ℕ} → f .sq1 ≡ true → fitsBits 32 u ≡ true → fitsBits 32 d ≡ true → 1 ≤ n → NodeGood f text (leaf (pair u d)) n
   unfolding stepInRange stepOf leafOk leafFits
   pair-good u d t p q h =
-      leaf-good (and-both (f .sq1) _ t (and-both (i32InRange u) _ (p .0) (q .0))) refl (and-both (fitsBits 32 u) _ (p .1) (q .1)) h
+      let fit = and-both (fitsBits 32 u) _ p q in
+      leaf-good (and-both (f .sq1) _ t fit) refl fit h
 
   slash-good : {n : ℕ} → f .sq1 ≡ true → 1 ≤ n → NodeGood f text (leaf slash) n
   unfolding stepInRange stepOf leafOk leafFits

@@ -11,7 +11,7 @@ use borrow.Author.Tests.{leb-true, le-leb, lt-leb}
 use Rattle.notation.specs.Basics.{pick, choose, between}
 use Rattle.notation.specs.Utf8.{byteAt, continuation, charWidth, codePoint, afterFirst, widthIf, runFrom, run}
 use Rattle.notation.specs.Numbers.{isDigit, digitRun}
-use Rattle.laws.proofs.Bools.{and-left, and-right, and-both}
+use Rattle.laws.proofs.Bools.{and-left, and-right, and-both, and-false}
 use Rattle.laws.proofs.Readers.{run-le}
 
 -- The character at the start by its bytes: forms of two, three and four of them.
@@ -83,10 +83,6 @@ wide-is p s =
     go x y z w false false false false l₂ l₃ h₂ h₃ h₄ = same (p _)
 
 -- A form with a byte that is no continuation is none.
-and-no : (a : Bool) → (a && false) ≡ false
-and-no true = refl
-and-no false = refl
-
 second : (e f : Bool) (x y b : ℕ) → 0x80 ≤ x → y ≤ 0xbf → continuation b ≡ false → between (pick e x 0x80) (pick f y 0xbf) b ≡ false
 second e f x y b hx hy n = go (between (pick e x 0x80) (pick f y 0xbf) b) refl
   where
@@ -110,13 +106,13 @@ second₄ : (a b : ℕ) → continuation b ≡ false → between (pick (eqb a 0x
 second₄ a b n = second (eqb a 0xf0) (eqb a 0xf4) 0x90 0x8f b (omega arith) (omega arith) n
 
 one-byte : (p : ℕ → Bool) (a b c d : ℕ) → continuation b ≡ false → wide p a b c d ≡ form₁ p a 0
-one-byte p a b c d n = rw (second₃ a b n, second₄ a b n, n) (simp and-no)
+one-byte p a b c d n = rw (second₃ a b n, second₄ a b n, n) (simp and-false)
 
 two-bytes : (p : ℕ → Bool) (a b c d : ℕ) → continuation c ≡ false → wide p a b c d ≡ form₁ p a (form₂ p a b 0)
-two-bytes p a b c d n = rw n (simp and-no)
+two-bytes p a b c d n = rw n (simp and-false)
 
 three-bytes : (p : ℕ → Bool) (a b c d : ℕ) → continuation d ≡ false → wide p a b c d ≡ form₁ p a (form₂ p a b (form₃ p a b c 0))
-three-bytes p a b c d n = rw n (simp and-no)
+three-bytes p a b c d n = rw n (simp and-false)
 
 -- A character does not look past a byte that is no continuation.
 pub width-cut : (p : ℕ → Bool) (a : ℕ) (v r : List ℕ) → continuation (byteAt r 0) ≡ false → widthIf p (a ∷ (v ++ r)) ≡ widthIf p (a ∷ v)

@@ -1,14 +1,14 @@
 -- Seeking: entry k of the unrolled list, found by passing over whole records and whole repeats by their counts. Assumes nothing.
 use Prim.Native.Nat.{ℕ, zero, suc, _+_, _-_, _*_, _%_, _≤_, _<_}
 use mathlib.Core.Path.{_≡_, refl, sym, ap, _∙_}
-use mathlib.Core.Bool.{Bool, true, false, not}
+use mathlib.Core.Bool.{Bool, true, false}
 use mathlib.Core.List.{List, [], _∷_, _++_}
 use mathlib.Core.Option.{Option, none, some}
 use native.Mathlib.Nat.{mod-eq-of-lt, mod-eq-sub-mod, zero-mul}
 use native.Mathlib.Omega.{arith}
 use borrow.Author.Tests.{ltb-true, ltb-false, le-ltb}
 use lib.Dec.{ltb}
-use lib.IntN.{ℤ, natAbs}
+use lib.IntN.{natAbs}
 use lib.ListN.{length, length-append, getElem?}
 use Rattle.notation.specs.Basics.{pick}
 use Rattle.notation.specs.Tree.{Leaf, Node, leaf, block, Body, group, binaryGroup, nil, cons, Tree}
@@ -17,8 +17,9 @@ use Rattle.notation.specs.Unroll.{copies, turned}
 use Rattle.notation.specs.declared.common.BinaryGroupKind.{BinaryGroupKind}
 use Rattle.notation.specs.declared.common.BinaryGroupKind.the-variants.{Commutator, Conjugate}
 use Rattle.notation.proofs.Marked.{length-copies}
+use Rattle.laws.proofs.ListEntries.{get-append-left, get-append-right, get-past}
 use Rattle.laws.proofs.Unrolling.{inOrder, flatBinary, flatNode, flatBody, flat}
-use Rattle.laws.proofs.Counting.{countNode, countBody, count, countNode-is, countBody-is, count-is}
+use Rattle.laws.proofs.Counting.{countNode, countBody, count, countBody-is, count-is}
 
 abbrev pub Finder : Type 0
 Finder = ℕ → Option Leaf
@@ -58,16 +59,6 @@ pub record Finds (l : List Leaf) (c : ℕ) (f : Finder) : Type 0 where
   pub long : length l ≡ c
   pub finds : (k : ℕ) → getElem? l k ≡ f k
 
-get-append-left : (a b : List Leaf) (k : ℕ) → k < length a → getElem? (a ++ b) k ≡ getElem? a k
-get-append-left [] b k h = absurd (omega arith)
-get-append-left (x ∷ a) b zero h = refl
-get-append-left (x ∷ a) b (suc k) h = get-append-left a b k (omega arith)
-
-get-append-right : (a b : List Leaf) (k : ℕ) → length a ≤ k → getElem? (a ++ b) k ≡ getElem? b (k - length a)
-get-append-right [] b k h = ap (getElem? b) (omega arith)
-get-append-right (x ∷ a) b zero h = absurd (omega arith)
-get-append-right (x ∷ a) b (suc k) h = get-append-right a b k (omega arith) ∙ ap (getElem? b) (omega arith)
-
 finds-parts : (a b : List Leaf) (c e : ℕ) (f g : Finder) → Finds a c f → Finds b e g → Finds (a ++ b) (c + e) (parts c f g)
 finds-parts a b c e f g p q = record { long = length-append a b ∙ omega (arith, p .long, q .long); finds = at }
   where
@@ -80,11 +71,6 @@ finds-parts a b c e f g p q = record { long = length-append a b ∙ omega (arith
         go false h =
             let l : c ≤ k = ltb-false k c h in
             get-append-right a b k (omega (arith, p .long)) ∙ ap (λ (m : ℕ). getElem? b (k - m)) (p .long) ∙ q .finds (k - c)
-
-get-past : (l : List Leaf) (k : ℕ) → length l ≤ k → getElem? l k ≡ none
-get-past [] k h = refl
-get-past (x ∷ l) zero h = absurd (omega arith)
-get-past (x ∷ l) (suc k) h = get-past l k (omega arith)
 
 get-copies : (l : List Leaf) (c : ℕ) (f : Finder) → Finds l c f → (n k : ℕ) → k < n * c → getElem? (copies n l) k ≡ f (k % c)
 unfolding copies

@@ -1,11 +1,12 @@
 -- Unrolling and direction: the walk with refusals is one equation with a walk without, and the other direction gives the
 -- reversed list of undone steps. Assumes nothing.
-use Prim.Native.Nat.{ℕ, zero, suc, _+_, _*_}
+use Prim.Native.Nat.{ℕ, zero, suc}
 use mathlib.Core.Path.{_≡_, refl, sym, ap, _∙_, fun-ext}
 use mathlib.Core.Bool.{Bool, true, false, not, _&&_}
 use mathlib.Core.List.{List, [], _∷_, _++_, map, reverse, append-assoc, append-nil, reverse-append, reverse-cons, map-append}
 use mathlib.Core.Option.{Option, none, some}
-use lib.IntN.{ℤ, pos, negsuc, negℤ, natAbs, negℤ-negℤ}
+use lib.IntN.{ℤ, pos, negsuc, natAbs, negℤ-negℤ}
+use lib.ListN.{length, length-map, length-reverse}
 use Rattle.notation.specs.Basics.{pick}
 use Rattle.notation.specs.Refusals.{Outcome, refusal, result, _>>=_, NISS, OVERFLOW}
 use Rattle.notation.specs.Tree.{LeafOf, rotation, move, pause, pair, slash, megaminx, Leaf, Node, leaf, block, Body, group, binaryGroup, NodeList, nil, cons, Tree, mapNode, mapBody, mapNodes}
@@ -34,6 +35,9 @@ undo-undo (megaminx k) = ap megaminx (exchanged-twice k)
 -- a list reversed, each step undone
 abbrev pub backwards : List Leaf → List Leaf
 backwards l = reverse (map undo l)
+
+pub long-backwards : (l : List Leaf) → length (backwards l) ≡ length l
+long-backwards l = length-reverse (map undo l) ∙ length-map l undo
 
 pub backwards-append : (a b : List Leaf) → backwards (a ++ b) ≡ backwards b ++ backwards a
 backwards-append a b = rw (map-append, reverse-append)

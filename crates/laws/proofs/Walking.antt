@@ -1,14 +1,13 @@
 -- Walking a packed list: its first node, the list after it, and a group's lists, each again packed. What walkers' proofs use.
 -- Assumes nothing.
-use Prim.Native.Nat.{ℕ, zero, suc, _+_, _-_, _*_, _≤_, _<_}
+use Prim.Native.Nat.{ℕ, _+_, _*_, _≤_, _<_}
 use mathlib.Core.Path.{_≡_, refl, sym, ap, ap₂, _∙_, subst}
 use mathlib.Core.List.{List, [], _∷_, _++_, append-nil, append-assoc}
-use mathlib.Core.Option.{Option, none, some}
 use native.Mathlib.Omega.{arith}
 use lib.IntN.{ℤ}
 use lib.ListN.{length, getD, take, drop, length-append}
 use lib.Seq.{take-at, drop-at, drop-drop}
-use Rattle.notation.specs.Tree.{Leaf, rotation, move, pause, pair, slash, megaminx, Node, leaf, block, Body, group, binaryGroup, nil, cons, Tree}
+use Rattle.notation.specs.Tree.{Leaf, rotation, move, pause, pair, slash, megaminx, Node, leaf, block, group, binaryGroup, nil, cons, Tree}
 use Rattle.notation.specs.Packed.{
   RECORD, widths, cut, Head, leafHead, groupHead, binaryHead, headFields, record25, nodeSize, bodySize, size, bodyHead, packNode, packBody, pack, headAt, unpack
 }
@@ -17,7 +16,7 @@ use Rattle.notation.specs.declared.common.BinaryGroupKind.{BinaryGroupKind}
 use Rattle.record.specs.Meaning.{field}
 use Rattle.record.specs.Range.{FitsHead}
 use Rattle.record.proofs.RoundTrip.{length-record25, headAt-record25, cut-record25}
-use Rattle.laws.proofs.Packing.{FitsNode, FitsBody, FitsTree, length-packNode, length-packBody, length-pack, unpack-pack}
+use Rattle.laws.proofs.Packing.{FitsNode, FitsBody, FitsTree, length-packNode, length-pack, unpack-pack}
 
 -- The bytes of a packed list of nodes.
 pub record Packed (bs : List ℕ) : Type 0 where

@@ -1,27 +1,22 @@
 -- The inverses of a well-formed tree are well formed over the same text: leaves and multipliers stay in bounds, sizes and nesting stay
 -- as they are. Assumes nothing.
-use Prim.Native.Nat.{ℕ, zero, suc, _+_, max}
-use mathlib.Core.Path.{_≡_, refl, sym, ap, ap₂, _∙_}
-use mathlib.Core.Bool.{Bool, true, false, _&&_}
+use Prim.Native.Nat.{ℕ, suc, _+_, max}
+use mathlib.Core.Path.{_≡_, refl, ap, _∙_}
+use mathlib.Core.Bool.{true}
 use mathlib.Core.List.{List}
 use native.Mathlib.Omega.{arith}
 use lib.Dec.{ltb}
-use lib.IntN.{ℤ, pos, negsuc, negℤ, natAbs}
+use lib.IntN.{ℤ, negℤ}
 use Rattle.notation.specs.Tree.{Leaf, rotation, move, pause, pair, slash, megaminx, Node, leaf, block, Body, group, binaryGroup, nil, cons, append, Tree}
 use Rattle.notation.specs.Packed.{nodeSize, bodySize, size}
 use Rattle.notation.specs.WellFormed.{multiplierOk, leafOk, nodeOk, bodyOk, treeOk, nodeDepth, bodyDepth, depth}
 use Rattle.notation.specs.Invert.{undo}
-use Rattle.notation.specs.declared.common.BinaryGroupKind.{BinaryGroupKind}
 use Rattle.notation.specs.declared.common.BinaryGroupKind.the-variants.{Commutator, Conjugate}
+use Rattle.numbers.proofs.TwosComplement.{natAbs-neg}
 use Rattle.laws.proofs.Bools.{and-left, and-right, and-both}
 use Rattle.laws.proofs.Inverses.{inverted, invertedNode, deeply, deeplyNode, deeplyBody}
 
-natAbs-neg : (m : ℤ) → natAbs (negℤ m) ≡ natAbs m
-natAbs-neg (pos zero) = refl
-natAbs-neg (pos (suc n)) = refl
-natAbs-neg (negsuc n) = refl
-
-multiplier-neg : (m : ℤ) → multiplierOk (negℤ m) ≡ multiplierOk m
+pub multiplier-neg : (m : ℤ) → multiplierOk (negℤ m) ≡ multiplierOk m
 multiplier-neg m = ap (λ (n : ℕ). ltb n 2147483648) (natAbs-neg m)
 
 -- undoing keeps a leaf in bounds

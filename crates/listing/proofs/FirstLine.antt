@@ -1,7 +1,6 @@
 -- The first line of the input. Assumes nothing.
 use Prim.Native.Nat.{ℕ, _≤_, _<_}
 use mathlib.Core.Path.{_≡_, refl, sym, ap, _∙_}
-use mathlib.Core.Bool.{Bool, true, false, _&&_}
 use mathlib.Core.List.{List, [], _∷_, _++_, append-nil}
 use native.Mathlib.Omega.{arith}
 use borrow.Author.Tests.{eq-eqb, ne-eqb, le-leb, lt-leb}
@@ -14,10 +13,7 @@ use Rattle.notation.specs.Print.{put}
 use Rattle.notation.specs.Entries.{reading}
 use Rattle.notation.specs.Lister.{treePart, listing, lister}
 use Rattle.notation.specs.declared.features.Features.{Features}
-
-and-false : (b : Bool) → (b && false) ≡ false
-and-false true = refl
-and-false false = refl
+use Rattle.notation.proofs.Bools.{and-false}
 
 pub too-short : (input : List ℕ) → length input < 2 → lister input ≡ put "refused input\n" []
 unfolding lister sameList

@@ -14,6 +14,7 @@ use Rattle.notation.specs.Packed.{RECORD, pack, unpack}
 use Rattle.notation.specs.WellFormed.{wellFormed}
 use Rattle.notation.specs.Entries.{reading, checked, inverse, MAX-TEXT}
 use Rattle.notation.specs.declared.features.Features.{Features}
+use Rattle.laws.proofs.Bools.{no-refusal}
 use Rattle.laws.proofs.Unrolling.{verdict}
 use Rattle.laws.proofs.Inverses.{inverted, invRefusal}
 use Rattle.laws.proofs.Packing.{length-pack, well-formed-packed}
@@ -26,9 +27,6 @@ pub reading-long : (f : Features) (text tree : List ℕ) → reading f text ≡ 
 reading-long f text tree e =
     let a = accepted-tree f text tree e in
     omega (arith, ap length (a .2), length-pack (a .0), reading-size f text (a .0) (a .1 .reads))
-
-no-refusal : {A B : Type 0} {r : ℕ} {a : A} → _≡_ {A = Outcome A} (refusal r) (result a) → B
-no-refusal e = absurd (let n : _≡_ {A = ℕ} 0 1 = cc in omega arith)
 
 -- a checked tree is well formed
 formed : (text tree : List ℕ) (t : Tree) → checked text tree ≡ result t → (wellFormed text tree ≡ true) × (unpack tree ≡ t)

@@ -18,6 +18,7 @@ pub mod Refusals
 pub mod Invert
 pub mod Print
 pub mod Unroll
+pub mod Reached
 pub mod Entries
 pub mod Lister
 pub mod Demands

@@ -15,13 +15,13 @@ use Rattle.notation.specs.Basics.{pick, choose}
 use Rattle.notation.specs.Numbers.{digitRun, decimal, isDigit, fromBits, toBits}
 use Rattle.notation.specs.Grammar.{Reading, rejected, read, andThen, orElse, done, uint, sint, just}
 use Rattle.numbers.proofs.DigitRuns.{run-low}
-use Rattle.numbers.proofs.TwosComplement.{opposite-magnitude, fromBits-toBits, signed-fits}
+use Rattle.numbers.proofs.TwosComplement.{opposite-magnitude, fromBits-toBits, opposite-fits}
 
 -- a run of digits lies within the text
-pub run-length : (s : List ℕ) → digitRun s ≤ length s
+pub digits-le : (s : List ℕ) → digitRun s ≤ length s
 unfolding digitRun
-run-length [] = omega arith
-run-length (b ∷ s) = go (isDigit b) (run-length s)
+digits-le [] = omega arith
+digits-le (b ∷ s) = go (isDigit b) (digits-le s)
   where
     go : (t : Bool) → digitRun s ≤ length s → choose t (λ _. suc (digitRun s)) (λ _. 0) ≤ suc (length s)
     go true h = omega arith
@@ -49,7 +49,7 @@ number low high at s value next rest e = go (ltb 0 (digitRun s)) (leb low (decim
           least = omega (arith, leb-true low (decimal 0 (take (digitRun s) s)) q);
           most = omega (arith, leb-true (decimal 0 (take (digitRun s) s)) high r);
           later = omega (arith, ltb-true 0 (digitRun s) p);
-          inside = omega (arith, length-drop (digitRun s) s, run-length s);
+          inside = omega (arith, length-drop (digitRun s) s, digits-le s);
         }
     go true true false p q r h = let z : _≡_ {A = ℕ} 0 1 = cc in absurd (omega arith)
     go true false c p q r h = let z : _≡_ {A = ℕ} 0 1 = cc in absurd (omega arith)
@@ -59,7 +59,7 @@ number low high at s value next rest e = go (ltb 0 (digitRun s)) (leb low (decim
 pub negated : (m bits : ℕ) → m ≤ 2147483648 → bits ≡ toBits 32 (negℤ (fromBits 32 m)) → fromBits 32 bits ≡ negℤ (pos m)
 negated m bits h e =
     ap (fromBits 32) (e ∙ opposite-magnitude m (omega arith))
-    ∙ fromBits-toBits 32 (negℤ (pos m)) (omega arith) (signed-fits 32 true m (omega arith))
+    ∙ fromBits-toBits 32 (negℤ (pos m)) (omega arith) (opposite-fits 32 m h)
 
 pub not-negated : (m : ℕ) → m ≤ 2147483647 → fromBits 32 m ≡ pos m
 not-negated m h = rw (lt-ltb m 2147483648 (omega arith))

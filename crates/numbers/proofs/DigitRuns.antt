@@ -12,6 +12,7 @@ use lib.Seq.{drop-cons, drop-length, drop-drop}
 use Rattle.notation.specs.Basics.{pick}
 use Rattle.notation.specs.Numbers.{digitRun, decimal, isDigit}
 use Rattle.notation.specs.Grammar.{uint, rejected, read}
+use Rattle.notation.proofs.Bools.{and-false}
 
 -- larger numbers are not told apart
 abbrev pub cap : ℕ → ℕ
@@ -24,11 +25,7 @@ low : (b : ℕ) → b < 48 → isDigit b ≡ false
 low b h = rw (lt-leb 48 b h)
 
 high : (b : ℕ) → 57 < b → isDigit b ≡ false
-high b h = rw (lt-leb b 57 h) (go (leb 48 b))
-  where
-    go : (t : Bool) → (t && false) ≡ false
-    go true = refl
-    go false = refl
+high b h = rw (lt-leb b 57 h) (and-false (leb 48 b))
 
 -- the run goes on at a digit and ends elsewhere
 pub run-on : (s : List ℕ) (i : ℕ) → i < length s → 48 ≤ getD s i 0 → getD s i 0 ≤ 57 →

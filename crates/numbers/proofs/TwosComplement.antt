@@ -1,5 +1,5 @@
 -- Two's complement in w bits: the bits of a number and the number of some bits undo each other.
-use Prim.Native.Nat.{ℕ, zero, suc, _+_, _-_, _%_, _^_, _<_}
+use Prim.Native.Nat.{ℕ, zero, suc, _+_, _-_, _%_, _^_, _≤_, _<_}
 use mathlib.Core.Path.{_≡_, refl}
 use mathlib.Core.Bool.{Bool, true, false}
 use native.Mathlib.Nat.{two-pow-succ}
@@ -8,9 +8,8 @@ use native.Mathlib.Omega.{arith}
 use borrow.Author.Tests.{lt-ltb, le-ltb, le-leb, lt-leb, ltb-true, ltb-false}
 use lib.Dec.{ltb, leb}
 use lib.Pow.{pow-pos}
-use lib.IntN.{ℤ, pos, negsuc, negℤ}
-use Rattle.notation.specs.Packed.{bit}
-use Rattle.numbers.specs.Sign.{isNegative, signed}
+use lib.IntN.{ℤ, pos, negsuc, negℤ, natAbs}
+use Rattle.numbers.specs.Sign.{isNegative}
 use Rattle.notation.specs.Basics.{pick}
 use Rattle.notation.specs.Numbers.{toBits, fromBits, fitsBits}
 
@@ -37,11 +36,16 @@ toBits-fromBits w n h = go (ltb n (2 ^ (w - 1)))
     go true = refl
     go false = omega arith
 
--- a number by its sign and magnitude fits where the magnitude does; below 0 it reaches one further
-pub signed-fits : (w : ℕ) (s : Bool) (m : ℕ) → m < 2 ^ (w - 1) + bit s → fitsBits w (signed s m) ≡ true
-signed-fits w true zero h = lt-ltb 0 (2 ^ (w - 1)) (pow-pos (w - 1))
-signed-fits w true (suc m) h = lt-ltb m (2 ^ (w - 1)) (omega arith)
-signed-fits w false m h = lt-ltb m (2 ^ (w - 1)) (omega arith)
+-- a number and its opposite
+pub natAbs-neg : (z : ℤ) → natAbs (negℤ z) ≡ natAbs z
+natAbs-neg (pos zero) = refl
+natAbs-neg (pos (suc n)) = refl
+natAbs-neg (negsuc n) = refl
+
+-- below 0 a number of w bits reaches one further than above
+pub opposite-fits : (w m : ℕ) → m ≤ 2 ^ (w - 1) → fitsBits w (negℤ (pos m)) ≡ true
+opposite-fits w zero h = lt-ltb 0 (2 ^ (w - 1)) (pow-pos (w - 1))
+opposite-fits w (suc m) h = lt-ltb m (2 ^ (w - 1)) (omega arith)
 
 -- 32 bits: the highest is the sign
 pub high-bit : (n : ℕ) → leb 2147483648 n ≡ isNegative (fromBits 32 n)

@@ -21,17 +21,13 @@ use Rattle.parse.specs.declared.nodes.NodeAnswer.{NodeAnswer}
 use Rattle.parse.specs.declared.nodes.NodeAnswer.the-variants.{Took, Nothing}
 use Rattle.parse.specs.Nodes.{Kept, NodeRead, NoNode, Told, nested, repeated}
 use Rattle.parse.proofs.Buffers.{kept-all, kept-then}
-use Rattle.parse.proofs.Readings.{or-none}
+use Rattle.parse.proofs.Readings.{or-none, or-last}
 use Rattle.parse.proofs.Choices.{times, just-no, nothing-nested, node-choice}
 use Rattle.parse.proofs.Pairs.{no-nested}
 
 -- the bytes that a group starts with
 abbrev pub openers : List ℕ
 openers = 33 ∷ 38 ∷ 40 ∷ 94 ∷ []
-
-or-last : {A : Type 0} (r : Reading A) (q : Reader A) (at : ℕ) (s : List ℕ) → q at s ≡ rejected → orElse r q at s ≡ r
-or-last rejected q at s e = e
-or-last (read a i t) q at s e = refl
 
 no-binary : (list : Reader Tree) (at : ℕ) (s : List ℕ) → eqb (byteAt s 0) 91 ≡ false → binaryGroupNode list at s ≡ rejected
 unfolding binaryGroupNode

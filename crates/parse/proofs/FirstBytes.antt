@@ -18,7 +18,7 @@ use Rattle.notation.specs.declared.features.Features.{Features}
 use Rattle.charsets.proofs.Texts.{in-text, first-byte}
 use Rattle.parse.specs.Meaning.{nodeFields, repeated, leafRead, scrambleRead, scrambleOrMove}
 use Rattle.numbers.proofs.Bounds.{just-byte}
-use Rattle.parse.proofs.Readings.{assoc, or-none, when-none}
+use Rattle.parse.proofs.Readings.{assoc, or-none, or-last, when-none}
 use Rattle.parse.proofs.Bare.{Bare, bare-move, bare-node, bare-end, bare-parenthesis, bare-slash, bare-at-sign}
 use Rattle.parse.proofs.Choices.{or-same, times, pause, scramble, sq1, inner, node-by, by-same, inner-fail, no-pause, scramble-none, rotation-none, sq1-none}
 
@@ -28,10 +28,6 @@ headed r = andThen r (λ n. done (nodeFields n))
 head-or : (r : Reading (Node Leaf)) (q : Reader (Node Leaf)) (at : ℕ) (s : List ℕ) → headed (orElse r q at s) ≡ orElse (headed r) (λ at s. headed (q at s)) at s
 head-or rejected q at s = refl
 head-or (read n e t) q at s = refl
-
-or-last : {A : Type 0} (r : Reading A) (q : Reader A) (at : ℕ) (s : List ℕ) → q at s ≡ rejected → orElse r q at s ≡ r
-or-last rejected q at s e = e
-or-last (read a i t) q at s e = refl
 
 head-times : (r : Reading (ℤ → Node Leaf)) → headed (andThen r times) ≡ repeated r
 head-times rejected = refl

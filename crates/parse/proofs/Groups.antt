@@ -18,7 +18,6 @@ use Rattle.notation.specs.Grammar.{
   Reader,
   done,
   andThen,
-  MAX-I32,
   multiplier,
   groupKind,
   groupNode,
@@ -30,7 +29,7 @@ use Rattle.notation.specs.declared.common.BinaryGroupKind.{BinaryGroupKind}
 use Rattle.notation.specs.declared.common.BinaryGroupKind.the-variants.{Commutator, Conjugate}
 use Rattle.parse.specs.Nodes.{repeated}
 use Rattle.parse.proofs.Bytes.{just-is, just-not}
-use Rattle.parse.proofs.Past.{Takes, within, takes-done, takes-then, takes-or, takes-less, takes-just, takes-uint}
+use Rattle.parse.proofs.Past.{Takes, within, takes-done, takes-then, takes-or, takes-less, takes-just}
 
 module _ (text : List ℕ) (at : ℕ) (list : Reader Tree) where
   -- a group: its kind, `(`, its list, `)` and its multiplier
@@ -84,17 +83,12 @@ module _ (text : List ℕ) (at : ℕ) where
   pub signs-none : eqb (byteAt text at) 44 ≡ false → eqb (byteAt text at) 58 ≡ false → binaryGroupKind at (drop at text) ≡ rejected
   signs-none h k = rw (just-not "," text at h, just-not ":" text at k)
 
--- A kind and a multiplier end within the text.
+-- A kind ends within the text.
 pub takes-kind : Takes 0 groupKind
 takes-kind =
     takes-or (takes-less 0 (omega arith) (takes-then (takes-just "!") (λ _. takes-done)))
     (takes-or (takes-less 0 (omega arith) (takes-then (takes-just "&") (λ _. takes-done)))
     (takes-or (takes-less 0 (omega arith) (takes-then (takes-just "^") (λ _. takes-done))) takes-done))
-
-pub takes-multiplier : Takes 0 multiplier
-takes-multiplier =
-    takes-then (takes-or (takes-less 0 (omega arith) (takes-uint 0 MAX-I32)) takes-done)
-    (λ n. takes-or (takes-less 0 (omega arith) (takes-then (takes-just "'") (λ _. takes-done))) takes-done)
 
 -- a byte that a test saw
 pub stands-first : (text : List ℕ) (at b : ℕ) → at < length text → getD text at 0 ≡ b → eqb (byteAt text at) b ≡ true

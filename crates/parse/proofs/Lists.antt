@@ -64,11 +64,6 @@ unfolding append
 append-cons nil n l = refl
 append-cons (cons m a) n l = ap (cons m) (append-cons a n l)
 
-pub append-nil : (a : Tree) → append a nil ≡ a
-unfolding append
-append-nil nil = refl
-append-nil (cons m a) = ap (cons m) (append-nil a)
-
 pub then-append : (a : Tree) (n : Node Leaf) (r : Reading Tree) →
     andThen (andThen r (λ l. done (cons n l))) (λ l. done (append a l)) ≡ andThen r (λ l. done (append (append a (cons n nil)) l))
 then-append a n rejected = refl

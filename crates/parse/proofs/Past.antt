@@ -15,6 +15,7 @@ use Rattle.notation.specs.Packed.{familyAt}
 use Rattle.notation.specs.Grammar.{Reading, rejected, read, Reader, andThen, orElse, done, fail, when, just, uint, whitespace, padded, familyText, family, collect, moreOf, separatedBy, braces}
 use Rattle.numbers.proofs.Bounds.{number}
 use Rattle.charsets.proofs.Runs.{run-length}
+use Rattle.parse.proofs.Readings.{never as nothing}
 
 pub record Takes {A : Type 0} (k : ℕ) (p : Reader A) : Type 0 where
   pub ends : (at : ℕ) (s : List ℕ) (a : A) (e : ℕ) (t : List ℕ) → p at s ≡ read a e t → (at + k ≤ e) × (e + length t ≡ at + length s)
@@ -25,9 +26,6 @@ pub within : {A : Type 0} {k : ℕ} {p : Reader A} {a : A} {e : ℕ} (text : Lis
 within {a = a} {e = e} text at p h q =
     let b = p .ends at (drop at text) a e (drop e text) (sym q) in
     (b .0, omega (arith, b .1, length-drop e text, length-drop at text))
-
-nothing : {A : Type 0} {a : A} {e : ℕ} {t : List ℕ} {X : Type 0} → rejected ≡ read a e t → X
-nothing {e = e} q = let z : _≡_ {A = ℕ} 0 1 = cc in absurd (omega arith)
 
 pub takes-fail : {A : Type 0} {k : ℕ} → Takes {A = A} k fail
 takes-fail = record { ends = λ at s a e t q. nothing q }

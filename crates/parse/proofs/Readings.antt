@@ -29,6 +29,10 @@ steps (read a i u) f q = record { value = a; next = i; rest = u; first = refl; s
 pub or-none : {A : Type 0} (r : Reading A) (q : Reader A) (at : ℕ) (s : List ℕ) → r ≡ rejected → orElse r q at s ≡ q at s
 or-none r q at s e = rw e
 
+pub or-last : {A : Type 0} (r : Reading A) (q : Reader A) (at : ℕ) (s : List ℕ) → q at s ≡ rejected → orElse r q at s ≡ r
+or-last rejected q at s e = e
+or-last (read a i t) q at s e = refl
+
 pub when-none : {A : Type 0} (b : Bool) (p : Reader A) (at : ℕ) (s : List ℕ) → p at s ≡ rejected → when b p at s ≡ rejected
 when-none true p at s e = e
 when-none false p at s e = refl

@@ -8,6 +8,7 @@ use native.Mathlib.Nat.{add-zero}
 use lib.ListN.{length, drop, length-drop}
 use lib.Seq.{drop-drop}
 use Rattle.charsets.proofs.Runs.{run-dropped, end-length}
+use Rattle.laws.proofs.Inverses.{append-nil-nodes}
 use Rattle.laws.proofs.Packing.{length-pack}
 use Rattle.laws.proofs.WellFormedInverses.{size-append}
 use Rattle.notation.specs.Chars.{whiteSpace}
@@ -18,7 +19,7 @@ use Rattle.notation.specs.Grammar.{Reading, read, Reader, done, andThen, node, 
 use Rattle.notation.specs.declared.features.Features.{Features}
 use Rattle.parse.specs.Nodes.{Wrote, ListRead, NodeRead, NoNode}
 use Rattle.parse.proofs.Buffers.{wrote-none, wrote-kept, wrote-then}
-use Rattle.parse.proofs.Lists.{rest, list-start, andThen-done, rest-none, rest-last, rest-more, append-nil, then-append}
+use Rattle.parse.proofs.Lists.{rest, list-start, andThen-done, rest-none, rest-last, rest-more, then-append}
 
 -- a node takes a record at least
 pub some-records : (n : Node Leaf) → 0 < nodeSize n
@@ -93,7 +94,7 @@ module _ (f : Features) (text : List ℕ) (at slot : ℕ) (old : List ℕ) where
             g .goes k (omega arith)
             ∙ ap (λ (r : Reading Tree). andThen r (λ l. done (append (g .front) l)))
             (rest-none (rule k) next (drop next text) (g .fuel) (none .rejects k (omega (arith, g .advances))) (g .skipped))
-            ∙ ap (λ (t : Tree). read t next (drop next text)) (append-nil (g .front))
+            ∙ ap (λ (t : Tree). read t next (drop next text)) (append-nil-nodes (g .front))
 
     module _ (after filled : ℕ) (took : NodeRead rule text next end mid new after filled) where
       joined : Wrote (RECORD * slot) (pack (append (g .front) (cons (took .node) nil))) old new

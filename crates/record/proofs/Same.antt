@@ -10,26 +10,11 @@ use lib.ListN.{length, take, getD}
 use lib.Seq.{length-take-le}
 use Rattle.notation.specs.Basics.{sameList}
 use Rattle.notation.specs.Packed.{RECORD, widths, layOut, cut, Head, headFields, record25}
+use Rattle.notation.proofs.Bools.{false-true, and-left as left, and-right as right, and-both as both}
 use Rattle.numbers.proofs.Positional.{Below, below-take}
 use Rattle.record.specs.Meaning.{field, span, spanAt}
 use Rattle.record.specs.declared.spanned.Span.{Span}
 use Rattle.record.proofs.Cut.{Fits, cut-layOut, layOut-cut}
-
-false-true : _≡_ {A = Bool} false true → ⊥
-false-true e = let n : _≡_ {A = ℕ} 0 1 = cc in omega arith
-
-both : (a b : Bool) → a ≡ true → b ≡ true → a && b ≡ true
-both true true p q = refl
-both true false p q = q
-both false b p q = p
-
-left : (a b : Bool) → a && b ≡ true → a ≡ true
-left true b e = refl
-left false b e = e
-
-right : (a b : Bool) → a && b ≡ true → b ≡ true
-right true b e = e
-right false b e = absurd (false-true e)
 
 pub same-refl : (s : List ℕ) → sameList s s ≡ true
 unfolding sameList

@@ -4,10 +4,10 @@ use mathlib.Core.Path.{_≡_, refl, sym, ap, ap₂, _∙_}
 use mathlib.Core.List.{List, [], _∷_}
 use native.Mathlib.Omega.{arith}
 use lib.ListN.{length, take, drop, length-take, length-drop}
-use Rattle.notation.specs.Tree.{Leaf, Node, leaf, block, group, binaryGroup, nil, cons, Tree}
+use Rattle.notation.specs.Tree.{Leaf, Node, leaf, block, group, binaryGroup, cons, Tree}
 use Rattle.notation.specs.Packed.{RECORD, Head, leafHead, groupHead, binaryHead, headAt, unpackFrom, unpack}
 use Rattle.tree.specs.Formed.{first, second, both, firstBytes, secondBytes, restBytes}
-use Rattle.laws.proofs.Packing.{opened, unpack-step}
+use Rattle.laws.proofs.Packing.{opened, unpack-nil, unpack-step}
 
 pub both-sum : (h : Head) → both h ≡ first h + second h
 both-sum (leafHead x) = refl
@@ -36,11 +36,6 @@ shorter-list n m bs h = simp (length-take, length-drop) (omega arith)
 
 shorter-rest : (m : ℕ) (bs : List ℕ) → 0 < length bs → length (drop (RECORD + m) bs) < length bs
 shorter-rest m bs h = simp length-drop (omega arith)
-
-pub unpack-nil : (k : ℕ) → unpackFrom k [] ≡ nil
-unfolding unpackFrom
-unpack-nil zero = refl
-unpack-nil (suc k) = refl
 
 -- fuel beyond the length changes nothing
 opened-same : (k j : ℕ) (bs : List ℕ) (h : Head) → 0 < length bs → ((xs : List ℕ) → length xs < length bs → unpackFrom k xs ≡ unpackFrom j xs) →

@@ -9,11 +9,11 @@ use lib.Dec.{leb, eqb}
 use lib.IntN.{ℤ, pos, negsuc}
 use lib.ListN.{length}
 use native.Mathlib.Omega.{arith}
-use borrow.Author.Tests.{leb-true, eqb-true}
+use borrow.Author.Tests.{ltb-true, eqb-true}
 use Rattle.notation.specs.Basics.{pick, between, every, oneOf}
 use Rattle.notation.specs.Chars.{isFamilyChar, classify}
 use Rattle.notation.specs.Utf8.{run, runFrom, charWidth, codePoint}
-use Rattle.notation.specs.Numbers.{digitRun, show, showSigned}
+use Rattle.notation.specs.Numbers.{digitRun, show, showSigned, fitsBits}
 use Rattle.notation.specs.Layers.{LayerSetElement, MAX-LAYER}
 use Rattle.notation.specs.Tree.{Constraint, Layers, noLayers, singleLayer, layerRange, layerSet, megaminx, Tree}
 use Rattle.notation.specs.Grammar.{
@@ -24,7 +24,7 @@ use Rattle.notation.specs.Print.{putTilde, putLayers}
 use Rattle.notation.specs.declared.features.Features.{Features}
 use Rattle.notation.specs.declared.common.GroupKind.the-variants.{Simple}
 use Rattle.laws.proofs.Bools.{not-true}
-use Rattle.laws.proofs.InRange.{nameInRange, i32InRange}
+use Rattle.laws.proofs.InRange.{nameInRange}
 use Rattle.laws.proofs.ReadBack.Starts.{notDigit, clash, starts, starts-listed, isnt, not-just, fails, no-run, upTo, Whole, end, char}
 use Rattle.laws.proofs.ReadBack.Reads.{
   Reads, Rejects, reads-done, reads-right, rejects-bind, rejects-after, rejects-or, rejects-when, rejects-just
@@ -142,7 +142,7 @@ node-stops f list s h =
       (no-run isFamilyChar s (starts-listed (fails isFamilyChar) closers s refl h)))
 
 -- A number and a comma are no move, so no node.
-pub number-no-move : {text : List ℕ} (f : Features) (i : ℤ) (r : List ℕ) → i32InRange i ≡ true → Rejects text (moveNode f) (showSigned i (44 ∷ r))
+pub number-no-move : {text : List ℕ} (f : Features) (i : ℤ) (r : List ℕ) → fitsBits 32 i ≡ true → Rejects text (moveNode f) (showSigned i (44 ∷ r))
 unfolding moveNode layerPrefixContents layerSetElements every oneOf upTo classify runFrom charWidth codePoint digitRun
 number-no-move f (negsuc n) r h = rejects-move f refl refl (rejects-uint 1 MAX-LAYER refl) refl
 number-no-move {text} f (pos n) r h = go (between 1 MAX-LAYER n) refl
@@ -155,7 +155,7 @@ number-no-move {text} f (pos n) r h = go (between 1 MAX-LAYER n) refl
           (λ _. rejects-bind _ (rejects-family refl)))
     go false e =
         rejects-move f plain (show-starts (isnt "{") n (44 ∷ r) refl)
-          (rejects-out 1 MAX-LAYER n (44 ∷ r) e (omega (arith, leb-true n 2147483647 h)) refl)
+          (rejects-out 1 MAX-LAYER n (44 ∷ r) e (omega (arith, ltb-true n 2147483648 h)) refl)
         (no-run isFamilyChar (show n (44 ∷ r)) (show-starts (fails isFamilyChar) n (44 ∷ r) refl))
 
 -- A name that starts with R or D is followed by neither `+` nor `-`.

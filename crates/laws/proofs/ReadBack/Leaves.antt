@@ -8,11 +8,11 @@ use lib.Dec.{leb, lit<}
 use lib.IntN.{ℤ, pos, negsuc}
 use lib.ListN.{length}
 use native.Mathlib.Omega.{arith}
-use borrow.Author.Tests.{leb-true, le-leb, not-false}
+use borrow.Author.Tests.{ltb-true, le-leb, not-false}
 use Rattle.notation.specs.Basics.{every, oneOf}
 use Rattle.notation.specs.Chars.{isFamilyChar, whiteSpace, classify}
 use Rattle.notation.specs.Utf8.{run, runFrom, charWidth, codePoint}
-use Rattle.notation.specs.Numbers.{digitRun, showSigned}
+use Rattle.notation.specs.Numbers.{digitRun, showSigned, fitsBits}
 use Rattle.notation.specs.Layers.{LayerSetElement, MAX-LAYER}
 use Rattle.notation.specs.Tree.{Constraint, Layers, Leaf, Step, rotation, move, pause, pair, slash, megaminx, Node, leaf, nil, cons, Tree, mapNode}
 use Rattle.notation.specs.Grammar.{
@@ -26,7 +26,7 @@ use Rattle.notation.specs.declared.features.Features.{Features}
 use Rattle.notation.specs.declared.common.MegaminxScrambleMove.{MegaminxScrambleMove}
 use Rattle.notation.specs.declared.common.MegaminxScrambleMove.the-variants.{Rpp, Rmm, Dpp, Dmm}
 use Rattle.laws.proofs.Bools.{and-left, and-right, and-both}
-use Rattle.laws.proofs.InRange.{nameInRange, i32InRange, stepInRange}
+use Rattle.laws.proofs.InRange.{nameInRange, stepInRange}
 use Rattle.laws.proofs.ReadBack.Printed.{RotationOk, MoveOk, rotation-ok, move-ok}
 use Rattle.laws.proofs.ReadBack.Starts.{same-first, starts, isnt, fails, upTo, listed, family-starts}
 use Rattle.laws.proofs.ReadBack.Reads.{
@@ -132,7 +132,7 @@ slash-node f list rest h =
     (reads-left _ (reads-bind (reads-just "/") λ _ _. reads-done slash refl))
 
 -- a pair's first number is no list, so that its parenthesis opens no group
-pair-no-list : {text : List ℕ} (f : Features) (k : ℕ) (u : ℤ) (r : List ℕ) → i32InRange u ≡ true → {A : Type 0} (g : Tree → Unit {0} → Reader A) →
+pair-no-list : {text : List ℕ} (f : Features) (k : ℕ) (u : ℤ) (r : List ℕ) → fitsBits 32 u ≡ true → {A : Type 0} (g : Tree → Unit {0} → Reader A) →
     Rejects text (_>>=_ (nodeList f k) (λ a. _>>=_ (just ")") (g a))) (showSigned u (44 ∷ r))
 unfolding nodeList every oneOf upTo whiteSpace
 pair-no-list f zero u r h g = record { no = λ at _. refl }
@@ -145,24 +145,25 @@ pair-no-list f (suc k) u r h g =
           (signed-starts (isnt "R") u (44 ∷ r) refl) (signed-starts (isnt "D") u (44 ∷ r) refl) (number-no-move f u r h))))
       (λ a. rejects-bind (g a) (rejects-just ")" (signed-starts (isnt ")") u (44 ∷ r) refl)))
 
-i32-ok : (i : ℤ) → i32InRange i ≡ true → signedBetween 0 2147483647 2147483648 i ≡ true
-i32-ok (pos n) h = and-both (leb 0 n) (leb n 2147483647) (le-leb 0 n (omega arith)) h
+i32-ok : (i : ℤ) → fitsBits 32 i ≡ true → signedBetween 0 2147483647 2147483648 i ≡ true
+i32-ok (pos n) h =
+    and-both (leb 0 n) (leb n 2147483647) (le-leb 0 n (omega arith)) (le-leb n 2147483647 (omega (arith, ltb-true n 2147483648 h)))
 i32-ok (negsuc n) h =
     and-both (leb 0 (suc n)) (leb (suc n) 2147483648) (le-leb 0 (suc n) (omega arith))
-      (le-leb (suc n) 2147483648 (omega (arith, leb-true n 2147483647 h)))
+      (le-leb (suc n) 2147483648 (omega (arith, ltb-true n 2147483648 h)))
 
 -- a signed 32-bit number is read back
-reads-i32 : {text : List ℕ} (i : ℤ) (r : List ℕ) → i32InRange i ≡ true → digitRun r ≡ 0 → Reads text i32 (showSigned i r) (λ x. x ≡ i) r
+reads-i32 : {text : List ℕ} (i : ℤ) (r : List ℕ) → fitsBits 32 i ≡ true → digitRun r ≡ 0 → Reads text i32 (showSigned i r) (λ x. x ≡ i) r
 reads-i32 i r h e = reads-sint 0 2147483647 2147483648 i r (i32-ok i h) (lit< tt) (lit< tt) e
 
-pair-node : {text : List ℕ} (f : Features) (k : ℕ) (u d : ℤ) (rest : List ℕ) → (f .sq1 && (i32InRange u && i32InRange d)) ≡ true →
+pair-node : {text : List ℕ} (f : Features) (k : ℕ) (u d : ℤ) (rest : List ℕ) → (f .sq1 && (fitsBits 32 u && fitsBits 32 d)) ≡ true →
     Reads text (node f (nodeList f k)) (40 ∷ showSigned u (44 ∷ 32 ∷ showSigned d (41 ∷ rest))) (λ n. mapNode (stepOf text) n ≡ leaf (pair u d)) rest
 unfolding sq1Move stepOf oneOf runFrom charWidth codePoint classify whiteSpace groupNode digitRun
 pair-node f k u d rest h =
-    let h′ = and-right (f .sq1) (i32InRange u && i32InRange d) h in
-    let hu = and-left (i32InRange u) (i32InRange d) h′ in
-    let hd = and-right (i32InRange u) (i32InRange d) h′ in
-    sq1-node f (nodeList f k) (pair u d) (pair u d) rest (and-left (f .sq1) (i32InRange u && i32InRange d) h) refl refl (rejects-megaminx refl refl)
+    let h′ = and-right (f .sq1) (fitsBits 32 u && fitsBits 32 d) h in
+    let hu = and-left (fitsBits 32 u) (fitsBits 32 d) h′ in
+    let hd = and-right (fitsBits 32 u) (fitsBits 32 d) h′ in
+    sq1-node f (nodeList f k) (pair u d) (pair u d) rest (and-left (f .sq1) (fitsBits 32 u && fitsBits 32 d) h) refl refl (rejects-megaminx refl refl)
     (rejects-or (rejects-rotation f refl) (rejects-or
       (rejects-after (reads-simple refl refl refl)
         (λ _. rejects-after (reads-just "(") (λ _. pair-no-list f k u (32 ∷ showSigned d (41 ∷ rest)) hu _)))

@@ -14,7 +14,7 @@ use Rattle.notation.specs.Utf8.{charWidth, codePoint, continuation, afterFirst,
 use Rattle.notation.specs.Numbers.{isDigit, digitRun}
 use Rattle.notation.specs.Grammar.{rejected, just}
 use Rattle.laws.proofs.InRange.{familyInRange}
-use Rattle.laws.proofs.Bools.{and-left, and-right, not-true}
+use Rattle.laws.proofs.Bools.{and-left, and-right, and-false, not-true}
 
 -- a test and its opposite do not both hold
 pub clash : {B : Type 0} (b : Bool) → b ≡ true → b ≡ false → B
@@ -76,10 +76,6 @@ no-run p (b ∷ s) h =
     rw (and-left (leb b 0x7f) (not (p b)) h, not-true (p b) (and-right (leb b 0x7f) (not (p b)) h))
 
 -- A character at the start of a text is the same whatever follows the text.
-and-false : (b : Bool) → (b && false) ≡ false
-and-false true = refl
-and-false false = refl
-
 pub record SameStart (a s : List ℕ) : Type 0 where
   pub width : charWidth (a ++ s) ≡ charWidth a
   pub point : codePoint (a ++ s) ≡ codePoint a

@@ -7,7 +7,7 @@ use Rattle.charsets.proofs.Texts.{is-byte}
 use Rattle.notation.specs.Utf8.{byteAt}
 use Prim.Native.Nat.{_+_}
 use Rattle.parse.proofs.Past.{within}
-use Rattle.parse.proofs.Groups.{takes-multiplier}
+use Rattle.parse.proofs.Rules.{takes-multiplier}
 use Rattle.parse.proofs.nodes.close.Statement.{statement}
 use Rattle.parse.proofs.nodes.close.Tie as tie
 
