@@ -1,4 +1,4 @@
--- The proof of the cycle of calls {inv_deep, inv_deep_node}: a list calls on its nodes, a node on the list inside it, which is shorter.
+-- The proof of the cycle of calls {invert, invert_group}: a list calls on its nodes, a node on the list inside it, which is shorter.
 -- Assumes nothing.
 use Prim.Native.Nat.{ℕ, _+_, _*_, _<_}
 use mathlib.Core.Path.{sym, ap, ap₂, _∙_}
@@ -8,133 +8,134 @@ use borrow.Author.Needs.{needs}
 use lib.ListN.{length, take, drop}
 use lib.Seq.{length-take-le}
 use Rattle.record.proofs.Copying.{copied-whole}
-use Rattle.laws.proofs.Inverses.{deeply}
 use Rattle.nodes.proofs.Nodes.{record-room, list-less, node-room, FirstLeaf, first-leaf, leaf-node, leaf-record}
-use Rattle.invert.proofs.Loops.{Wrote, wrote-none, wrote-leaf, wrote-more, wrote-all, node-place, front-node, front-long, front-low, deeply-reverses, same-length-fronts, same-length-parts, two-parts}
+use Rattle.invert.specs.Nodes.{inverse}
+use Rattle.invert.proofs.Loops.{Wrote, wrote-none, wrote-leaf, wrote-more, wrote-all, node-place, front-node, front-long, front-low, inverse-reverses, told, same-length-fronts, same-length-parts, two-parts}
 use borrow.Fn.Kinds.{In}
 use borrow.Fn.PlainCycle.{Measures, is, falls, and}
-use Rattle.invert.proofs.inv_deep.Reads as inv-deep
-use Rattle.invert.proofs.inv_deep.Kinds as inv-deep-kinds
-use Rattle.invert.proofs.+inv_deep+inv_deep_node.Lts-inv_deep as inv-deep-lts
-use Rattle.invert.proofs.inv_deep_node.Reads as inv-deep-node
-use Rattle.invert.proofs.inv_deep_node.Kinds as inv-deep-node-kinds
-use Rattle.invert.proofs.+inv_deep+inv_deep_node.Lts-inv_deep_node as inv-deep-node-lts
+use Rattle.invert.proofs.invert.Reads as invert
+use Rattle.invert.proofs.invert.Kinds as invert-kinds
+use Rattle.invert.proofs.+invert+invert_group.Lts-invert as invert-lts
+use Rattle.invert.proofs.invert_group.Reads as invert-group
+use Rattle.invert.proofs.invert_group.Kinds as invert-group-kinds
+use Rattle.invert.proofs.+invert+invert_group.Lts-invert_group as invert-group-lts
 use Rattle.bytes.proofs.copy.Reads as copy-reads
 use Rattle.invert.proofs.exchange_lists.Reads as exchange-lists-reads
 use Rattle.invert.proofs.inv_leaf.Reads as inv-leaf-reads
+use Rattle.invert.proofs.inv_node.Reads as inv-node-reads
 use Rattle.invert.proofs.parts.inner_start.Reads as inner-start-reads
 use Rattle.nodes.proofs.node_end.Reads as node-end-reads
 use Rattle.record.proofs.fields.kind.Reads as kind-reads
-use Rattle.invert.proofs.+inv_deep+inv_deep_node.{statement}
-use Rattle.invert.proofs.+inv_deep+inv_deep_node.Tie.{close}
+use Rattle.invert.proofs.+invert+invert_group.{statement}
+use Rattle.invert.proofs.+invert+invert_group.Tie.{close}
 
-abbrev μ-inv-deep : Measures 2 inv-deep-kinds.ps ℕ
-μ-inv-deep κs a = length (a .0 .now) * 2 + 1
+abbrev μ-invert : Measures 2 invert-kinds.ps ℕ
+μ-invert κs a = length (a .0 .now) * 2 + 1
 
-abbrev μ-inv-deep-node : Measures 2 inv-deep-node-kinds.ps ℕ
-μ-inv-deep-node κs a = length (a .0 .now) * 2
+abbrev μ-invert-group : Measures 2 invert-group-kinds.ps ℕ
+μ-invert-group κs a = length (a .0 .now) * 2
 
-abbrev inv-deep-at : ℕ → In 2 inv-deep-kinds.ps
-inv-deep-at t = and 2 inv-deep-kinds.ps (is 2 inv-deep-kinds.ps μ-inv-deep t) inv-deep.Pre
+abbrev invert-at : ℕ → In 2 invert-kinds.ps
+invert-at t = and 2 invert-kinds.ps (is 2 invert-kinds.ps μ-invert t) invert.Pre
 
-abbrev inv-deep-below : ℕ → In 2 inv-deep-kinds.ps
-inv-deep-below t =
-    and 2 inv-deep-kinds.ps (falls 2 inv-deep-kinds.ps _<_ μ-inv-deep t) inv-deep.Pre
+abbrev invert-below : ℕ → In 2 invert-kinds.ps
+invert-below t =
+    and 2 invert-kinds.ps (falls 2 invert-kinds.ps _<_ μ-invert t) invert.Pre
 
-abbrev inv-deep-node-at : ℕ → In 2 inv-deep-node-kinds.ps
-inv-deep-node-at t =
-    and 2 inv-deep-node-kinds.ps (is 2 inv-deep-node-kinds.ps μ-inv-deep-node t) inv-deep-node.Pre
+abbrev invert-group-at : ℕ → In 2 invert-group-kinds.ps
+invert-group-at t =
+    and 2 invert-group-kinds.ps (is 2 invert-group-kinds.ps μ-invert-group t) invert-group.Pre
 
-abbrev inv-deep-node-below : ℕ → In 2 inv-deep-node-kinds.ps
-inv-deep-node-below t =
+abbrev invert-group-below : ℕ → In 2 invert-group-kinds.ps
+invert-group-below t =
     and
     2
-    inv-deep-node-kinds.ps
-    (falls 2 inv-deep-node-kinds.ps _<_ μ-inv-deep-node t)
-    inv-deep-node.Pre
+    invert-group-kinds.ps
+    (falls 2 invert-group-kinds.ps _<_ μ-invert-group t)
+    invert-group.Pre
 
 -- what the calls in each claim, those of the other function below the measure t
-abbrev list-claims : ℕ → inv-deep-lts.Claims
-list-claims t = (kind-reads.Asked, kind-reads.Learnt, inv-leaf-reads.Asked, inv-leaf-reads.Learnt, node-end-reads.Asked, node-end-reads.Learnt, inv-deep-node-below t, inv-deep-node.Post)
+abbrev list-claims : ℕ → invert-lts.Claims
+list-claims t = (kind-reads.Asked, kind-reads.Learnt, inv-leaf-reads.Asked, inv-leaf-reads.Learnt, node-end-reads.Asked, node-end-reads.Learnt, invert-group-below t, invert-group.Post)
 
-abbrev node-claims : ℕ → inv-deep-node-lts.Claims
-node-claims t = (kind-reads.Asked, kind-reads.Learnt, exchange-lists-reads.Asked, exchange-lists-reads.Learnt, inner-start-reads.Asked, inner-start-reads.Learnt, copy-reads.Asked, copy-reads.Learnt, inv-deep-below t, inv-deep.Post)
+abbrev node-claims : ℕ → invert-group-lts.Claims
+node-claims t = (kind-reads.Asked, kind-reads.Learnt, exchange-lists-reads.Asked, exchange-lists-reads.Learnt, inner-start-reads.Asked, inner-start-reads.Learnt, copy-reads.Asked, copy-reads.Learnt, invert-below t, invert.Post, inv-node-reads.Asked, inv-node-reads.Learnt)
 
-abbrev inv-deep-Inv-loop : inv-deep-lts.InvT-loop
-inv-deep-Inv-loop tree out₀ t₀ at₀ out t at = Wrote deeply tree t at out
+abbrev invert-Inv-loop : invert-lts.InvT-loop
+invert-Inv-loop tree out₀ deep t₀ at₀ out t at = Wrote (inverse deep) tree t at out
 
-abbrev inv-deep-μ-loop : inv-deep-lts.MeasureT-loop
-inv-deep-μ-loop tree out₀ t₀ at₀ out t at = length t
+abbrev invert-μ-loop : invert-lts.MeasureT-loop
+invert-μ-loop tree out₀ deep t₀ at₀ out t at = length t
 
-inv-deep-loop-holds : (t : ℕ) → inv-deep-lts.Need-loop-holds (list-claims t) (inv-deep-at t) inv-deep.Post inv-deep-Inv-loop inv-deep-μ-loop
-inv-deep-loop-holds t c = wrote-none deeply (c .before .before .args .tree .now) (c .before .before .args .out .now) (c .before .before .pre .1 .0) (c .before .before .pre .1 .1)
+invert-loop-holds : (t : ℕ) → invert-lts.Need-loop-holds (list-claims t) (invert-at t) invert.Post invert-Inv-loop invert-μ-loop
+invert-loop-holds t c = wrote-none (inverse-reverses (c .before .before .args .deep)) (c .before .before .args .tree .now) (c .before .before .args .out .now) (c .before .before .pre .1 .0) (c .before .before .pre .1 .1)
 
-inv-deep-kind-requires : (t : ℕ) → inv-deep-lts.Need-kind-requires (list-claims t) (inv-deep-at t) inv-deep.Post inv-deep-Inv-loop inv-deep-μ-loop
-inv-deep-kind-requires t c κs = record-room _ (c .before .loop .inv .packed) (c .loop-test .taken)
+invert-kind-requires : (t : ℕ) → invert-lts.Need-kind-requires (list-claims t) (invert-at t) invert.Post invert-Inv-loop invert-μ-loop
+invert-kind-requires t c κs = record-room _ (c .before .loop .inv .packed) (c .loop-test .taken)
 
 -- the leaf in front of what is left
-leaf-at : (t : ℕ) (c : inv-deep-lts.Then1 (list-claims t) (inv-deep-at t) inv-deep.Post inv-deep-Inv-loop inv-deep-μ-loop) → FirstLeaf (c .before .before .before .loop .t .now)
+leaf-at : (t : ℕ) (c : invert-lts.Then1 (list-claims t) (invert-at t) invert.Post invert-Inv-loop invert-μ-loop) → FirstLeaf (c .before .before .before .loop .t .now)
 leaf-at t c = first-leaf (c .before .before .before .loop .inv .packed) (c .before .before .loop-test .taken) (c .before .kind .ensures) (c .if1 .taken)
 
-inv-deep-sub-to : (t : ℕ) → inv-deep-lts.Need-sub-to (list-claims t) (inv-deep-at t) inv-deep.Post inv-deep-Inv-loop inv-deep-μ-loop
-inv-deep-sub-to t c = omega (arith, leaf-at t c .first .most, c .before .before .before .loop .inv .place)
+invert-sub-to : (t : ℕ) → invert-lts.Need-sub-to (list-claims t) (invert-at t) invert.Post invert-Inv-loop invert-μ-loop
+invert-sub-to t c = omega (arith, leaf-at t c .first .most, c .before .before .before .loop .inv .place)
 
-inv-deep-slice-aggregate-inv-leaf : (t : ℕ) → inv-deep-lts.Need-slice-aggregate-inv-leaf (list-claims t) (inv-deep-at t) inv-deep.Post inv-deep-Inv-loop inv-deep-μ-loop
-inv-deep-slice-aggregate-inv-leaf t c = sym (leaf-record (leaf-at t (c .before)))
+invert-slice-aggregate-inv-leaf : (t : ℕ) → invert-lts.Need-slice-aggregate-inv-leaf (list-claims t) (invert-at t) invert.Post invert-Inv-loop invert-μ-loop
+invert-slice-aggregate-inv-leaf t c = sym (leaf-record (leaf-at t (c .before)))
 
-inv-deep-sub-inv-leaf : (t : ℕ) → inv-deep-lts.Need-sub-inv-leaf (list-claims t) (inv-deep-at t) inv-deep.Post inv-deep-Inv-loop inv-deep-μ-loop
-inv-deep-sub-inv-leaf t c = search needs
+invert-sub-inv-leaf : (t : ℕ) → invert-lts.Need-sub-inv-leaf (list-claims t) (invert-at t) invert.Post invert-Inv-loop invert-μ-loop
+invert-sub-inv-leaf t c = search needs
 
-inv-deep-part-inv-leaf-start : (t : ℕ) → inv-deep-lts.Need-part-inv-leaf-start (list-claims t) (inv-deep-at t) inv-deep.Post inv-deep-Inv-loop inv-deep-μ-loop
-inv-deep-part-inv-leaf-start t c = search needs
+invert-part-inv-leaf-start : (t : ℕ) → invert-lts.Need-part-inv-leaf-start (list-claims t) (invert-at t) invert.Post invert-Inv-loop invert-μ-loop
+invert-part-inv-leaf-start t c = search needs
 
-inv-deep-part-inv-leaf-end : (t : ℕ) → inv-deep-lts.Need-part-inv-leaf-end (list-claims t) (inv-deep-at t) inv-deep.Post inv-deep-Inv-loop inv-deep-μ-loop
-inv-deep-part-inv-leaf-end t c = search needs
+invert-part-inv-leaf-end : (t : ℕ) → invert-lts.Need-part-inv-leaf-end (list-claims t) (invert-at t) invert.Post invert-Inv-loop invert-μ-loop
+invert-part-inv-leaf-end t c = search needs
 
-inv-deep-inv-leaf-requires : (t : ℕ) → inv-deep-lts.Need-inv-leaf-requires (list-claims t) (inv-deep-at t) inv-deep.Post inv-deep-Inv-loop inv-deep-μ-loop
-inv-deep-inv-leaf-requires t c κs =
+invert-inv-leaf-requires : (t : ℕ) → invert-lts.Need-inv-leaf-requires (list-claims t) (invert-at t) invert.Post invert-Inv-loop invert-μ-loop
+invert-inv-leaf-requires t c κs =
     let tested = c .before .before in
     let front = leaf-at t tested in
     ((_, leaf-node front), (leaf-record front, node-place (tested .before .before .before .loop .inv) (front .first)))
 
-inv-deep-sub-t : (t : ℕ) → inv-deep-lts.Need-sub-t (list-claims t) (inv-deep-at t) inv-deep.Post inv-deep-Inv-loop inv-deep-μ-loop
-inv-deep-sub-t t c = leaf-at t (c .before .before .before .before .before) .first .most
+invert-sub-t : (t : ℕ) → invert-lts.Need-sub-t (list-claims t) (invert-at t) invert.Post invert-Inv-loop invert-μ-loop
+invert-sub-t t c = leaf-at t (c .before .before .before .before .before) .first .most
 
-inv-deep-part-t-start : (t : ℕ) → inv-deep-lts.Need-part-t-start (list-claims t) (inv-deep-at t) inv-deep.Post inv-deep-Inv-loop inv-deep-μ-loop
-inv-deep-part-t-start t c = leaf-at t (c .before .before .before .before .before) .first .most
+invert-part-t-start : (t : ℕ) → invert-lts.Need-part-t-start (list-claims t) (invert-at t) invert.Post invert-Inv-loop invert-μ-loop
+invert-part-t-start t c = leaf-at t (c .before .before .before .before .before) .first .most
 
-inv-deep-part-t-end : (t : ℕ) → inv-deep-lts.Need-part-t-end (list-claims t) (inv-deep-at t) inv-deep.Post inv-deep-Inv-loop inv-deep-μ-loop
-inv-deep-part-t-end t c = search needs
+invert-part-t-end : (t : ℕ) → invert-lts.Need-part-t-end (list-claims t) (invert-at t) invert.Post invert-Inv-loop invert-μ-loop
+invert-part-t-end t c = search needs
 
-inv-deep-loop-less : (t : ℕ) → inv-deep-lts.Need-loop-less (list-claims t) (inv-deep-at t) inv-deep.Post inv-deep-Inv-loop inv-deep-μ-loop
-inv-deep-loop-less t c = search needs
+invert-loop-less : (t : ℕ) → invert-lts.Need-loop-less (list-claims t) (invert-at t) invert.Post invert-Inv-loop invert-μ-loop
+invert-loop-less t c = search needs
 
-inv-deep-loop-again : (t : ℕ) → inv-deep-lts.Need-loop-again (list-claims t) (inv-deep-at t) inv-deep.Post inv-deep-Inv-loop inv-deep-μ-loop
-inv-deep-loop-again t c =
+invert-loop-again : (t : ℕ) → invert-lts.Need-loop-again (list-claims t) (invert-at t) invert.Post invert-Inv-loop invert-μ-loop
+invert-loop-again t c =
     let called = c .before .before .before in
     let tested = called .before .before .before in
-    wrote-leaf deeply-reverses (tested .before .before .before .loop .inv) (leaf-at t tested) _ (called .inv-leaf .kept .1 .0) (called .inv-leaf .ensures)
+    wrote-leaf (tested .before .before .before .loop .inv) (leaf-at t tested) _ (called .inv-leaf .kept .1 .0) (called .inv-leaf .ensures)
 
-inv-deep-node-end-requires : (t : ℕ) → inv-deep-lts.Need-node-end-requires (list-claims t) (inv-deep-at t) inv-deep.Post inv-deep-Inv-loop inv-deep-μ-loop
-inv-deep-node-end-requires t c κs = (c .before .before .before .loop .inv .packed, c .before .before .loop-test .taken)
+invert-group-end-requires : (t : ℕ) → invert-lts.Need-node-end-requires (list-claims t) (invert-at t) invert.Post invert-Inv-loop invert-μ-loop
+invert-group-end-requires t c κs = (c .before .before .before .loop .inv .packed, c .before .before .loop-test .taken)
 
-inv-deep-sub-to-2 : (t : ℕ) → inv-deep-lts.Need-sub-to-2 (list-claims t) (inv-deep-at t) inv-deep.Post inv-deep-Inv-loop inv-deep-μ-loop
-inv-deep-sub-to-2 t c = search needs
+invert-sub-to-2 : (t : ℕ) → invert-lts.Need-sub-to-2 (list-claims t) (invert-at t) invert.Post invert-Inv-loop invert-μ-loop
+invert-sub-to-2 t c = search needs
 
-inv-deep-slice-aggregate-inv-deep-node : (t : ℕ) → inv-deep-lts.Need-slice-aggregate-inv-deep-node (list-claims t) (inv-deep-at t) inv-deep.Post inv-deep-Inv-loop inv-deep-μ-loop
-inv-deep-slice-aggregate-inv-deep-node t c = sym (front-long (c .before .node-end .ensures))
+invert-slice-aggregate-invert-group : (t : ℕ) → invert-lts.Need-slice-aggregate-invert-group (list-claims t) (invert-at t) invert.Post invert-Inv-loop invert-μ-loop
+invert-slice-aggregate-invert-group t c = sym (front-long (c .before .node-end .ensures))
 
-inv-deep-sub-inv-deep-node : (t : ℕ) → inv-deep-lts.Need-sub-inv-deep-node (list-claims t) (inv-deep-at t) inv-deep.Post inv-deep-Inv-loop inv-deep-μ-loop
-inv-deep-sub-inv-deep-node t c = search needs
+invert-sub-invert-group : (t : ℕ) → invert-lts.Need-sub-invert-group (list-claims t) (invert-at t) invert.Post invert-Inv-loop invert-μ-loop
+invert-sub-invert-group t c = search needs
 
-inv-deep-part-inv-deep-node-start : (t : ℕ) → inv-deep-lts.Need-part-inv-deep-node-start (list-claims t) (inv-deep-at t) inv-deep.Post inv-deep-Inv-loop inv-deep-μ-loop
-inv-deep-part-inv-deep-node-start t c = search needs
+invert-part-invert-group-start : (t : ℕ) → invert-lts.Need-part-invert-group-start (list-claims t) (invert-at t) invert.Post invert-Inv-loop invert-μ-loop
+invert-part-invert-group-start t c = search needs
 
-inv-deep-part-inv-deep-node-end : (t : ℕ) → inv-deep-lts.Need-part-inv-deep-node-end (list-claims t) (inv-deep-at t) inv-deep.Post inv-deep-Inv-loop inv-deep-μ-loop
-inv-deep-part-inv-deep-node-end t c = search needs
+invert-part-invert-group-end : (t : ℕ) → invert-lts.Need-part-invert-group-end (list-claims t) (invert-at t) invert.Post invert-Inv-loop invert-μ-loop
+invert-part-invert-group-end t c = search needs
 
-inv-deep-inv-deep-node-requires : (t : ℕ) → inv-deep-lts.Need-inv-deep-node-requires (list-claims t) (inv-deep-at t) inv-deep.Post inv-deep-Inv-loop inv-deep-μ-loop
-inv-deep-inv-deep-node-requires t c κs =
+invert-invert-group-requires : (t : ℕ) → invert-lts.Need-invert-group-requires (list-claims t) (invert-at t) invert.Post invert-Inv-loop invert-μ-loop
+invert-invert-group-requires t c κs =
     let ended = c .before .before in
     let tested = ended .before in
     let at-loop = tested .before .before .before in
@@ -143,97 +144,100 @@ inv-deep-inv-deep-node-requires t c κs =
       ((_, front-node step), (front-low step (tested .before .kind .ensures) (tested .if1 .left), node-place (at-loop .loop .inv) step)),
     )
 
-inv-deep-sub-t-2 : (t : ℕ) → inv-deep-lts.Need-sub-t-2 (list-claims t) (inv-deep-at t) inv-deep.Post inv-deep-Inv-loop inv-deep-μ-loop
-inv-deep-sub-t-2 t c = search needs
+invert-sub-t-2 : (t : ℕ) → invert-lts.Need-sub-t-2 (list-claims t) (invert-at t) invert.Post invert-Inv-loop invert-μ-loop
+invert-sub-t-2 t c = search needs
 
-inv-deep-part-t-start-2 : (t : ℕ) → inv-deep-lts.Need-part-t-start-2 (list-claims t) (inv-deep-at t) inv-deep.Post inv-deep-Inv-loop inv-deep-μ-loop
-inv-deep-part-t-start-2 t c = search needs
+invert-part-t-start-2 : (t : ℕ) → invert-lts.Need-part-t-start-2 (list-claims t) (invert-at t) invert.Post invert-Inv-loop invert-μ-loop
+invert-part-t-start-2 t c = search needs
 
-inv-deep-part-t-end-2 : (t : ℕ) → inv-deep-lts.Need-part-t-end-2 (list-claims t) (inv-deep-at t) inv-deep.Post inv-deep-Inv-loop inv-deep-μ-loop
-inv-deep-part-t-end-2 t c = search needs
+invert-part-t-end-2 : (t : ℕ) → invert-lts.Need-part-t-end-2 (list-claims t) (invert-at t) invert.Post invert-Inv-loop invert-μ-loop
+invert-part-t-end-2 t c = search needs
 
-inv-deep-loop-less-2 : (t : ℕ) → inv-deep-lts.Need-loop-less-2 (list-claims t) (inv-deep-at t) inv-deep.Post inv-deep-Inv-loop inv-deep-μ-loop
-inv-deep-loop-less-2 t c = search needs
+invert-loop-less-2 : (t : ℕ) → invert-lts.Need-loop-less-2 (list-claims t) (invert-at t) invert.Post invert-Inv-loop invert-μ-loop
+invert-loop-less-2 t c = search needs
 
-inv-deep-loop-again-2 : (t : ℕ) → inv-deep-lts.Need-loop-again-2 (list-claims t) (inv-deep-at t) inv-deep.Post inv-deep-Inv-loop inv-deep-μ-loop
-inv-deep-loop-again-2 t c =
+invert-loop-again-2 : (t : ℕ) → invert-lts.Need-loop-again-2 (list-claims t) (invert-at t) invert.Post invert-Inv-loop invert-μ-loop
+invert-loop-again-2 t c =
     let called = c .before .before .before in
     let ended = called .before .before .before in
-    wrote-more deeply-reverses (ended .before .before .before .before .loop .inv) (ended .node-end .ensures) _ (called .inv-deep-node .kept .1 .0) (called .inv-deep-node .ensures)
+    wrote-more (ended .before .before .before .before .loop .inv) (ended .node-end .ensures) _ (called .invert-group .kept .1 .0) (called .invert-group .ensures)
 
-inv-deep-same-length : (t : ℕ) → inv-deep-lts.Need-same-length (list-claims t) (inv-deep-at t) inv-deep.Post inv-deep-Inv-loop inv-deep-μ-loop
-inv-deep-same-length t c = search needs
+invert-same-length : (t : ℕ) → invert-lts.Need-same-length (list-claims t) (invert-at t) invert.Post invert-Inv-loop invert-μ-loop
+invert-same-length t c = search needs
 
-inv-deep-returns : (t : ℕ) → inv-deep-lts.Need-returns (list-claims t) (inv-deep-at t) inv-deep.Post inv-deep-Inv-loop inv-deep-μ-loop
-inv-deep-returns t c = wrote-all deeply _ _ _ _ deeply-reverses (c .before .loop .inv) (c .loop-test .left)
+invert-returns : (t : ℕ) → invert-lts.Need-returns (list-claims t) (invert-at t) invert.Post invert-Inv-loop invert-μ-loop
+invert-returns t c = wrote-all (c .before .loop .inv) (c .loop-test .left)
 
-inv-deep-node-kind-requires : (t : ℕ) → inv-deep-node-lts.Need-kind-requires (node-claims t) (inv-deep-node-at t) inv-deep-node.Post
-inv-deep-node-kind-requires t c κs = node-room (c .before .before .pre .1 .0 .1)
+invert-group-kind-requires : (t : ℕ) → invert-group-lts.Need-kind-requires (node-claims t) (invert-group-at t) invert-group.Post
+invert-group-kind-requires t c κs = node-room (c .before .before .before .pre .1 .0 .1)
 
-inv-deep-node-exchange-lists-requires : (t : ℕ) → inv-deep-node-lts.Need-exchange-lists-requires (node-claims t) (inv-deep-node-at t) inv-deep-node.Post
-inv-deep-node-exchange-lists-requires t c κs =
+invert-group-exchange-lists-requires : (t : ℕ) → invert-group-lts.Need-exchange-lists-requires (node-claims t) (invert-group-at t) invert-group.Post
+invert-group-exchange-lists-requires t c κs =
     let kind = c .before .before in
-    let start = kind .before .before .before in
-    (start .pre .1 .0, (sym (kind .kind .ensures) ∙ c .before .if1 .taken, start .pre .1 .1 .1))
+    let start = kind .before .before .before .before in
+    (start .pre .1 .0, (sym (kind .kind .ensures) ∙ c .before .if2 .taken, start .pre .1 .1 .1))
 
-inv-deep-node-same-length : (t : ℕ) → inv-deep-node-lts.Need-same-length (node-claims t) (inv-deep-node-at t) inv-deep-node.Post
-inv-deep-node-same-length t c = search needs
+invert-group-same-length : (t : ℕ) → invert-group-lts.Need-same-length (node-claims t) (invert-group-at t) invert-group.Post
+invert-group-same-length t c = search needs
 
-inv-deep-node-returns : (t : ℕ) → inv-deep-node-lts.Need-returns (node-claims t) (inv-deep-node-at t) inv-deep-node.Post
-inv-deep-node-returns t c = c .before .before .exchange-lists .ensures
+invert-group-returns : (t : ℕ) → invert-group-lts.Need-returns (node-claims t) (invert-group-at t) invert-group.Post
+invert-group-returns t c =
+    let called = c .before .before in
+    let tested = called .before .before .before .before in
+    called .exchange-lists .ensures ∙ told (tested .if1 .taken) (tested .before .before .before .args .node .now)
 
-inv-deep-node-inner-start-requires : (t : ℕ) → inv-deep-node-lts.Need-inner-start-requires (node-claims t) (inv-deep-node-at t) inv-deep-node.Post
-inv-deep-node-inner-start-requires t c κs =
+invert-group-inner-start-requires : (t : ℕ) → invert-group-lts.Need-inner-start-requires (node-claims t) (invert-group-at t) invert-group.Post
+invert-group-inner-start-requires t c κs =
     let kind = c .before in
-    let start = kind .before .before .before in
-    (start .pre .1 .0, (start .pre .1 .1 .0, λ e. c .if1 .left (kind .kind .ensures ∙ e)))
+    let start = kind .before .before .before .before in
+    (start .pre .1 .0, (start .pre .1 .1 .0, λ e. c .if2 .left (kind .kind .ensures ∙ e)))
 
-inv-deep-node-slice-aggregate-copy : (t : ℕ) → inv-deep-node-lts.Need-slice-aggregate-copy (node-claims t) (inv-deep-node-at t) inv-deep-node.Post
-inv-deep-node-slice-aggregate-copy t c =
+invert-group-slice-aggregate-copy : (t : ℕ) → invert-group-lts.Need-slice-aggregate-copy (node-claims t) (invert-group-at t) invert-group.Post
+invert-group-slice-aggregate-copy t c =
     let inner = c .before in
-    let start = inner .before .before .before .before .before in
+    let start = inner .before .before .before .before .before .before in
     sym (length-take-le (inner .inner-start .result) (start .args .node .now) (inner .inner-start .ensures .most))
 
-inv-deep-node-slice-relend-prefix-copy : (t : ℕ) → inv-deep-node-lts.Need-slice-relend-prefix-copy (node-claims t) (inv-deep-node-at t) inv-deep-node.Post
-inv-deep-node-slice-relend-prefix-copy t c =
+invert-group-slice-relend-prefix-copy : (t : ℕ) → invert-group-lts.Need-slice-relend-prefix-copy (node-claims t) (invert-group-at t) invert-group.Post
+invert-group-slice-relend-prefix-copy t c =
     let inner = c .before in
-    omega (arith, inner .inner-start .ensures .most, inner .before .before .before .before .before .pre .1 .1 .1)
+    omega (arith, inner .inner-start .ensures .most, inner .before .before .before .before .before .before .pre .1 .1 .1)
 
-inv-deep-node-slice-aggregate-copy-2 : (t : ℕ) → inv-deep-node-lts.Need-slice-aggregate-copy-2 (node-claims t) (inv-deep-node-at t) inv-deep-node.Post
-inv-deep-node-slice-aggregate-copy-2 t c =
+invert-group-slice-aggregate-copy-2 : (t : ℕ) → invert-group-lts.Need-slice-aggregate-copy-2 (node-claims t) (invert-group-at t) invert-group.Post
+invert-group-slice-aggregate-copy-2 t c =
     let inner = c .before .before in
-    let start = inner .before .before .before .before .before in
+    let start = inner .before .before .before .before .before .before in
     sym (length-take-le (inner .inner-start .result) (start .args .out .now) (omega (arith, inner .inner-start .ensures .most, start .pre .1 .1 .1)))
 
-inv-deep-node-copy-requires : (t : ℕ) → inv-deep-node-lts.Need-copy-requires (node-claims t) (inv-deep-node-at t) inv-deep-node.Post
-inv-deep-node-copy-requires t c κs =
+invert-group-copy-requires : (t : ℕ) → invert-group-lts.Need-copy-requires (node-claims t) (invert-group-at t) invert-group.Post
+invert-group-copy-requires t c κs =
     let inner = c .before .before in
-    let start = inner .before .before .before .before .before in
+    let start = inner .before .before .before .before .before .before in
     let law = inner .inner-start .ensures in
     omega (arith, same-length-fronts (start .args .node .now) (start .args .out .now) (inner .inner-start .result) (law .most) (omega (arith, law .most, start .pre .1 .1 .1)))
 
-inv-deep-node-sub-inv-deep : (t : ℕ) → inv-deep-node-lts.Need-sub-inv-deep (node-claims t) (inv-deep-node-at t) inv-deep-node.Post
-inv-deep-node-sub-inv-deep t c = search needs
+invert-group-sub-invert : (t : ℕ) → invert-group-lts.Need-sub-invert (node-claims t) (invert-group-at t) invert-group.Post
+invert-group-sub-invert t c = search needs
 
-inv-deep-node-part-inv-deep-start : (t : ℕ) → inv-deep-node-lts.Need-part-inv-deep-start (node-claims t) (inv-deep-node-at t) inv-deep-node.Post
-inv-deep-node-part-inv-deep-start t c = search needs
+invert-group-part-invert-start : (t : ℕ) → invert-group-lts.Need-part-invert-start (node-claims t) (invert-group-at t) invert-group.Post
+invert-group-part-invert-start t c = search needs
 
-inv-deep-node-part-inv-deep-end : (t : ℕ) → inv-deep-node-lts.Need-part-inv-deep-end (node-claims t) (inv-deep-node-at t) inv-deep-node.Post
-inv-deep-node-part-inv-deep-end t c = search needs
+invert-group-part-invert-end : (t : ℕ) → invert-group-lts.Need-part-invert-end (node-claims t) (invert-group-at t) invert-group.Post
+invert-group-part-invert-end t c = search needs
 
-inv-deep-node-sub-inv-deep-2 : (t : ℕ) → inv-deep-node-lts.Need-sub-inv-deep-2 (node-claims t) (inv-deep-node-at t) inv-deep-node.Post
-inv-deep-node-sub-inv-deep-2 t c = search needs
+invert-group-sub-invert-2 : (t : ℕ) → invert-group-lts.Need-sub-invert-2 (node-claims t) (invert-group-at t) invert-group.Post
+invert-group-sub-invert-2 t c = search needs
 
-inv-deep-node-part-inv-deep-start-2 : (t : ℕ) → inv-deep-node-lts.Need-part-inv-deep-start-2 (node-claims t) (inv-deep-node-at t) inv-deep-node.Post
-inv-deep-node-part-inv-deep-start-2 t c = search needs
+invert-group-part-invert-start-2 : (t : ℕ) → invert-group-lts.Need-part-invert-start-2 (node-claims t) (invert-group-at t) invert-group.Post
+invert-group-part-invert-start-2 t c = search needs
 
-inv-deep-node-part-inv-deep-end-2 : (t : ℕ) → inv-deep-node-lts.Need-part-inv-deep-end-2 (node-claims t) (inv-deep-node-at t) inv-deep-node.Post
-inv-deep-node-part-inv-deep-end-2 t c = search needs
+invert-group-part-invert-end-2 : (t : ℕ) → invert-group-lts.Need-part-invert-end-2 (node-claims t) (invert-group-at t) invert-group.Post
+invert-group-part-invert-end-2 t c = search needs
 
-inv-deep-node-inv-deep-requires : (t : ℕ) → inv-deep-node-lts.Need-inv-deep-requires (node-claims t) (inv-deep-node-at t) inv-deep-node.Post
-inv-deep-node-inv-deep-requires t c κs =
+invert-group-invert-requires : (t : ℕ) → invert-group-lts.Need-invert-requires (node-claims t) (invert-group-at t) invert-group.Post
+invert-group-invert-requires t c κs =
     let inner = c .before .before .before .before .before .before .before in
-    let start = inner .before .before .before .before .before in
+    let start = inner .before .before .before .before .before .before in
     let bs = start .args .node .now in
     let m = inner .inner-start .result in
     let law = inner .inner-start .ensures in
@@ -245,74 +249,92 @@ inv-deep-node-inv-deep-requires t c κs =
       ),
     )
 
-inv-deep-node-same-length-2 : (t : ℕ) → inv-deep-node-lts.Need-same-length-2 (node-claims t) (inv-deep-node-at t) inv-deep-node.Post
-inv-deep-node-same-length-2 t c = search needs
+invert-group-same-length-2 : (t : ℕ) → invert-group-lts.Need-same-length-2 (node-claims t) (invert-group-at t) invert-group.Post
+invert-group-same-length-2 t c = search needs
 
-inv-deep-node-returns-2 : (t : ℕ) → inv-deep-node-lts.Need-returns-2 (node-claims t) (inv-deep-node-at t) inv-deep-node.Post
-inv-deep-node-returns-2 t c =
+invert-group-returns-2 : (t : ℕ) → invert-group-lts.Need-returns-2 (node-claims t) (invert-group-at t) invert-group.Post
+invert-group-returns-2 t c =
     let inner = c .before .before .before .before .before .before .before .before .before .before in
-    let start = inner .before .before .before .before .before in
+    let start = inner .before .before .before .before .before .before in
     let bs = start .args .node .now in
     let m = inner .inner-start .result in
     let law = inner .inner-start .ensures in
     let called = c .before .before in
     let copied = called .before .before .before .before .before in
     let front = copied-whole (take m bs) (take m (start .args .out .now)) (same-length-fronts (start .args .out .now) bs m (omega (arith, law .most, start .pre .1 .1 .1)) (law .most)) (copied .copy .ensures .1) in
-    two-parts (start .args .out .now) (copied .copy .last .1 .0) (called .inv-deep .last .1 .0) m (ap length front ∙ length-take-le m bs (law .most))
-    ∙ ap₂ (λ (x y : List ℕ). x ++ y) front (called .inv-deep .ensures)
+    two-parts (start .args .out .now) (copied .copy .last .1 .0) (called .invert .last .1 .0) m (ap length front ∙ length-take-le m bs (law .most))
+    ∙ ap₂ (λ (x y : List ℕ). x ++ y) front (called .invert .ensures)
     ∙ law .deep
+    ∙ told (inner .before .before .before .if1 .taken) bs
 
-pub +inv-deep+inv-deep-node-spec : {M : Type 1} → statement M
-+inv-deep+inv-deep-node-spec = close μ-inv-deep μ-inv-deep-node (λ t. inv-deep-lts.spec (list-claims t)
-    (inv-deep-at t)
-    inv-deep.Post
-    inv-deep-Inv-loop
-    inv-deep-μ-loop
-    (inv-deep-loop-holds t)
-    (inv-deep-kind-requires t)
-    (inv-deep-sub-to t)
-    (inv-deep-slice-aggregate-inv-leaf t)
-    (inv-deep-sub-inv-leaf t)
-    (inv-deep-part-inv-leaf-start t)
-    (inv-deep-part-inv-leaf-end t)
-    (inv-deep-inv-leaf-requires t)
-    (inv-deep-sub-t t)
-    (inv-deep-part-t-start t)
-    (inv-deep-part-t-end t)
-    (inv-deep-loop-less t)
-    (inv-deep-loop-again t)
-    (inv-deep-node-end-requires t)
-    (inv-deep-sub-to-2 t)
-    (inv-deep-slice-aggregate-inv-deep-node t)
-    (inv-deep-sub-inv-deep-node t)
-    (inv-deep-part-inv-deep-node-start t)
-    (inv-deep-part-inv-deep-node-end t)
-    (inv-deep-inv-deep-node-requires t)
-    (inv-deep-sub-t-2 t)
-    (inv-deep-part-t-start-2 t)
-    (inv-deep-part-t-end-2 t)
-    (inv-deep-loop-less-2 t)
-    (inv-deep-loop-again-2 t)
-    (inv-deep-same-length t)
-    (inv-deep-returns t))
-    λ t. inv-deep-node-lts.spec (node-claims t)
-    (inv-deep-node-at t)
-    inv-deep-node.Post
-    (inv-deep-node-kind-requires t)
-    (inv-deep-node-exchange-lists-requires t)
-    (inv-deep-node-same-length t)
-    (inv-deep-node-returns t)
-    (inv-deep-node-inner-start-requires t)
-    (inv-deep-node-slice-aggregate-copy t)
-    (inv-deep-node-slice-relend-prefix-copy t)
-    (inv-deep-node-slice-aggregate-copy-2 t)
-    (inv-deep-node-copy-requires t)
-    (inv-deep-node-sub-inv-deep t)
-    (inv-deep-node-part-inv-deep-start t)
-    (inv-deep-node-part-inv-deep-end t)
-    (inv-deep-node-sub-inv-deep-2 t)
-    (inv-deep-node-part-inv-deep-start-2 t)
-    (inv-deep-node-part-inv-deep-end-2 t)
-    (inv-deep-node-inv-deep-requires t)
-    (inv-deep-node-same-length-2 t)
-    (inv-deep-node-returns-2 t)
+invert-group-inv-node-requires : (t : ℕ) → invert-group-lts.Need-inv-node-requires (node-claims t) (invert-group-at t) invert-group.Post
+invert-group-inv-node-requires t c κs =
+    let start = c .before .before .before .before in
+    (start .pre .1 .0, start .pre .1 .1 .1)
+
+invert-group-same-length-3 : (t : ℕ) → invert-group-lts.Need-same-length-3 (node-claims t) (invert-group-at t) invert-group.Post
+invert-group-same-length-3 t c = search needs
+
+invert-group-returns-3 : (t : ℕ) → invert-group-lts.Need-returns-3 (node-claims t) (invert-group-at t) invert-group.Post
+invert-group-returns-3 t c =
+    let called = c .before .before in
+    let tested = called .before .before in
+    called .inv-node .ensures ∙ told (tested .if1 .left) (tested .before .before .before .args .node .now)
+
+pub +invert+invert-group-spec : {M : Type 1} → statement M
++invert+invert-group-spec = close μ-invert μ-invert-group (λ t. invert-lts.spec (list-claims t)
+    (invert-at t)
+    invert.Post
+    invert-Inv-loop
+    invert-μ-loop
+    (invert-loop-holds t)
+    (invert-kind-requires t)
+    (invert-sub-to t)
+    (invert-slice-aggregate-inv-leaf t)
+    (invert-sub-inv-leaf t)
+    (invert-part-inv-leaf-start t)
+    (invert-part-inv-leaf-end t)
+    (invert-inv-leaf-requires t)
+    (invert-sub-t t)
+    (invert-part-t-start t)
+    (invert-part-t-end t)
+    (invert-loop-less t)
+    (invert-loop-again t)
+    (invert-group-end-requires t)
+    (invert-sub-to-2 t)
+    (invert-slice-aggregate-invert-group t)
+    (invert-sub-invert-group t)
+    (invert-part-invert-group-start t)
+    (invert-part-invert-group-end t)
+    (invert-invert-group-requires t)
+    (invert-sub-t-2 t)
+    (invert-part-t-start-2 t)
+    (invert-part-t-end-2 t)
+    (invert-loop-less-2 t)
+    (invert-loop-again-2 t)
+    (invert-same-length t)
+    (invert-returns t))
+    λ t. invert-group-lts.spec (node-claims t)
+    (invert-group-at t)
+    invert-group.Post
+    (invert-group-kind-requires t)
+    (invert-group-exchange-lists-requires t)
+    (invert-group-same-length t)
+    (invert-group-returns t)
+    (invert-group-inner-start-requires t)
+    (invert-group-slice-aggregate-copy t)
+    (invert-group-slice-relend-prefix-copy t)
+    (invert-group-slice-aggregate-copy-2 t)
+    (invert-group-copy-requires t)
+    (invert-group-sub-invert t)
+    (invert-group-part-invert-start t)
+    (invert-group-part-invert-end t)
+    (invert-group-sub-invert-2 t)
+    (invert-group-part-invert-start-2 t)
+    (invert-group-part-invert-end-2 t)
+    (invert-group-invert-requires t)
+    (invert-group-same-length-2 t)
+    (invert-group-returns-2 t)
+    (invert-group-inv-node-requires t)
+    (invert-group-same-length-3 t)
+    (invert-group-returns-3 t)
