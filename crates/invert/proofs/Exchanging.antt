@@ -1,19 +1,16 @@
 -- A commutator's lists exchanged: three parts copied, then the two counts of its record written. Assumes nothing.
 use Prim.Native.Nat.{ℕ, _+_, _-_, _/_, _≤_}
-use mathlib.Core.Path.{_≡_, refl, sym, ap, ap₂, _∙_}
+use mathlib.Core.Path.{_≡_, sym, ap, ap₂, _∙_}
 use mathlib.Core.List.{List, _++_, append-nil, append-assoc}
 use native.Mathlib.Omega.{arith}
-use lib.Dec.{lit<}
-use lib.IntN.{ℤ}
-use lib.ListN.{length, take, drop, set, length-append, length-drop}
-use lib.Seq.{sets, take-at, length-take-le}
-use Rattle.notation.specs.Numbers.{bigEndian}
+use lib.ListN.{length, take, drop, length-append, length-drop}
+use lib.Seq.{take-at, length-take-le}
 use Rattle.notation.specs.Tree.{Leaf, Node, leaf, block, group, binaryGroup, append, Tree}
-use Rattle.notation.specs.Packed.{RECORD, widths, binaryHead, headFields, record25, size, packNode, packBody, pack, unpack}
+use Rattle.notation.specs.Packed.{RECORD, binaryHead, record25, size, packNode, packBody, pack, unpack}
 use Rattle.notation.specs.declared.common.BinaryGroupKind.the-variants.{Commutator, Conjugate}
-use Rattle.record.specs.Meaning.{field}
+use Rattle.record.specs.Meaning.{field, withLists}
 use Rattle.record.proofs.Copying.{copied-whole}
-use Rattle.record.proofs.Storing.{store-field}
+use Rattle.record.proofs.Storing.{lists-set}
 use Rattle.laws.proofs.Inverses.{deeply, deeplyNode, deeplyBody}
 use Rattle.nodes.specs.Nodes.{IsNode, part, Lists}
 use Rattle.nodes.proofs.Nodes.{length-part, node-room, fields-of, alone, kind-of, leaf-kind, group-kind}
@@ -32,26 +29,18 @@ three-parts out a b c p k h ea eb out₂ e =
     let long : k ≤ length out₂ = omega (arith, ap length second ∙ length-append (a ++ b) tail, length-append a b) in
     put-last k out₂ c long ∙ ap (λ (s : List ℕ). s ++ c) front ∙ append-assoc a b c
 
--- the counts of a record exchanged
-counts-exchanged : (n n′ : ℕ) (m : ℤ) (rest : List ℕ)
-    → sets (sets (record25 (binaryHead Commutator n n′ m) ++ rest) 1 (bigEndian 2 n′)) 3 (bigEndian 2 n) ≡ record25 (binaryHead Commutator n′ n m) ++ rest
-unfolding record25
-counts-exchanged n n′ m rest =
-    let fs = headFields (binaryHead Commutator n n′ m) in
-    ap (λ (l : List ℕ). sets l 3 (bigEndian 2 n)) (store-field widths fs rest 1 n′ (lit< tt) refl)
-    ∙ store-field widths (set fs 1 n′) rest 2 n (lit< tt) refl
-
+-- the parts in their new order, and the counts exchanged in the record
 exchanged : (n : Node Leaf) {bs : List ℕ} {m : ℕ} → IsNode bs n → field 0 bs / 16 ≡ 4 → Lists bs m → (c c′ : ℕ) → c ≡ field 1 bs → c′ ≡ field 2 bs
-    → sets (sets (take RECORD bs ++ (part m (length bs) bs ++ part RECORD m bs)) 1 (bigEndian 2 c′)) 3 (bigEndian 2 c) ≡ pack (deeply (unpack bs))
+    → withLists c′ c (take RECORD bs ++ (part m (length bs) bs ++ part RECORD m bs)) ≡ pack (deeply (unpack bs))
 unfolding packNode packBody pack deeply deeplyNode deeplyBody append
 exchanged (leaf x) s kind l c c′ ec ec′ = absurd (omega (arith, kind-of s, leaf-kind x .0))
 exchanged (block (group g a) m) s kind l c c′ ec ec′ = absurd (omega (arith, kind-of s, group-kind g))
 exchanged (block (binaryGroup Conjugate a b) m) s kind l c c′ ec ec′ = absurd (omega (arith, kind-of s))
 exchanged (block (binaryGroup Commutator a b) m) {bs} s kind l c c′ ec ec′ =
     rw (ec ∙ fields-of s 1, ec′ ∙ fields-of s 2)
-    (ap₂ (λ (x y : List ℕ). sets (sets (x ++ y) 1 (bigEndian 2 (size b))) 3 (bigEndian 2 (size a))) (record-is s)
+    (ap₂ (λ (x y : List ℕ). withLists (size b) (size a) (x ++ y)) (record-is s)
     (ap₂ (λ (x y : List ℕ). x ++ y) (list-is (l .packedSecond) (l .unpacksSecond _ s)) (list-is (l .packedFirst) (l .unpacksFirst _ s)))
-    ∙ counts-exchanged (size a) (size b) m (pack b ++ pack a)
+    ∙ lists-set Commutator (size a) (size b) (size b) (size a) m (pack b ++ pack a)
     ∙ sym (append-nil (record25 (binaryHead Commutator (size b) (size a) m) ++ (pack b ++ pack a)))
     ∙ sym (ap (λ (t : Tree). pack (deeply t)) (alone s)))
 
@@ -90,11 +79,11 @@ module _ {bs : List ℕ} {n : Node Leaf} {m : ℕ} (s : IsNode bs n) (kind : fie
           → (let f = take RECORD bs in l₁ ≡ take (length f) f ++ drop (length f) (take RECORD out))
           → (let f = part m (length bs) bs in l₂ ≡ take (length f) f ++ drop (length f) (part RECORD k out₁))
           → (let f = part RECORD m bs in l₃ ≡ take (length f) f ++ drop (length f) (part k (length out₂) out₂))
-          → sets (sets (putPart k (length out₂) out₂ l₃) 1 (bigEndian 2 c′)) 3 (bigEndian 2 c) ≡ pack (deeply (unpack bs))
+          → withLists c′ c (putPart k (length out₂) out₂ l₃) ≡ pack (deeply (unpack bs))
       exchanged-lists c c′ ec ec′ l₃ c₁ c₂ c₃ =
           let e₁ : l₁ ≡ take RECORD bs = copied-whole (take RECORD bs) (take RECORD out) first-place c₁ in
           let e₂ : l₂ ≡ part m (length bs) bs = copied-whole (part m (length bs) bs) (part RECORD k out₁) second-place c₂ in
           let e₃ : l₃ ≡ part RECORD m bs = copied-whole (part RECORD m bs) (part k (length out₂) out₂) third-place c₃ in
-          ap (λ (x : List ℕ). sets (sets x 1 (bigEndian 2 c′)) 3 (bigEndian 2 c))
+          ap (withLists c′ c)
           (three-parts out l₁ l₂ l₃ RECORD k (omega arith) long₁ long₂ out₂ e ∙ ap₂ (λ (x y : List ℕ). x ++ y) e₁ (ap₂ (λ (x y : List ℕ). x ++ y) e₂ e₃))
           ∙ exchanged n s kind l c c′ ec ec′

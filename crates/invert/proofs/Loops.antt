@@ -2,6 +2,7 @@
 -- by a turn, whatever the nodes are inverted to or refused for. Assumes nothing.
 use Prim.Native.Nat.{ℕ, _+_, _-_, _/_, _≤_}
 use mathlib.Core.Path.{_≡_, refl, sym, ap, _∙_, subst}
+use mathlib.Core.Bool.{Bool, true, false}
 use mathlib.Core.List.{List, [], _++_, append-nil, append-assoc}
 use mathlib.Core.Option.{Option, none, some}
 use native.Mathlib.Omega.{arith}
@@ -15,7 +16,7 @@ use Rattle.laws.proofs.Inverses.{inverted, invRefusal, deeply, deeplyNode, deep
 use Rattle.laws.proofs.Walking.{Packed, no-node, nodeHead}
 use Rattle.nodes.specs.Nodes.{IsNode, part, FirstNode}
 use Rattle.nodes.proofs.Nodes.{part-length, length-part, part-front, alone, first-low, first-head, FirstLeaf, leaf-node}
-use Rattle.invert.specs.Nodes.{over, headRefusal}
+use Rattle.invert.specs.Nodes.{inverse, over, headRefusal}
 
 pack-append : (a b : Tree) → pack (append a b) ≡ pack a ++ pack b
 unfolding pack append
@@ -28,13 +29,14 @@ pub record Reverses (f : Tree → Tree) : Type 0 where
   pub more : (n : Node Leaf) (l : Tree) → f (cons n l) ≡ append (f l) (f (cons n nil))
   pub step : (x : Leaf) → inverted (cons (leaf x) nil) ≡ f (cons (leaf x) nil)
 
-pub inverted-reverses : Reverses inverted
-unfolding inverted append
-inverted-reverses = record { empty = refl; more = λ n l. refl; step = λ x. refl }
-
-pub deeply-reverses : Reverses deeply
+pub inverse-reverses : (deep : Bool) → Reverses (inverse deep)
 unfolding inverted deeply deeplyNode append
-deeply-reverses = record { empty = refl; more = λ n l. refl; step = λ x. refl }
+inverse-reverses true = record { empty = refl; more = λ n l. refl; step = λ x. refl }
+inverse-reverses false = record { empty = refl; more = λ n l. refl; step = λ x. refl }
+
+-- the inverse by what a test said of `deep`
+pub told : {deep b : Bool} → deep ≡ b → (bs : List ℕ) → pack (inverse b (unpack bs)) ≡ pack (inverse deep (unpack bs))
+told e bs = ap (λ (d : Bool). pack (inverse d (unpack bs))) (sym e)
 
 -- A list with its elements from a to e written anew, as a part that was lent gives it back.
 abbrev pub putPart : ℕ → ℕ → List ℕ → List ℕ → List ℕ
@@ -84,15 +86,17 @@ module _ {t : List ℕ} {e : ℕ} (s : FirstNode t e) where
 
 -- t is what is left of tree, and out holds what is done from `at` on.
 pub record Wrote (f : Tree → Tree) (tree t : List ℕ) (at : ℕ) (out : List ℕ) : Type 0 where
+  pub reverses : Reverses f
   pub packed : Packed t
   pub short : length t ≤ length tree
   pub place : at ≡ length t
   pub long : length out ≡ length tree
   pub done : pack (f (unpack t)) ++ drop at out ≡ pack (f (unpack tree))
 
-pub wrote-none : (f : Tree → Tree) (tree out : List ℕ) → Packed tree → length out ≡ length tree → Wrote f tree tree (length out) out
-wrote-none f tree out p e =
+pub wrote-none : {f : Tree → Tree} → Reverses f → (tree out : List ℕ) → Packed tree → length out ≡ length tree → Wrote f tree tree (length out) out
+wrote-none {f} r tree out p e =
     record {
+      reverses = r;
       packed = p;
       short = omega arith;
       place = e;
@@ -108,13 +112,14 @@ node-place {f} {tree} {t} {at} {out} {e} w s =
     ∙ omega (arith, w .place, s .most)
     ∙ sym (front-long s)
 
-pub wrote-more : {f : Tree → Tree} {tree t : List ℕ} {at : ℕ} {out : List ℕ} {e : ℕ} → Reverses f → Wrote f tree t at out → FirstNode t e
+pub wrote-more : {f : Tree → Tree} {tree t : List ℕ} {at : ℕ} {out : List ℕ} {e : ℕ} → Wrote f tree t at out → FirstNode t e
     → (new : List ℕ) → length new ≡ length (take (at - (at - e)) (drop (at - e) out)) → new ≡ pack (f (unpack (take e t)))
     → Wrote f tree (part e (length t) t) (at - e) (putPart (at - e) at out new)
-wrote-more {f} {tree} {t} {at} {out} {e} r w s new h q =
+wrote-more {f} {tree} {t} {at} {out} {e} w s new h q =
     let l : Tree = unpack (part e (length t) t) in
     let one : Tree = cons (s .node) nil in
     record {
+      reverses = w .reverses;
       packed = s .packedRest;
       short = omega (arith, w .short, part-length e (length t) t);
       place = ap (λ (k : ℕ). k - e) (w .place) ∙ sym (length-part e (length t) t (omega arith));
@@ -125,24 +130,24 @@ wrote-more {f} {tree} {t} {at} {out} {e} r w s new h q =
           ∙ ap (λ (y : List ℕ). y ++ drop at out)
           (ap (λ (y : List ℕ). pack (f l) ++ y) (q ∙ ap (λ (x : Tree). pack (f x)) (alone (front-node s)))
           ∙ sym (pack-append (f l) (f one))
-          ∙ sym (ap pack (r .more (s .node) l))
+          ∙ sym (ap pack (w .reverses .more (s .node) l))
           ∙ sym (ap (λ (x : Tree). pack (f x)) (s .unpacks)))
           ∙ w .done;
     }
 
-pub wrote-leaf : {f : Tree → Tree} {tree t : List ℕ} {at : ℕ} {out : List ℕ} → Reverses f → Wrote f tree t at out → FirstLeaf t
+pub wrote-leaf : {f : Tree → Tree} {tree t : List ℕ} {at : ℕ} {out : List ℕ} → Wrote f tree t at out → FirstLeaf t
     → (new : List ℕ) → length new ≡ length (take (at - (at - RECORD)) (drop (at - RECORD) out)) → new ≡ pack (inverted (unpack (take RECORD t)))
     → Wrote f tree (part RECORD (length t) t) (at - RECORD) (putPart (at - RECORD) at out new)
-wrote-leaf {f} r w l new h q =
+wrote-leaf {f} w l new h q =
     let one = alone (leaf-node l) in
-    wrote-more r w (l .first) new h (q ∙ ap pack (ap inverted one ∙ r .step (l .step) ∙ sym (ap f one)))
+    wrote-more w (l .first) new h (q ∙ ap pack (ap inverted one ∙ w .reverses .step (l .step) ∙ sym (ap f one)))
 
-pub wrote-all : (f : Tree → Tree) (tree t : List ℕ) (at : ℕ) (out : List ℕ) → Reverses f → Wrote f tree t at out → length t ≤ 0 → out ≡ pack (f (unpack tree))
+pub wrote-all : {f : Tree → Tree} {tree t : List ℕ} {at : ℕ} {out : List ℕ} → Wrote f tree t at out → length t ≤ 0 → out ≡ pack (f (unpack tree))
 unfolding pack
-wrote-all f tree t at out r w h =
+wrote-all {f} {tree} {t} {at} {out} w h =
     let none : length t ≡ 0 = omega arith in
     let z : at ≡ 0 = w .place ∙ none in
-    let front : pack (f (unpack t)) ≡ [] = ap (λ (x : Tree). pack (f x)) (no-node t (w .packed) none) ∙ ap pack (r .empty) in
+    let front : pack (f (unpack t)) ≡ [] = ap (λ (x : Tree). pack (f x)) (no-node t (w .packed) none) ∙ ap pack (w .reverses .empty) in
     sym (ap (λ (k : ℕ). drop k out) z) ∙ sym (ap (λ (s : List ℕ). s ++ drop at out) front) ∙ w .done
 
 -- What a list is refused for: a later node's refusal before an earlier one's.

@@ -1,14 +1,21 @@
 -- Nodes as the inverses take them.
 use Prim.Native.Nat.{ℕ, _/_, _≤_}
 use mathlib.Core.Path.{_≡_}
+use mathlib.Core.Bool.{Bool, true, false}
 use mathlib.Core.List.{List, _++_}
 use mathlib.Core.Option.{Option, none, some}
 use lib.ListN.{length, take}
+use Rattle.notation.specs.Tree.{Tree}
 use Rattle.notation.specs.Packed.{RECORD, Head, leafHead, groupHead, binaryHead, pack, unpack}
 use Rattle.record.specs.Meaning.{field}
-use Rattle.laws.proofs.Inverses.{leafRefusal, deeply, deepRefusal}
+use Rattle.laws.proofs.Inverses.{inverted, leafRefusal, deeply, deepRefusal}
 use Rattle.laws.proofs.Walking.{Packed}
 use Rattle.nodes.specs.Nodes.{part}
+
+-- the deep inverse, or the shallow one
+abbrev pub inverse : Bool → Tree → Tree
+inverse true = deeply
+inverse false = inverted
 
 -- a refusal, or else what was found before
 abbrev pub over : Option ℕ → ℕ → ℕ

@@ -13,11 +13,10 @@ ghost use Rattle.record.specs.Meaning.{field};
 ghost use Rattle.laws.proofs.Walking.{Packed};
 ghost use Rattle.laws.proofs.Inverses.{inverted, invRefusal, deeply, deepRefusal};
 ghost use Rattle.nodes.specs.Nodes.{IsNode};
-ghost use Rattle.invert.specs.Nodes.{over};
+ghost use Rattle.invert.specs.Nodes.{inverse, over};
 use bytes::copy;
 use nodes::first_end;
 use nodes::node_end;
-use numbers::big_endian::write_u16;
 use parts::inner_start;
 use record::RECORD;
 use record::copy::copy_record;
@@ -42,50 +41,6 @@ pub fn inv_refusal(tree: &[u8]) -> u8
         t = &t[e..];
     }
     found
-}
-
-// Writes the shallow inverse: what stands inside a group is kept as it is.
-pub fn inv(tree: &[u8], out: &mut [u8])
-    requires { ⌜ Packed (now tree) ⌝ }
-    requires { ⌜ length (now out) ≡ length (now tree) ⌝ }
-    ensures { λ _. ⌜ now (out .exit) ≡ pack (inverted (unpack (now (tree .entry)))) ⌝ }
-{
-    let mut t = tree;
-    let mut at = out.len();
-    while 0 < t.len() {
-        // A leaf is one record.
-        if kinds::CONJUGATE < fields::kind(t) {
-            let to = at - RECORD;
-            inv_leaf(&t[..RECORD], &mut out[to..at]);
-            at = to;
-            t = &t[RECORD..];
-        } else {
-            let e = node_end(t);
-            let to = at - e;
-            inv_node(&t[..e], &mut out[to..at]);
-            at = to;
-            t = &t[e..];
-        }
-    }
-}
-
-// Of a leaf, whose one record is copied as such: that is quicker than a copy of any length.
-fn inv_leaf(node: &[u8], out: &mut [u8])
-    requires { ⌜ ((n : Node Leaf) × IsNode (now node) n) ⌝ }
-    requires { ⌜ (length (now node) ≡ recordSize) × (length (now out) ≡ length (now node)) ⌝ }
-    ensures { λ _. ⌜ now (out .exit) ≡ pack (inverted (unpack (now (node .entry)))) ⌝ }
-{
-    copy_record(node, out);
-    undo_record(out);
-}
-
-fn inv_node(node: &[u8], out: &mut [u8])
-    requires { ⌜ ((n : Node Leaf) × IsNode (now node) n) ⌝ }
-    requires { ⌜ length (now out) ≡ length (now node) ⌝ }
-    ensures { λ _. ⌜ now (out .exit) ≡ pack (inverted (unpack (now (node .entry)))) ⌝ }
-{
-    copy(node, out);
-    undo_record(out);
 }
 
 // 0, or the first refusal that the deep inverse meets from the last node to the first.
@@ -130,11 +85,29 @@ fn node_refusal(node: &[u8], before: u8) -> u8
     list_refusal(&node[m..], before)
 }
 
+// Writes the shallow inverse: what stands inside a group is kept as it is.
+pub fn inv(tree: &[u8], out: &mut [u8])
+    requires { ⌜ Packed (now tree) ⌝ }
+    requires { ⌜ length (now out) ≡ length (now tree) ⌝ }
+    ensures { λ _. ⌜ now (out .exit) ≡ pack (inverted (unpack (now (tree .entry)))) ⌝ }
+{
+    invert(tree, out, false);
+}
+
 // Writes the deep inverse: multipliers of groups are kept, their contents inverted.
 pub fn inv_deep(tree: &[u8], out: &mut [u8])
     requires { ⌜ Packed (now tree) ⌝ }
     requires { ⌜ length (now out) ≡ length (now tree) ⌝ }
     ensures { λ _. ⌜ now (out .exit) ≡ pack (deeply (unpack (now (tree .entry)))) ⌝ }
+{
+    invert(tree, out, true);
+}
+
+// Both: they differ only in what is done to a group.
+fn invert(tree: &[u8], out: &mut [u8], deep: bool)
+    requires { ⌜ Packed (now tree) ⌝ }
+    requires { ⌜ length (now out) ≡ length (now tree) ⌝ }
+    ensures { λ _. ⌜ now (out .exit) ≡ pack (inverse deep (unpack (now (tree .entry)))) ⌝ }
 {
     let mut t = tree;
     let mut at = out.len();
@@ -148,27 +121,49 @@ pub fn inv_deep(tree: &[u8], out: &mut [u8])
         } else {
             let e = node_end(t);
             let to = at - e;
-            inv_deep_node(&t[..e], &mut out[to..at]);
+            invert_group(&t[..e], &mut out[to..at], deep);
             at = to;
             t = &t[e..];
         }
     }
 }
 
-// Of a group.
-fn inv_deep_node(node: &[u8], out: &mut [u8])
+fn invert_group(node: &[u8], out: &mut [u8], deep: bool)
     requires { ⌜ ((n : Node Leaf) × IsNode (now node) n) ⌝ }
     requires { ⌜ field 0 (now node) / 16 ≤ 5 ⌝ }
     requires { ⌜ length (now out) ≡ length (now node) ⌝ }
-    ensures { λ _. ⌜ now (out .exit) ≡ pack (deeply (unpack (now (node .entry)))) ⌝ }
+    ensures { λ _. ⌜ now (out .exit) ≡ pack (inverse deep (unpack (now (node .entry)))) ⌝ }
 {
-    if fields::kind(node) == kinds::COMMUTATOR {
-        exchange_lists(node, out);
+    if deep {
+        if fields::kind(node) == kinds::COMMUTATOR {
+            exchange_lists(node, out);
+            return;
+        }
+        let m = inner_start(node);
+        copy(&node[..m], &mut out[..m]);
+        invert(&node[m..], &mut out[m..], true);
         return;
     }
-    let m = inner_start(node);
-    copy(&node[..m], &mut out[..m]);
-    inv_deep(&node[m..], &mut out[m..]);
+    inv_node(node, out);
+}
+
+// Of a leaf, whose one record is copied as such: that is quicker than a copy of any length.
+fn inv_leaf(node: &[u8], out: &mut [u8])
+    requires { ⌜ ((n : Node Leaf) × IsNode (now node) n) ⌝ }
+    requires { ⌜ (length (now node) ≡ recordSize) × (length (now out) ≡ length (now node)) ⌝ }
+    ensures { λ _. ⌜ now (out .exit) ≡ pack (inverted (unpack (now (node .entry)))) ⌝ }
+{
+    copy_record(node, out);
+    undo_record(out);
+}
+
+fn inv_node(node: &[u8], out: &mut [u8])
+    requires { ⌜ ((n : Node Leaf) × IsNode (now node) n) ⌝ }
+    requires { ⌜ length (now out) ≡ length (now node) ⌝ }
+    ensures { λ _. ⌜ now (out .exit) ≡ pack (inverted (unpack (now (node .entry)))) ⌝ }
+{
+    copy(node, out);
+    undo_record(out);
 }
 
 // A commutator's inverse: its lists exchanged.
@@ -185,6 +180,5 @@ fn exchange_lists(node: &[u8], out: &mut [u8])
     copy(&node[..RECORD], &mut out[..RECORD]);
     copy(&node[m..], &mut out[RECORD..n]);
     copy(&node[RECORD..m], &mut out[n..]);
-    write_u16(out, 1, second);
-    write_u16(out, 3, first);
+    fields::set_lists(out, second, first);
 }

@@ -1,7 +1,7 @@
 -- Fields of given widths laid out one after the other, and cut apart again. The widths are any list.
 use Prim.Native.Nat.{ℕ, zero, suc, _+_, _-_, _^_, _<_, _≤_}
 use mathlib.Core.Path.{_≡_, refl, sym, _∙_, ap, ap₂}
-use mathlib.Core.List.{List, [], _∷_, _++_, append-assoc, foldr}
+use mathlib.Core.List.{List, [], _∷_, _++_, append-assoc}
 use native.Mathlib.Nat.{suc-add, zero-add}
 use native.Mathlib.Omega.{arith}
 use lib.Dec.{lit<}
@@ -9,6 +9,7 @@ use lib.ListN.{length, getD, take, drop, length-append, length-drop, take-append
 use lib.Seq.{sets, take-at, drop-at, drop-drop, take-take, length-take-le}
 use Rattle.notation.specs.Numbers.{bigEndian, fromBigEndian}
 use Rattle.notation.specs.Packed.{layOut, cut}
+use Rattle.record.specs.Meaning.{total, start}
 use Rattle.numbers.proofs.Positional.{Below, below-nil, below-append, below-take, below-drop}
 use Rattle.numbers.proofs.BigEndian.{length-bigEndian, bigEndian-below, sets-append, fromBigEndian-bigEndian, bigEndian-fromBigEndian}
 
@@ -17,12 +18,16 @@ pub data Fits : List ℕ → List ℕ → Type 0 where
   none : Fits [] []
   one : {w f : ℕ} {ws fs : List ℕ} → f < 256 ^ w → Fits ws fs → Fits (w ∷ ws) (f ∷ fs)
 
-abbrev pub total : List ℕ → ℕ
-total ws = foldr (λ a b. a + b) 0 ws
+-- a field ends where the next one starts, and none after the whole
+pub next-start : (ws : List ℕ) (i : ℕ) → i < length ws → start ws i + getD ws i 0 ≡ start ws (suc i)
+next-start [] i h = absurd (omega arith)
+next-start (w ∷ ws) zero h = omega arith
+next-start (w ∷ ws) (suc i) h = omega (arith, next-start ws i (omega arith))
 
--- where field i starts
-abbrev pub start : List ℕ → ℕ → ℕ
-start ws i = total (take i ws)
+pub field-ends : (ws : List ℕ) (i : ℕ) → i < length ws → start ws i + getD ws i 0 ≤ total ws
+field-ends [] i h = absurd (omega arith)
+field-ends (w ∷ ws) zero h = omega arith
+field-ends (w ∷ ws) (suc i) h = omega (arith, field-ends ws i (omega arith))
 
 pub length-layOut : (ws fs : List ℕ) → length fs ≡ length ws → length (layOut ws fs) ≡ total ws
 unfolding layOut

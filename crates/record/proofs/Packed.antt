@@ -19,13 +19,12 @@ use Rattle.notation.specs.declared.common.MegaminxScrambleMove.{MegaminxScrambl
 use Rattle.notation.specs.declared.common.GroupKind.the-variants.{Simple, Macro, Simultaneous, Niss}
 use Rattle.notation.specs.declared.common.BinaryGroupKind.the-variants.{Commutator, Conjugate}
 use Rattle.notation.specs.declared.common.MegaminxScrambleMove.the-variants.{Rpp, Rmm, Dpp, Dmm}
-use Rattle.record.specs.Meaning.{field, groupAt, binaryAt, rotationAt, moveAt}
-use Rattle.record.proofs.Cut.{start, cut-front, length-layOut, stores, stores-layOut}
+use Rattle.record.specs.Meaning.{start, field, groupAt, binaryAt, rotationAt, moveAt}
+use Rattle.record.proofs.Cut.{field-ends, cut-front, length-layOut, stores, stores-layOut}
 
--- field i stands at its place in the bytes
-pub field-at : (bs : List ℕ) (i : ℕ) → i < 11 → start widths i + getD widths i 0 ≤ RECORD
-    → field i bs ≡ fromBigEndian (take (getD widths i 0) (drop (start widths i) bs))
-field-at bs i h k = cut-front widths bs RECORD i h k
+-- field i stands after the widths before it: what ties an offset of the code to the list of widths
+pub field-at : (bs : List ℕ) (i : ℕ) → i < length widths → field i bs ≡ fromBigEndian (take (getD widths i 0) (drop (start widths i) bs))
+field-at bs i h = cut-front widths bs RECORD i h (field-ends widths i h)
 
 -- what a record says, by its kind
 abbrev pub byKind : List ℕ → List Head
@@ -103,7 +102,7 @@ byte-bit true = refl
 byte-bit false = refl
 
 -- the fields stored one by one are the record in front of what stood after it
-pub stored : (old fs : List ℕ) → length fs ≡ 11 → RECORD ≤ length old → stores old 0 widths fs ≡ layOut widths fs ++ drop RECORD old
+pub stored : (old fs : List ℕ) → length fs ≡ length widths → RECORD ≤ length old → stores old 0 widths fs ≡ layOut widths fs ++ drop RECORD old
 stored old fs e h =
     let size : length (layOut widths fs) ≡ RECORD = length-layOut widths fs e in
     let end : 0 + length (layOut widths fs) ≡ RECORD = omega arith in

@@ -57,11 +57,11 @@ use Rattle.notation.specs.declared.common.BinaryGroupKind.the-variants.{Commuta
 use Rattle.notation.specs.declared.common.MegaminxScrambleMove.the-variants.{Rpp, Rmm, Dpp, Dmm}
 use Rattle.numbers.proofs.Positional.{Below}
 use Rattle.numbers.proofs.TwosComplement.{toBits-lt, fromBits-toBits}
-use Rattle.record.specs.Range.{FitsSpan, FitsFamily, FitsConstraints, FitsLayers, FitsNumber, FitsHead}
+use Rattle.record.specs.Range.{FitsField, FitsSpan, FitsFamily, FitsConstraints, FitsLayers, FitsNumber, FitsHead}
 use Rattle.record.proofs.Cut.{Fits, none as no-field, one as and-field, length-layOut, layOut-below, cut-layOut}
 use Rattle.record.proofs.Packed.{bit-lt, present-lt, layerForm-lt, groupNumber-lt, binaryNumber-lt, megaminxNumber-lt}
 
-pub length-headFields : (h : Head) → length (headFields h) ≡ 11
+pub length-headFields : (h : Head) → length (headFields h) ≡ length widths
 length-headFields (leafHead (rotation f c m)) = refl
 length-headFields (leafHead (move t l f c m)) = refl
 length-headFields (leafHead pause) = refl
@@ -94,7 +94,7 @@ module _ (k t f p : ℕ) (t-fits : t < 2) (f-fits : f < 4) (p-fits : p < 2) wher
   small-present = omega arith
 
 -- the fields of a head in range fit their widths
-in-order-fits : (k t f p n n′ m o : ℕ) (family constraints set : Span) → k < 16 → t < 2 → f < 4 → p < 2 → n < 65536 → n′ < 65536
+in-order-fits : (k t f p n n′ m o : ℕ) (family constraints set : Span) → k < 16 → t < 2 → f < 4 → p < 2 → FitsField 1 n → FitsField 2 n′
     → m < 2 ^ 32 → o < 2 ^ 32 → FitsSpan family → FitsSpan constraints → FitsSpan set
     → Fits widths (inOrder k t f p n n′ m o family constraints set)
 in-order-fits k t f p n n′ m o family constraints set hk ht hf hp hn hn′ hm ho a b c =
@@ -133,7 +133,7 @@ low-and-high-fits (layerSet p) h = lit< tt
 number-fits : (z : ℤ) → FitsNumber z → toBits 32 z < 2 ^ 32
 number-fits z h = toBits-lt 32 z (lit< tt) h
 
-without-parts-fits : (k n n′ m o : ℕ) → k < 16 → n < 65536 → n′ < 65536 → m < 2 ^ 32 → o < 2 ^ 32
+without-parts-fits : (k n n′ m o : ℕ) → k < 16 → FitsField 1 n → FitsField 2 n′ → m < 2 ^ 32 → o < 2 ^ 32
     → Fits widths (inOrder k 0 0 0 n n′ m o nowhere nowhere nowhere)
 without-parts-fits k n n′ m o hk hn hn′ hm ho =
     in-order-fits k 0 0 0 n n′ m o nowhere nowhere nowhere hk (lit< tt) (lit< tt) (lit< tt) hn hn′ hm ho nowhere-fits nowhere-fits nowhere-fits

@@ -1,15 +1,21 @@
--- A field stored in what was laid out: the same fields with this one changed. The widths are any list.
+-- A field stored in what was laid out: the same fields with this one changed, and those after it kept. The widths are any list, then
+-- those of a record. Assumes nothing.
 use Prim.Native.Nat.{ℕ, zero, suc, _+_, _<_, _≤_}
 use mathlib.Core.Path.{_≡_, refl, sym, _∙_, ap}
 use mathlib.Core.List.{List, [], _∷_, _++_, append-assoc}
 use native.Mathlib.Nat.{suc-add, zero-add}
 use native.Mathlib.Omega.{arith}
+use lib.Dec.{lit<}
+use lib.IntN.{ℤ}
 use lib.ListN.{length, getD, take, drop, set, length-append}
 use lib.Seq.{sets, sets-eq, drop-at, length-take-le}
-use Rattle.notation.specs.Numbers.{bigEndian}
-use Rattle.notation.specs.Packed.{layOut}
+use Rattle.notation.specs.Numbers.{bigEndian, fromBigEndian}
+use Rattle.notation.specs.Packed.{RECORD, widths, layOut, binaryHead, headFields, record25}
+use Rattle.notation.specs.declared.common.BinaryGroupKind.{BinaryGroupKind}
 use Rattle.numbers.proofs.BigEndian.{length-bigEndian}
-use Rattle.record.proofs.Cut.{start}
+use Rattle.record.specs.Meaning.{start, field, withField, withLists}
+use Rattle.record.proofs.Cut.{next-start, field-ends}
+use Rattle.record.proofs.Packed.{field-at}
 
 sets-cons : (x : ℕ) (l : List ℕ) (i : ℕ) (vs : List ℕ) → sets (x ∷ l) (suc i) vs ≡ x ∷ sets l i vs
 sets-cons x l i [] = refl
@@ -31,7 +37,7 @@ sets-front p q l e =
     ∙ ap (λ (s : List ℕ). q ++ s) (drop-at p l (length p) refl)
 
 -- and what stands after them
-pub drop-sets : (l : List ℕ) (i : ℕ) (vs : List ℕ) → i + length vs ≤ length l → drop (i + length vs) (sets l i vs) ≡ drop (i + length vs) l
+drop-sets : (l : List ℕ) (i : ℕ) (vs : List ℕ) → i + length vs ≤ length l → drop (i + length vs) (sets l i vs) ≡ drop (i + length vs) l
 drop-sets l i vs h =
     ap (drop (i + length vs)) (sets-eq vs l i h)
     ∙ drop-at (take i l ++ vs) (drop (i + length vs) l) (i + length vs)
@@ -52,3 +58,29 @@ store-field (w ∷ ws) (f ∷ fs) rest (suc i) n h e =
     ∙ sets-past (bigEndian w f) (layOut ws fs ++ rest) (start ws i) (bigEndian (getD ws i 0) n)
     ∙ ap (λ (s : List ℕ). bigEndian w f ++ s) (store-field ws fs rest i n (omega arith) (omega arith))
     ∙ sym (append-assoc (bigEndian w f) (layOut ws (set fs i n)) rest)
+
+-- the field after the one that is set
+pub next-kept : (bs : List ℕ) (i n : ℕ) → suc i < length widths → RECORD ≤ length bs → field (suc i) (withField i n bs) ≡ field (suc i) bs
+next-kept bs i n h long =
+    let w = getD widths i 0 in
+    let end : start widths i + length (bigEndian w n) ≡ start widths (suc i) =
+    ap (λ (k : ℕ). start widths i + k) (length-bigEndian w n) ∙ next-start widths i (omega arith)
+    in
+    let room : start widths i + length (bigEndian w n) ≤ length bs =
+    omega (arith, field-ends widths i (omega arith), length-bigEndian w n)
+    in
+    let after : drop (start widths (suc i)) (withField i n bs) ≡ drop (start widths (suc i)) bs =
+    rw end at (drop-sets bs (start widths i) (bigEndian w n) room)
+    in
+    field-at (withField i n bs) (suc i) h
+    ∙ ap (λ (l : List ℕ). fromBigEndian (take (getD widths (suc i) 0) l)) after
+    ∙ sym (field-at bs (suc i) h)
+
+-- the counts of a group with two lists
+pub lists-set : (k : BinaryGroupKind) (n n′ c c′ : ℕ) (m : ℤ) (rest : List ℕ)
+    → withLists c c′ (record25 (binaryHead k n n′ m) ++ rest) ≡ record25 (binaryHead k c c′ m) ++ rest
+unfolding record25
+lists-set k n n′ c c′ m rest =
+    let fs = headFields (binaryHead k n n′ m) in
+    ap (withField 2 c′) (store-field widths fs rest 1 c (lit< tt) refl)
+    ∙ store-field widths (set fs 1 c) rest 2 c′ (lit< tt) refl

@@ -3,11 +3,11 @@ use Prim.Native.Nat.{ℕ, _+_, _*_, _/_, _<_, _≤_}
 use mathlib.Core.Path.{_≡_, refl, sym, _∙_, ap, ap₂, subst}
 use mathlib.Core.List.{List, _++_}
 use native.Mathlib.Omega.{arith}
-use lib.Dec.{lit<, lit≤}
+use lib.Dec.{lit<}
 use lib.IntN.{ℤ, negℤ}
 use lib.ListN.{length, getD, take, drop, set, length-set, length-append}
-use lib.Seq.{sets, drop-at}
-use Rattle.notation.specs.Numbers.{bigEndian, fromBigEndian, toBits, fromBits}
+use lib.Seq.{drop-at}
+use Rattle.notation.specs.Numbers.{toBits, fromBits}
 use Rattle.notation.specs.Tree.{rotation, move, pause, pair, slash, megaminx}
 use Rattle.notation.specs.Packed.{RECORD, widths, cut, layOut, Head, leafHead, groupHead, binaryHead, megaminxNumber, headFields, record25, headAt}
 use Rattle.notation.specs.Invert.{exchanged}
@@ -15,16 +15,13 @@ use Rattle.notation.specs.declared.common.MegaminxScrambleMove.{MegaminxScrambl
 use Rattle.notation.specs.declared.common.GroupKind.the-variants.{Simple, Macro, Simultaneous, Niss}
 use Rattle.notation.specs.declared.common.BinaryGroupKind.the-variants.{Commutator, Conjugate}
 use Rattle.notation.specs.declared.common.MegaminxScrambleMove.the-variants.{Rpp, Rmm, Dpp, Dmm}
-use Rattle.numbers.proofs.BigEndian.{length-bigEndian}
 use Rattle.numbers.proofs.TwosComplement.{fromBits-toBits}
-use Rattle.record.specs.Meaning.{field}
+use Rattle.record.specs.Meaning.{field, withField}
 use Rattle.record.specs.Range.{FitsNumber, FitsHead}
 use Rattle.record.specs.Undone.{StartsRecord, undoneHead}
-use Rattle.record.proofs.Cut.{start}
 use Rattle.record.proofs.Numbered.{kindOf, kind-field}
-use Rattle.record.proofs.Packed.{field-at}
 use Rattle.record.proofs.RoundTrip.{length-headFields, length-record25, cut-record25, headAt-record25}
-use Rattle.record.proofs.Storing.{store-field, drop-sets}
+use Rattle.record.proofs.Storing.{store-field, next-kept}
 
 -- the bits of a number negated
 abbrev negated : ℕ → ℕ
@@ -113,17 +110,17 @@ module _ (bs : List ℕ) (s : StartsRecord bs) where
   unfolding record25
   undone-of fs o e = o ∙ ap laid e
 
-  stored : (fs : List ℕ) (i n : ℕ) → length fs ≡ 11 → i < 11 → sets (laid fs) (start widths i) (bigEndian (getD widths i 0) n) ≡ laid (set fs i n)
+  stored : (fs : List ℕ) (i n : ℕ) → length fs ≡ length widths → i < length widths → withField i n (laid fs) ≡ laid (set fs i n)
   stored fs i n l h = store-field widths fs (drop RECORD bs) i n h l
 
   -- The three ways through `undo_record`: the number was negated first.
-  module _ {k n n′ : ℕ} {r : List ℕ} (ek : k ≡ field 0 bs / 16) (en : n ≡ field 3 bs) (en′ : n′ ≡ negated n) (e : r ≡ sets bs 5 (bigEndian 4 n′)) where
+  module _ {k n n′ : ℕ} {r : List ℕ} (ek : k ≡ field 0 bs / 16) (en : n ≡ field 3 bs) (en′ : n′ ≡ negated n) (e : r ≡ withField 3 n′ bs) where
     half-is : r ≡ laid (halfFields (headAt bs))
     half-is =
-        e ∙ ap₂ (λ (l : List ℕ) (m : ℕ). sets l 5 (bigEndian 4 m)) laid-whole (en′ ∙ ap negated (en ∙ field-is 3))
+        e ∙ ap₂ (λ (l : List ℕ) (m : ℕ). withField 3 m l) laid-whole (en′ ∙ ap negated (en ∙ field-is 3))
         ∙ stored (headFields (headAt bs)) 3 _ (length-headFields (headAt bs)) (lit< tt)
 
-    half-long : length (halfFields (headAt bs)) ≡ 11
+    half-long : length (halfFields (headAt bs)) ≡ length widths
     half-long = length-set (headFields (headAt bs)) 3 _ ∙ length-headFields (headAt bs)
 
     kind-of : kindOf (headAt bs) ≡ k
@@ -132,22 +129,18 @@ module _ (bs : List ℕ) (s : StartsRecord bs) where
     pub number-undone : (k ≡ 9 → ⊥) → k ≤ 10 → Undone bs r
     number-undone h l = undone-of _ half-is (half-undone (headAt bs) (s .fits) (λ z. h (sym kind-of ∙ z)) (rw kind-of l))
 
-    pub pair-undone : k ≡ 9 → {o o′ : ℕ} {r′ : List ℕ} → o ≡ field 4 r → o′ ≡ negated o → r′ ≡ sets r 9 (bigEndian 4 o′) → Undone bs r′
+    pub pair-undone : k ≡ 9 → {o o′ : ℕ} {r′ : List ℕ} → o ≡ field 4 r → o′ ≡ negated o → r′ ≡ withField 4 o′ r → Undone bs r′
     pair-undone h {o} {o′} eo eo′ e′ =
-        let place : 5 + length (bigEndian 4 n′) ≡ 9 = ap (λ (w : ℕ). 5 + w) (length-bigEndian 4 n′) in
-        let after : drop 9 r ≡ drop 9 bs = ap (drop 9) e ∙ rw place at (drop-sets bs 5 (bigEndian 4 n′) (omega (arith, s .long))) in
-        let other : o ≡ getD (headFields (headAt bs)) 4 0 =
-        eo ∙ field-at r 4 (lit< tt) (lit≤ tt) ∙ ap (λ (l : List ℕ). fromBigEndian (take 4 l)) after ∙ sym (field-at bs 4 (lit< tt) (lit≤ tt)) ∙ field-is 4
-        in
+        let other : o ≡ getD (headFields (headAt bs)) 4 0 = eo ∙ ap (field 4) e ∙ next-kept bs 3 n′ (lit< tt) (s .long) ∙ field-is 4 in
         undone-of _
-        (e′ ∙ ap₂ (λ (l : List ℕ) (m : ℕ). sets l 9 (bigEndian 4 m)) half-is (eo′ ∙ ap negated other) ∙ stored (halfFields (headAt bs)) 4 _ half-long (lit< tt))
+        (e′ ∙ ap₂ (λ (l : List ℕ) (m : ℕ). withField 4 m l) half-is (eo′ ∙ ap negated other) ∙ stored (halfFields (headAt bs)) 4 _ half-long (lit< tt))
         (both-undone (headAt bs) (s .fits) (kind-of ∙ h))
 
     pub kind-undone : 10 < k → {x : ℕ} {r′ : List ℕ} → ((j : MegaminxScrambleMove) → k ≡ megaminxNumber j → x ≡ megaminxNumber (exchanged j))
-        → r′ ≡ sets r 0 (bigEndian 1 (x * 16)) → Undone bs r′
+        → r′ ≡ withField 0 (x * 16) r → Undone bs r′
     kind-undone h {x} ex e′ =
         undone-of _
-        (e′ ∙ ap (λ (l : List ℕ). sets l 0 (bigEndian 1 (x * 16))) half-is ∙ stored (halfFields (headAt bs)) 0 _ half-long (lit< tt))
+        (e′ ∙ ap (withField 0 (x * 16)) half-is ∙ stored (halfFields (headAt bs)) 0 _ half-long (lit< tt))
         (move-undone (headAt bs) (rw kind-of h) x (λ j z. ex j (sym kind-of ∙ z)))
 
 -- Bytes that are a record and more: they start with it, and are undone by it.

@@ -1,11 +1,12 @@
 -- What the crate's types mean in the rules, and a field of a record: one of `cut widths`.
 use Prim.Native.Nat.{ℕ, _+_, _/_, _%_}
-use mathlib.Core.List.{List, [], _∷_}
+use mathlib.Core.List.{List, [], _∷_, foldr}
 use mathlib.Core.Option.{Option, none, some}
 use lib.Dec.{eqb}
 use lib.ListN.{getD, take}
+use lib.Seq.{sets}
 use Rattle.notation.specs.Basics.{pick}
-use Rattle.notation.specs.Numbers.{fromBits}
+use Rattle.notation.specs.Numbers.{bigEndian, fromBits}
 use Rattle.notation.specs.Tree as tree
 use Rattle.notation.specs.Tree.{
   Layers,
@@ -54,6 +55,27 @@ field i bs = getD (cut widths (take RECORD bs)) i 0
 
 abbrev pub spanAt : ℕ → List ℕ → tree.Span
 spanAt i bs = tree.span (field i bs) (field (i + 1) bs)
+
+-- the size of fields of these widths, and where field i of them starts: after those before it
+abbrev pub total : List ℕ → ℕ
+total ws = foldr (λ a b. a + b) 0 ws
+
+abbrev pub start : List ℕ → ℕ → ℕ
+start ws i = total (take i ws)
+
+-- the first record with field i set to n; with both counts; with the part of the text that fields i and i + 1 name
+abbrev pub withField : ℕ → ℕ → List ℕ → List ℕ
+withField i n bs = sets bs (start widths i) (bigEndian (getD widths i 0) n)
+
+abbrev pub withLists : ℕ → ℕ → List ℕ → List ℕ
+withLists first second bs = withField 2 second (withField 1 first bs)
+
+abbrev pub withSpan : ℕ → Span → List ℕ → List ℕ
+withSpan i p bs = withField (i + 1) (p .size) (withField i (p .offset) bs)
+
+-- the width of an offset or a size in the text
+abbrev pub placeWidth : ℕ
+placeWidth = getD widths 5 0
 
 -- what the record says if it is of this kind, in the words of `headOf`
 abbrev pub groupAt : GroupKind → List ℕ → Head

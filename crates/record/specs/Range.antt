@@ -1,9 +1,10 @@
 -- The heads that a record can hold: each number fits its field, and an empty family stands at offset 0.
-use Prim.Native.Nat.{_<_}
+use Prim.Native.Nat.{ℕ, _^_, _<_}
 use mathlib.Core.Path.{_≡_}
 use mathlib.Core.Bool.{true}
 use mathlib.Core.Option.{Option, none, some}
 use lib.IntN.{ℤ}
+use lib.ListN.{getD}
 use Rattle.notation.specs.Numbers.{fitsBits}
 use Rattle.notation.specs.Tree.{
   Span,
@@ -20,11 +21,15 @@ use Rattle.notation.specs.Tree.{
   slash,
   megaminx,
 }
-use Rattle.notation.specs.Packed.{Head, leafHead, groupHead, binaryHead}
+use Rattle.notation.specs.Packed.{widths, Head, leafHead, groupHead, binaryHead}
+
+-- a number that field i has room for
+abbrev pub FitsField : ℕ → ℕ → Type 0
+FitsField i n = n < 256 ^ getD widths i 0
 
 pub record FitsSpan (p : Span) : Type 0 where
-  pub offset : p .offset < 65536
-  pub size : p .size < 65536
+  pub offset : FitsField 5 (p .offset)
+  pub size : FitsField 6 (p .size)
 
 pub record FitsFamily (p : Span) : Type 0 where
   pub span : FitsSpan p
@@ -54,5 +59,5 @@ FitsLeaf (megaminx k) = Unit {0}
 
 abbrev pub FitsHead : Head → Type 0
 FitsHead (leafHead x) = FitsLeaf x
-FitsHead (groupHead k n m) = (n < 65536) × FitsNumber m
-FitsHead (binaryHead k n n′ m) = (n < 65536) × (n′ < 65536) × FitsNumber m
+FitsHead (groupHead k n m) = FitsField 1 n × FitsNumber m
+FitsHead (binaryHead k n n′ m) = FitsField 1 n × FitsField 2 n′ × FitsNumber m

@@ -1,11 +1,10 @@
 // Records by their fields: what each node packs into, written and compared.
 ghost use mathlib.Core.Path.{_≡_};
 ghost use mathlib.Core.List.{_++_};
-ghost use Prim.Native.Nat.{_+_, _<_, _≤_};
+ghost use Prim.Native.Nat.{_<_, _≤_};
 ghost use lib.ListN.{length, take, drop};
 ghost use Rattle.notation.specs.Basics.{sameList};
-ghost use lib.Seq.{sets};
-ghost use Rattle.notation.specs.Numbers.{bigEndian, fromBits};
+ghost use Rattle.notation.specs.Numbers.{fromBits};
 ghost use Rattle.notation.specs.Tree as tree;
 ghost use Rattle.notation.specs.Packed as packed;
 ghost use Rattle.record.specs.Meaning as meaning;
@@ -19,10 +18,6 @@ use crate::spanned::SpanOption;
 use notation::common::BinaryGroupKind;
 use notation::common::GroupKind;
 use notation::common::MegaminxScrambleMove;
-use numbers::big_endian::read_u8;
-use numbers::big_endian::write_u8;
-use numbers::big_endian::write_u16;
-use numbers::big_endian::write_u32;
 
 const NOWHERE: Span = Span { offset: 0, size: 0 };
 
@@ -45,7 +40,7 @@ pub fn fields_at(t: &[u8]) -> Fields
     ensures { λ f. ⌜ meaning.listed f ≡ packed.cut packed.widths (take packed.RECORD (now (t .entry))) ⌝ }
 {
     Fields {
-        small: read_u8(t, 0),
+        small: fields::small(t),
         first: fields::first(t),
         second: fields::second(t),
         number: fields::number(t),
@@ -278,20 +273,11 @@ pub fn put(out: &mut [u8], f: Fields)
     let family = f.family;
     let constraints = f.constraints;
     let layer_set = f.layer_set;
-    write_u8(out, 0, f.small);
-    write_u16(out, 1, f.first);
-    write_u16(out, 3, f.second);
-    write_u32(out, 5, f.number);
-    write_u32(out, 9, f.other);
-    put_span(out, 13, family);
-    put_span(out, 17, constraints);
-    put_span(out, 21, layer_set);
-}
-
-fn put_span(out: &mut [u8], at: usize, p: Span)
-    requires { ⌜ at + 4 ≤ length (now out) ⌝ }
-    ensures { λ _. ⌜ now (out .exit) ≡ sets (sets (now (out .entry)) at (bigEndian 2 (p .offset))) (at + 2) (bigEndian 2 (p .size)) ⌝ }
-{
-    write_u16(out, at, p.offset);
-    write_u16(out, at + 2, p.size);
+    fields::set_small(out, f.small);
+    fields::set_lists(out, f.first, f.second);
+    fields::set_number(out, f.number);
+    fields::set_other(out, f.other);
+    fields::set_family(out, family);
+    fields::set_constraints(out, constraints);
+    fields::set_layer_set(out, layer_set);
 }

@@ -1,30 +1,43 @@
-// The fields of the first record of a slice, one by one.
+// The fields of the first record of a slice, read and written one by one. Only here is it looked up where a field stands.
 ghost use mathlib.Core.Path.{_≡_};
 ghost use Prim.Native.Nat.{_+_, _/_, _%_, _≤_};
 ghost use lib.ListN.{length, take, drop};
 ghost use lib.Dec.{eqb};
-ghost use Rattle.notation.specs.Numbers.{fromBigEndian};
+ghost use lib.Seq.{sets};
+ghost use Rattle.notation.specs.Numbers.{bigEndian, fromBigEndian};
 ghost use Rattle.notation.specs.Tree as tree;
 ghost use Rattle.notation.specs.Packed.{RECORD};
-ghost use Rattle.record.specs.Meaning.{field, spanAt, span};
+ghost use Rattle.record.specs.Meaning.{field, placeWidth, spanAt, span, withField, withLists, withSpan};
+use crate::layout;
 use crate::spanned::Span;
 use numbers::big_endian::read_u8;
 use numbers::big_endian::read_u16;
 use numbers::big_endian::read_u32;
+use numbers::big_endian::write_u8;
+use numbers::big_endian::write_u16;
+use numbers::big_endian::write_u32;
+
+// The kind, and of a move its tilde, layer form and whether it has constraints.
+pub fn small(t: &[u8]) -> u8
+    requires { ⌜ RECORD ≤ length (now t) ⌝ }
+    ensures { λ r. ⌜ r ≡ field 0 (now (t .entry)) ⌝ }
+{
+    read_u8(t, layout::SMALL)
+}
 
 // Which node it is: the first four bits.
 pub fn kind(t: &[u8]) -> u8
     requires { ⌜ RECORD ≤ length (now t) ⌝ }
     ensures { λ r. ⌜ r ≡ field 0 (now (t .entry)) / 16 ⌝ }
 {
-    read_u8(t, 0) / 16
+    small(t) / 16
 }
 
 pub fn tilde(t: &[u8]) -> bool
     requires { ⌜ RECORD ≤ length (now t) ⌝ }
     ensures { λ r. ⌜ r ≡ eqb (field 0 (now (t .entry)) / 8 % 2) 1 ⌝ }
 {
-    read_u8(t, 0) / 8 % 2 == 1
+    small(t) / 8 % 2 == 1
 }
 
 // 0 none, 1 single, 2 range, 3 set.
@@ -32,14 +45,14 @@ pub fn layer_form(t: &[u8]) -> u8
     requires { ⌜ RECORD ≤ length (now t) ⌝ }
     ensures { λ r. ⌜ r ≡ field 0 (now (t .entry)) / 2 % 4 ⌝ }
 {
-    read_u8(t, 0) / 2 % 4
+    small(t) / 2 % 4
 }
 
 pub fn constraints_present(t: &[u8]) -> bool
     requires { ⌜ RECORD ≤ length (now t) ⌝ }
     ensures { λ r. ⌜ r ≡ eqb (field 0 (now (t .entry)) % 2) 1 ⌝ }
 {
-    read_u8(t, 0) % 2 == 1
+    small(t) % 2 == 1
 }
 
 // Records in the first list, nested ones included.
@@ -47,7 +60,7 @@ pub fn first(t: &[u8]) -> u16
     requires { ⌜ RECORD ≤ length (now t) ⌝ }
     ensures { λ r. ⌜ r ≡ field 1 (now (t .entry)) ⌝ }
 {
-    read_u16(t, 1)
+    read_u16(t, layout::FIRST)
 }
 
 // Records in the second list.
@@ -55,7 +68,7 @@ pub fn second(t: &[u8]) -> u16
     requires { ⌜ RECORD ≤ length (now t) ⌝ }
     ensures { λ r. ⌜ r ≡ field 2 (now (t .entry)) ⌝ }
 {
-    read_u16(t, 3)
+    read_u16(t, layout::SECOND)
 }
 
 // The multiplier, or u of a pair.
@@ -63,7 +76,7 @@ pub fn number(t: &[u8]) -> u32
     requires { ⌜ RECORD ≤ length (now t) ⌝ }
     ensures { λ r. ⌜ r ≡ field 3 (now (t .entry)) ⌝ }
 {
-    read_u32(t, 5)
+    read_u32(t, layout::NUMBER)
 }
 
 // d of a pair, or low and high layer.
@@ -71,17 +84,17 @@ pub fn other(t: &[u8]) -> u32
     requires { ⌜ RECORD ≤ length (now t) ⌝ }
     ensures { λ r. ⌜ r ≡ field 4 (now (t .entry)) ⌝ }
 {
-    read_u32(t, 9)
+    read_u32(t, layout::OTHER)
 }
 
-// The span in the four bytes from `at` on.
+// The span whose offset and size stand from `at` on.
 fn span_at(t: &[u8], at: usize) -> Span
-    requires { ⌜ at + 4 ≤ length (now t) ⌝ }
-    ensures { λ r. ⌜ span r ≡ tree.span (fromBigEndian (take 2 (drop at (now (t .entry))))) (fromBigEndian (take 2 (drop (at + 2) (now (t .entry))))) ⌝ }
+    requires { ⌜ at + (placeWidth + placeWidth) ≤ length (now t) ⌝ }
+    ensures { λ r. ⌜ span r ≡ tree.span (fromBigEndian (take placeWidth (drop at (now (t .entry))))) (fromBigEndian (take placeWidth (drop (at + placeWidth) (now (t .entry))))) ⌝ }
 {
     Span {
         offset: read_u16(t, at),
-        size: read_u16(t, at + 2),
+        size: read_u16(t, at + layout::PLACE_BYTES),
     }
 }
 
@@ -89,7 +102,7 @@ pub fn family(t: &[u8]) -> Span
     requires { ⌜ RECORD ≤ length (now t) ⌝ }
     ensures { λ r. ⌜ span r ≡ spanAt 5 (now (t .entry)) ⌝ }
 {
-    span_at(t, 13)
+    span_at(t, layout::FAMILY)
 }
 
 // Meant only where constraints are present.
@@ -97,7 +110,7 @@ pub fn constraints(t: &[u8]) -> Span
     requires { ⌜ RECORD ≤ length (now t) ⌝ }
     ensures { λ r. ⌜ span r ≡ spanAt 7 (now (t .entry)) ⌝ }
 {
-    span_at(t, 17)
+    span_at(t, layout::CONSTRAINTS)
 }
 
 // Meant only where the layer form is a set.
@@ -105,5 +118,64 @@ pub fn layer_set(t: &[u8]) -> Span
     requires { ⌜ RECORD ≤ length (now t) ⌝ }
     ensures { λ r. ⌜ span r ≡ spanAt 9 (now (t .entry)) ⌝ }
 {
-    span_at(t, 21)
+    span_at(t, layout::LAYER_SET)
+}
+
+pub fn set_small(out: &mut [u8], n: u8)
+    requires { ⌜ RECORD ≤ length (now out) ⌝ }
+    ensures { λ _. ⌜ now (out .exit) ≡ withField 0 n (now (out .entry)) ⌝ }
+{
+    write_u8(out, layout::SMALL, n);
+}
+
+// Both counts of records.
+pub fn set_lists(out: &mut [u8], first: u16, second: u16)
+    requires { ⌜ RECORD ≤ length (now out) ⌝ }
+    ensures { λ _. ⌜ now (out .exit) ≡ withLists first second (now (out .entry)) ⌝ }
+{
+    write_u16(out, layout::FIRST, first);
+    write_u16(out, layout::SECOND, second);
+}
+
+pub fn set_number(out: &mut [u8], n: u32)
+    requires { ⌜ RECORD ≤ length (now out) ⌝ }
+    ensures { λ _. ⌜ now (out .exit) ≡ withField 3 n (now (out .entry)) ⌝ }
+{
+    write_u32(out, layout::NUMBER, n);
+}
+
+pub fn set_other(out: &mut [u8], n: u32)
+    requires { ⌜ RECORD ≤ length (now out) ⌝ }
+    ensures { λ _. ⌜ now (out .exit) ≡ withField 4 n (now (out .entry)) ⌝ }
+{
+    write_u32(out, layout::OTHER, n);
+}
+
+fn set_span(out: &mut [u8], at: usize, p: Span)
+    requires { ⌜ at + (placeWidth + placeWidth) ≤ length (now out) ⌝ }
+    ensures { λ _. ⌜ now (out .exit) ≡ sets (sets (now (out .entry)) at (bigEndian placeWidth (p .offset))) (at + placeWidth) (bigEndian placeWidth (p .size)) ⌝ }
+{
+    write_u16(out, at, p.offset);
+    write_u16(out, at + layout::PLACE_BYTES, p.size);
+}
+
+pub fn set_family(out: &mut [u8], p: Span)
+    requires { ⌜ RECORD ≤ length (now out) ⌝ }
+    ensures { λ _. ⌜ now (out .exit) ≡ withSpan 5 p (now (out .entry)) ⌝ }
+{
+    set_span(out, layout::FAMILY, p);
+}
+
+pub fn set_constraints(out: &mut [u8], p: Span)
+    requires { ⌜ RECORD ≤ length (now out) ⌝ }
+    ensures { λ _. ⌜ now (out .exit) ≡ withSpan 7 p (now (out .entry)) ⌝ }
+{
+    set_span(out, layout::CONSTRAINTS, p);
+}
+
+pub fn set_layer_set(out: &mut [u8], p: Span)
+    requires { ⌜ RECORD ≤ length (now out) ⌝ }
+    ensures { λ _. ⌜ now (out .exit) ≡ withSpan 9 p (now (out .entry)) ⌝ }
+{
+    set_span(out, layout::LAYER_SET, p);
 }

@@ -9,8 +9,6 @@ ghost use Rattle.notation.specs.declared.common.MegaminxScrambleMove.{MegaminxS
 ghost use Rattle.record.specs.Undone.{StartsRecord, undoneHead};
 use crate::fields;
 use crate::kinds;
-use numbers::big_endian::write_u8;
-use numbers::big_endian::write_u32;
 use numbers::signed::negate;
 
 // Undoes the first record of r: a step, or a group as a whole, whose multiplier is negated.
@@ -20,15 +18,17 @@ pub fn undo_record(r: &mut [u8])
 {
     let kind = fields::kind(r);
     // A record without a multiplier has 0 there, which stays.
-    let opposite = negate(fields::number(r));
-    write_u32(r, 5, opposite);
+    let number = fields::number(r);
+    let opposite = negate(number);
+    fields::set_number(r, opposite);
     if kind == kinds::PAIR {
-        let other = negate(fields::other(r));
-        write_u32(r, 9, other);
+        let other = fields::other(r);
+        let opposite = negate(other);
+        fields::set_other(r, opposite);
         return;
     }
     if kinds::SLASH < kind {
-        write_u8(r, 0, exchanged(kind) * 16);
+        fields::set_small(r, exchanged(kind) * 16);
     }
 }
 

@@ -1,10 +1,8 @@
 -- `invert::exchange_lists` meets its contract: three parts copied, two counts written. Assumes nothing.
-use Prim.Native.Nat.{ℕ}
-use mathlib.Core.Path.{refl, sym, ap, _∙_}
-use mathlib.Core.List.{List}
+use mathlib.Core.Path.{refl, sym, _∙_}
 use native.Mathlib.Omega.{arith}
-use lib.Seq.{sets, length-take-le}
-use Rattle.notation.specs.Numbers.{bigEndian}
+use lib.Seq.{length-take-le}
+use Rattle.notation.specs.Packed.{RECORD}
 use Rattle.nodes.proofs.Nodes.{node-room}
 use Rattle.invert.proofs.Exchanging.{first-place, exchanged-lists}
 use borrow.Author.Needs.{needs}
@@ -29,7 +27,7 @@ add-n c = search needs
 slice-aggregate-copy : tie.Need-slice-aggregate-copy
 slice-aggregate-copy c =
     let start = c .before .before .before .before .before .before in
-    sym (length-take-le 25 (start .args .node .now) (node-room (start .pre .0 .1)))
+    sym (length-take-le RECORD (start .args .node .now) (node-room (start .pre .0 .1)))
 
 slice-relend-prefix-copy : tie.Need-slice-relend-prefix-copy
 slice-relend-prefix-copy c = search needs
@@ -37,7 +35,7 @@ slice-relend-prefix-copy c = search needs
 slice-aggregate-copy-2 : tie.Need-slice-aggregate-copy-2
 slice-aggregate-copy-2 c =
     let start = c .before .before .before .before .before .before .before in
-    sym (length-take-le 25 (start .args .out .now) (omega (arith, node-room (start .pre .0 .1), start .pre .1 .1)))
+    sym (length-take-le RECORD (start .args .out .now) (omega (arith, node-room (start .pre .0 .1), start .pre .1 .1)))
 
 copy-requires : tie.Need-copy-requires
 copy-requires c κs =
@@ -87,27 +85,22 @@ part-copy-end-4 c = search needs
 copy-requires-3 : tie.Need-copy-requires-3
 copy-requires-3 c κs = search needs
 
-write-u16-requires : tie.Need-write-u16-requires
-write-u16-requires c κs = search needs
-
-write-u16-requires-2 : tie.Need-write-u16-requires-2
-write-u16-requires-2 c κs = search needs
+set-lists-requires : tie.Need-set-lists-requires
+set-lists-requires c κs = search needs
 
 same-length : tie.Need-same-length
 same-length c = search needs
 
 returns : tie.Need-returns
 returns c =
-    let second = c .before .before in
-    let first = second .before .before .before .before in
-    let third-copy = first .before .before .before .before in
+    let written = c .before .before in
+    let third-copy = written .before .before .before .before in
     let second-copy = third-copy .before .before .before .before .before in
     let first-copy = second-copy .before .before .before .before .before in
     let lists = first-copy .before .before .before in
     let counts = lists .before in
     let start = counts .before .before .before .before in
-    second .write-u162 .ensures
-    ∙ ap (λ (l : List ℕ). sets l 3 (bigEndian 2 (counts .before .first .result))) (first .write-u16 .ensures)
+    written .set-lists .ensures
     ∙ exchanged-lists (start .pre .0 .1) (start .pre .1 .0) (lists .first-end .ensures) (start .args .out .now) (start .pre .1 .1)
     (first-copy .copy .last .1 .0) (first-copy .copy .kept .1 .0) (second-copy .copy2 .last .1 .0) (second-copy .copy2 .kept .1 .0) _ refl
     _ _ (counts .before .first .ensures) (counts .second .ensures) _ (first-copy .copy .ensures .1) (second-copy .copy2 .ensures .1) (third-copy .copy3 .ensures .1)
@@ -139,7 +132,6 @@ exchange-lists-spec =
     part-copy-start-4
     part-copy-end-4
     copy-requires-3
-    write-u16-requires
-    write-u16-requires-2
+    set-lists-requires
     same-length
     returns)

@@ -1,14 +1,11 @@
 -- `encode::fields_at` meets its contract: each field where it stands. Assumes nothing.
-use mathlib.Core.Path.{sym, _∙_}
 use borrow.Author.Needs.{needs}
-use lib.Dec.{lit<, lit≤}
-use Rattle.record.proofs.Packed.{field-at}
 use Rattle.record.proofs.Same.{all-fields}
 use Rattle.record.proofs.encode.fields_at.Statement.{statement}
 use Rattle.record.proofs.encode.fields_at.Tie as tie
 
-read-u8-requires : tie.Need-read-u8-requires
-read-u8-requires c κs = search needs
+small-requires : tie.Need-small-requires
+small-requires c κs = search needs
 
 first-requires : tie.Need-first-requires
 first-requires c κs = search needs
@@ -34,14 +31,14 @@ layer-set-requires c κs = search needs
 returns : tie.Need-returns
 returns c =
     let t = c .before .before .before .before .before .before .before .before .before .args .t .now in
-    all-fields t (c .before .before .before .before .before .before .before .read-u8 .ensures ∙ sym (field-at t 0 (lit< tt) (lit≤ tt))) (c .before .before .before .before .before .before .first .ensures) (c .before .before .before .before .before .second .ensures) (c .before .before .before .before .number .ensures) (c .before .before .before .other .ensures)
+    all-fields t (c .before .before .before .before .before .before .before .small .ensures) (c .before .before .before .before .before .before .first .ensures) (c .before .before .before .before .before .second .ensures) (c .before .before .before .before .number .ensures) (c .before .before .before .other .ensures)
     (c .before .before .family .ensures) (c .before .constraints .ensures) (c .layer-set .ensures)
 
 pub fields-at-spec : {M : Type 1} → statement M
 fields-at-spec =
     tie.close
     (tie.spec
-    read-u8-requires
+    small-requires
     first-requires
     second-requires
     number-requires

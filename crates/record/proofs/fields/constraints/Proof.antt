@@ -1,6 +1,6 @@
 use borrow.Author.Needs.{needs}
 use mathlib.Core.Path.{_∙_}
-use lib.Dec.{lit<, lit≤}
+use lib.Dec.{lit<}
 use Rattle.record.proofs.Packed.{field-at}
 use Rattle.record.proofs.fields.constraints.Statement.{statement}
 use Rattle.record.proofs.fields.constraints.Tie as tie
@@ -9,7 +9,7 @@ span-at-requires : tie.Need-span-at-requires
 span-at-requires c κs = search needs
 
 returns : tie.Need-returns
-returns c = c .span-at .ensures ∙ rw (field-at (c .before .before .args .t .now) 7 (lit< tt) (lit≤ tt), field-at (c .before .before .args .t .now) 8 (lit< tt) (lit≤ tt))
+returns c = c .span-at .ensures ∙ rw (field-at (c .before .before .args .t .now) 7 (lit< tt), field-at (c .before .before .args .t .now) 8 (lit< tt))
 
 pub constraints-spec : {M : Type 1} → statement M
 constraints-spec = tie.close (tie.spec span-at-requires returns)

@@ -1,6 +1,6 @@
 use borrow.Author.Needs.{needs}
 use mathlib.Core.Path.{sym, _∙_}
-use lib.Dec.{lit<, lit≤}
+use lib.Dec.{lit<}
 use Rattle.record.proofs.Packed.{field-at}
 use Rattle.record.proofs.fields.first.Statement.{statement}
 use Rattle.record.proofs.fields.first.Tie as tie
@@ -9,7 +9,7 @@ read-u16-requires : tie.Need-read-u16-requires
 read-u16-requires c κs = search needs
 
 returns : tie.Need-returns
-returns c = c .read-u16 .ensures ∙ sym (field-at (c .before .before .args .t .now) 1 (lit< tt) (lit≤ tt))
+returns c = c .read-u16 .ensures ∙ sym (field-at (c .before .before .args .t .now) 1 (lit< tt))
 
 pub first-spec : {M : Type 1} → statement M
 first-spec = tie.close (tie.spec read-u16-requires returns)

@@ -13,8 +13,8 @@ number-requires c κs = search needs
 negate-requires : tie.Need-negate-requires
 negate-requires c κs = search needs
 
-write-u32-requires : tie.Need-write-u32-requires
-write-u32-requires c κs = search needs
+set-number-requires : tie.Need-set-number-requires
+set-number-requires c κs = search needs
 
 other-requires : tie.Need-other-requires
 other-requires c κs = search needs
@@ -22,8 +22,8 @@ other-requires c κs = search needs
 negate-requires-2 : tie.Need-negate-requires-2
 negate-requires-2 c κs = search needs
 
-write-u32-requires-2 : tie.Need-write-u32-requires-2
-write-u32-requires-2 c κs = search needs
+set-other-requires : tie.Need-set-other-requires
+set-other-requires c κs = search needs
 
 same-length : tie.Need-same-length
 same-length c = search needs
@@ -35,17 +35,17 @@ returns c =
     let first = tested .before .before .before in
     let kind = first .before .before .before .before .before in
     let start = kind .before .before .before in
-    pair-undone (start .args .r .now) (start .pre) (kind .kind .ensures) (first .before .before .before .number .ensures) (first .before .before .negate .ensures) (first .write-u32 .ensures)
-    (tested .if1 .taken) (second .before .before .before .other .ensures) (second .before .before .negate2 .ensures) (second .write-u322 .ensures)
+    pair-undone (start .args .r .now) (start .pre) (kind .kind .ensures) (first .before .before .before .number .ensures) (first .before .before .negate .ensures) (first .set-number .ensures)
+    (tested .if1 .taken) (second .before .before .before .other .ensures) (second .before .before .negate2 .ensures) (second .set-other .ensures)
 
 exchanged-requires : tie.Need-exchanged-requires
 exchanged-requires c κs = search needs
 
-mul-write-u8 : tie.Need-mul-write-u8
-mul-write-u8 c = search needs
+mul-set-small : tie.Need-mul-set-small
+mul-set-small c = search needs
 
-write-u8-requires : tie.Need-write-u8-requires
-write-u8-requires c κs = search needs
+set-small-requires : tie.Need-set-small-requires
+set-small-requires c κs = search needs
 
 same-length-2 : tie.Need-same-length-2
 same-length-2 c = search needs
@@ -57,8 +57,8 @@ returns-2 c =
     let first = tested .before .before .before .before in
     let kind = first .before .before .before .before .before in
     let start = kind .before .before .before in
-    kind-undone (start .args .r .now) (start .pre) (kind .kind .ensures) (first .before .before .before .number .ensures) (first .before .before .negate .ensures) (first .write-u32 .ensures)
-    (tested .if2 .taken) (second .before .exchanged .ensures .1) (second .write-u8 .ensures)
+    kind-undone (start .args .r .now) (start .pre) (kind .kind .ensures) (first .before .before .before .number .ensures) (first .before .before .negate .ensures) (first .set-number .ensures)
+    (tested .if2 .taken) (second .before .exchanged .ensures .1) (second .set-small .ensures)
 
 same-length-3 : tie.Need-same-length-3
 same-length-3 c = search needs
@@ -68,7 +68,7 @@ returns-3 c =
     let first = c .before .before .before .before in
     let kind = first .before .before .before .before .before in
     let start = kind .before .before .before in
-    number-undone (start .args .r .now) (start .pre) (kind .kind .ensures) (first .before .before .before .number .ensures) (first .before .before .negate .ensures) (first .write-u32 .ensures)
+    number-undone (start .args .r .now) (start .pre) (kind .kind .ensures) (first .before .before .before .number .ensures) (first .before .before .negate .ensures) (first .set-number .ensures)
     (c .before .if1 .left) (c .if2 .left)
 
 pub undo-record-spec : {M : Type 1} → statement M
@@ -78,15 +78,15 @@ undo-record-spec =
     kind-requires
     number-requires
     negate-requires
-    write-u32-requires
+    set-number-requires
     other-requires
     negate-requires-2
-    write-u32-requires-2
+    set-other-requires
     same-length
     returns
     exchanged-requires
-    mul-write-u8
-    write-u8-requires
+    mul-set-small
+    set-small-requires
     same-length-2
     returns-2
     same-length-3
