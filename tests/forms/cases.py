@@ -65,9 +65,16 @@ def first(text):
     return f"first({literal(text)});", leaf(r)
 
 
+def first_of_pauses(size):
+    """The same of so many pauses. A text of more than 65,535 bytes is not read."""
+    return f"first(&[{ord('.')}u8; {size}]);", leaf(n.Reader(b"." * size, n.MAXIMAL)) if size <= 65535 else "nothing "
+
+
 def cases(r):
     for text in ["\n(1, -2)x", ")", "", " ~3-1R{a}2' U", "\u3000@"]:
         yield first(text.encode())
+    for size in [65535, 65536]:
+        yield first_of_pauses(size)
     for text, record, max_layer, negatives in [("{1,3..5,-2}R2'", 0, 9, True), ("{1,3..5,-2}R2'", 0, 9, False), ("{1,3,5,7}R", 0, 9, True), ("U R", 1, 0, True),
                                                ("(U)2 R", 0, 9, True), ("(U)2 2-4R", 2, 3, True), ("R", 0, 32768, True), ("R", 1, 9, True)]:
         yield ranges_of(text.encode(), record, max_layer, negatives)

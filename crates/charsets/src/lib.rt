@@ -11,7 +11,6 @@ pub use charsets::is_whitespace;
 pub use utf8::char_width;
 pub use utf8::code_point;
 pub use utf8::family_end;
-pub use utf8::family_width;
 pub use utf8::is_utf8;
 pub use utf8::whitespace_end;
 pub use utf8::whitespace_width;

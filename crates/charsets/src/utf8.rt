@@ -128,8 +128,8 @@ fn width_if(passes: bool, width: usize) -> usize
     if passes { width } else { 0 }
 }
 
-// The width of a character past ASCII, 0 where none of the wanted ones stands there. Apart, because it is rare: the tests
-// for ASCII alone are small enough to stand in their callers.
+// The width of a character past ASCII, 0 where none of the wanted ones stands there: white space, or else what a family name
+// may hold. Apart, because it is rare: the tests for ASCII alone are small enough to stand in their callers.
 fn wide_width(s: &[u8], at: usize, white: bool) -> usize
     ensures { λ r. ⌜ r ≡ widthIf (pick white whiteSpace isFamilyChar) (drop at (now (s .entry))) ⌝ }
 {
@@ -145,26 +145,31 @@ fn wide_width(s: &[u8], at: usize, white: bool) -> usize
     }
 }
 
-// How many bytes the character at `at` takes, 0 where none of a family name stands there.
-pub fn family_width(s: &[u8], at: usize) -> usize
-    ensures { λ r. ⌜ r ≡ widthIf isFamilyChar (drop at (now (s .entry))) ⌝ }
+// Whether the ASCII character is a wanted one.
+fn is_ascii_wanted(c: u32, white: bool) -> bool
+    requires { ⌜ c ≤ 127 ⌝ }
+    ensures { λ r. ⌜ r ≡ pick white whiteSpace isFamilyChar c ⌝ }
+{
+    if white { is_ascii_whitespace(c) } else { is_ascii_family_char(c) }
+}
+
+// How many bytes the character at `at` takes, 0 where none of the wanted ones stands there. The flag is spelled out for
+// `wide_width`: were that called in one place, the compiler would copy it in here, and this into its callers no more.
+fn width(s: &[u8], at: usize, white: bool) -> usize
+    ensures { λ r. ⌜ r ≡ widthIf (pick white whiteSpace isFamilyChar) (drop at (now (s .entry))) ⌝ }
 {
     let a = byte_at(s, at);
     if a <= 0x7f {
-        return width_if(is_ascii_family_char(a), 1);
+        return width_if(is_ascii_wanted(a, white), 1);
     }
-    wide_width(s, at, false)
+    if white { wide_width(s, at, true) } else { wide_width(s, at, false) }
 }
 
-// The same for white space.
+// The same for white space alone.
 pub fn whitespace_width(s: &[u8], at: usize) -> usize
     ensures { λ r. ⌜ r ≡ widthIf whiteSpace (drop at (now (s .entry))) ⌝ }
 {
-    let a = byte_at(s, at);
-    if a <= 0x7f {
-        return width_if(is_ascii_whitespace(a), 1);
-    }
-    wide_width(s, at, true)
+    width(s, at, true)
 }
 
 // Whether eight bytes stand from `at` on, all of them ASCII. They are joined and tested once, so that no test stands between
@@ -201,14 +206,14 @@ pub fn is_utf8(s: &[u8]) -> bool
     true
 }
 
-// Where the run of family characters that begins at `at` ends.
-pub fn family_end(s: &[u8], at: usize) -> usize
+// Where the run of wanted characters that begins at `at` ends.
+fn run_end(s: &[u8], at: usize, white: bool) -> usize
     requires { ⌜ at ≤ length (now s) ⌝ }
-    ensures { λ r. ⌜ r ≡ at + run isFamilyChar (drop at (now (s .entry))) ⌝ }
+    ensures { λ r. ⌜ r ≡ at + run (pick white whiteSpace isFamilyChar) (drop at (now (s .entry))) ⌝ }
 {
     let mut end = at;
     while end < s.len() {
-        let width = family_width(s, end);
+        let width = width(s, end, white);
         if width == 0 {
             return end;
         }
@@ -217,18 +222,18 @@ pub fn family_end(s: &[u8], at: usize) -> usize
     end
 }
 
+// Where the run of family characters that begins at `at` ends.
+pub fn family_end(s: &[u8], at: usize) -> usize
+    requires { ⌜ at ≤ length (now s) ⌝ }
+    ensures { λ r. ⌜ r ≡ at + run isFamilyChar (drop at (now (s .entry))) ⌝ }
+{
+    run_end(s, at, false)
+}
+
 // The same for white space.
 pub fn whitespace_end(s: &[u8], at: usize) -> usize
     requires { ⌜ at ≤ length (now s) ⌝ }
     ensures { λ r. ⌜ r ≡ at + run whiteSpace (drop at (now (s .entry))) ⌝ }
 {
-    let mut end = at;
-    while end < s.len() {
-        let width = whitespace_width(s, end);
-        if width == 0 {
-            return end;
-        }
-        end += width;
-    }
-    end
+    run_end(s, at, true)
 }

@@ -7,6 +7,7 @@ use lib.ListN.{length, drop, length-drop}
 use denote.Ref.{RefT, now}
 use Rattle.notation.specs.Chars.{whiteSpace}
 use Rattle.notation.specs.Utf8.{run}
+use Rattle.notation.specs.Entries.{MAX-TEXT}
 use Rattle.notation.specs.Grammar.{Reading, rejected, read, whitespace, multiplier, constraintSet}
 use Rattle.notation.specs.declared.features.Features.{Features}
 use Rattle.charsets.proofs.Runs.{run-length}
@@ -20,7 +21,7 @@ use Rattle.parse.specs.declared.parts.Taken.the-variants as taken
 use Rattle.parse.proofs.Past.{within}
 use Rattle.parse.proofs.Rules.{takes-multiplier, takes-forget, takes-constraintSet}
 use Rattle.reader.specs.declared.Reader.{Reader}
-use Rattle.reader.specs.Cursor.{text, Inside, reads, endOf, moved, after, Moves, leaf, firstLeaf, afterLeaf, afterSet}
+use Rattle.reader.specs.Cursor.{text, Inside, reads, endOf, moved, after, Moves, leaf, leafAfterSpaces, afterLeaf, afterSet}
 
 pub whitespace-moves : (r : Reader) (n : ℕ) → Inside r → n ≡ r .at + run whiteSpace (drop (r .at) (text r)) → Moves whitespace r (moved r n)
 whitespace-moves r n inside e = (ap (moved r) e, omega (arith, inside, e, length-drop (r .at) (text r), run-length whiteSpace 0 (drop (r .at) (text r))))
@@ -62,12 +63,12 @@ set-moves r a n inside e c =
 abbrev pub start : RefT (List ℕ) → Reader
 start s = record { text = s; at = 0 }
 
-pub first-leaf-is : (f : Features) (s : RefT (List ℕ)) (y : Reader) (a : LeafAnswer) → y ≡ after (start s) (reads whitespace (start s)) → recordReading (text y) a ≡ reads (leaf f) y → recordReading (now s) a ≡ firstLeaf f 0 (now s)
+pub first-leaf-is : (f : Features) (s : RefT (List ℕ)) (y : Reader) (a : LeafAnswer) → y ≡ after (start s) (reads whitespace (start s)) → recordReading (text y) a ≡ reads (leaf f) y → recordReading (now s) a ≡ leafAfterSpaces f 0 (now s)
 first-leaf-is f s y a p e =
     let n = run whiteSpace (now s) in
     let zero : 0 + n ≡ n = omega arith in
     subst (λ (r : Reader). recordReading (text r) a ≡ reads (leaf f) r) p e ∙ ap (λ (k : ℕ). leaf f (0 + n) (drop k (now s))) zero
 
 -- the text stays as long as it was
-pub still-short : (s : RefT (List ℕ)) (y : Reader) → length (now s) ≤ 65535 → y ≡ after (start s) (reads whitespace (start s)) → length (text y) ≤ 65535
-still-short s y h p = subst (λ (r : Reader). length (text r) ≤ 65535) (sym p) h
+pub still-short : (s : RefT (List ℕ)) (y : Reader) → length (now s) ≤ MAX-TEXT → y ≡ after (start s) (reads whitespace (start s)) → length (text y) ≤ MAX-TEXT
+still-short s y h p = subst (λ (r : Reader). length (text r) ≤ MAX-TEXT) (sym p) h

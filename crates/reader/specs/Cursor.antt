@@ -2,8 +2,11 @@
 use Prim.Native.Nat.{ℕ, _≤_}
 use mathlib.Core.Path.{_≡_}
 use mathlib.Core.List.{List}
+use lib.Dec.{leb}
 use lib.ListN.{length, drop}
 use denote.Ref.{now}
+use Rattle.notation.specs.Basics.{pick}
+use Rattle.notation.specs.Entries.{MAX-TEXT}
 use Rattle.notation.specs.Grammar.{Reading, rejected, read, andThen, done, fail, node, whitespace}
 use Rattle.notation.specs.Grammar as rule
 use Rattle.notation.specs.declared.features.Features.{Features}
@@ -47,8 +50,12 @@ abbrev pub leaf : Features → rule.Reader (List ℕ)
 leaf f at s = andThen (node f fail at s) (λ n. done (nodeFields n))
 
 -- the same after white space
-abbrev pub firstLeaf : Features → rule.Reader (List ℕ)
-firstLeaf f at s = andThen (whitespace at s) (λ _. leaf f)
+abbrev pub leafAfterSpaces : Features → rule.Reader (List ℕ)
+leafAfterSpaces f at s = andThen (whitespace at s) (λ _. leaf f)
+
+-- the same at the start of a text: one that is too long has none
+abbrev pub firstLeaf : Features → List ℕ → Reading (List ℕ)
+firstLeaf f s = pick (leb (length s) MAX-TEXT) (leafAfterSpaces f 0 s) rejected
 
 -- Where an answer of `parse` leaves the cursor.
 abbrev pub afterLeaf : ℕ → LeafAnswer → ℕ

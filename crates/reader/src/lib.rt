@@ -9,10 +9,14 @@ ghost use mathlib.Core.Path.{_≡_};
 ghost use Prim.Native.Nat.{_≤_};
 ghost use lib.Dec.{eqb};
 ghost use lib.ListN.{length};
+ghost use Rattle.notation.specs.Entries.{MAX-TEXT};
 ghost use Rattle.notation.specs.Numbers.{fromBits};
 ghost use Rattle.notation.specs.Grammar as rule;
 ghost use Rattle.parse.specs.Meaning as means;
 ghost use Rattle.reader.specs.Cursor as cursor;
+
+// Of a longer text no leaf is read: its places would not fit a record.
+const MAX_TEXT: usize = 65535;
 
 pub struct Reader<'a> {
     text: &'a [u8],
@@ -83,7 +87,7 @@ impl<'a> Reader<'a> {
 
     // A node that is no group.
     pub fn leaf(&mut self, features: Features) -> LeafAnswer
-        requires { ⌜ cursor.Inside (now self) × (length (cursor.text (now self)) ≤ 65535) ⌝ }
+        requires { ⌜ cursor.Inside (now self) × (length (cursor.text (now self)) ≤ MAX-TEXT) ⌝ }
         ensures { λ r. ⌜ (means.recordReading (cursor.text (now (self .entry))) r ≡ cursor.reads (cursor.leaf features) (now (self .entry))) × cursor.Moves (cursor.leaf features) (now (self .entry)) (now (self .exit)) ⌝ }
     {
         let answer = parse::leaf(self.text, self.at, features);
@@ -92,12 +96,22 @@ impl<'a> Reader<'a> {
     }
 }
 
-// The leaf that a text begins with, after white space.
-pub fn first_leaf(text: &[u8], features: Features) -> LeafAnswer
-    requires { ⌜ length (now text) ≤ 65535 ⌝ }
-    ensures { λ r. ⌜ means.recordReading (now (text .entry)) r ≡ cursor.firstLeaf features 0 (now (text .entry)) ⌝ }
+// What `first_leaf` answers of a text that is not too long.
+fn first_leaf_of_short(text: &[u8], features: Features) -> LeafAnswer
+    requires { ⌜ length (now text) ≤ MAX-TEXT ⌝ }
+    ensures { λ r. ⌜ means.recordReading (now (text .entry)) r ≡ cursor.leafAfterSpaces features 0 (now (text .entry)) ⌝ }
 {
     let mut reader = Reader::new(text);
     reader.skip_whitespace();
     reader.leaf(features)
+}
+
+// The leaf that a text begins with, after white space. None is read of a text that is too long.
+pub fn first_leaf(text: &[u8], features: Features) -> LeafAnswer
+    ensures { λ r. ⌜ means.recordReading (now (text .entry)) r ≡ cursor.firstLeaf features (now (text .entry)) ⌝ }
+{
+    if MAX_TEXT < text.len() {
+        return LeafAnswer::Nothing;
+    }
+    first_leaf_of_short(text, features)
 }

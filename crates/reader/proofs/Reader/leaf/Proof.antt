@@ -37,6 +37,7 @@ use denote.Triple.Spec.{Meets, tripleOf}
 use denote.Triple.Statement.{Contract, Triple}
 use denote.Triple.Table.{entered, cited}
 use denote.Triple.Walked.{needs, stay-none, goes-none}
+use Rattle.notation.specs.Entries.{MAX-TEXT}
 use Rattle.notation.specs.declared.features.Features.{Features}
 use Rattle.notation.proofs.features.Features as F
 use Rattle.notation.proofs.features.Features.Laws as F′
@@ -97,7 +98,7 @@ module _ {M : Type 1} (𝓤 : URA M) (H : Heap 𝓤) (A : Atoms 𝓤) (mem : Mem
   AfterLeaf = tripleOf 𝓤 H A after-leaf.signature (after-leaf.spec 𝓤 H A mem run)
 
 module _ {M : Type 1} (𝓤 : URA M) (H : Heap 𝓤) (A : Atoms 𝓤) (W : Given 𝓤 H A) (mem : Memory → SProp 𝓤) (run : Routine → Fun 𝓤) where
-  module _ (l : Loan) (bounds : AllOutlive 2 bound (lfts l)) (f : Features) (inside : Inside (l .h)) (short : length (text (l .h)) ≤ 65535) where
+  module _ (l : Loan) (bounds : AllOutlive 2 bound (lfts l)) (f : Features) (inside : Inside (l .h)) (short : length (text (l .h)) ≤ MAX-TEXT) where
     open Loan l using (κ, κ′, q, q′, b, o, γ, h)
 
     -- the features' machine value
@@ -162,7 +163,7 @@ module _ {M : Type 1} (𝓤 : URA M) (H : Heap 𝓤) (A : Atoms 𝓤) (W : Given
               -- [what the text owns; what the Reader owns; its cell; the open borrow; obs; auth; 'a's token; _6; …; _5; …; _4; …; _3; …; _2; …; _1; …; room for _0; …]
               assigns ! (of-opd ! (load ! (from ! (hop ! (look ! 17 refl) (fld ! refl (stop !)))) (look-in ! 2 (sub ! 0 refl (whole !))))) (from ! (stop !)) (init ! 11 refl (okV, typed .1 .0)) $
               assigns ! (of-opd ! (load ! (from ! (hop ! (look ! 17 refl) (fld ! refl (stop !)))) (look-in ! 2 (sub ! 1 refl (whole !))))) (from ! (stop !)) (init ! 9 refl (tt, typed .1 .1 .0)) $
-              move ! (6 ∷ 0 ∷ []) $ use2 W (raw (Parsed 𝓤 H A mem run .pre to)) (hands-text l 𝓤 H A W (typed .1 .1 .0 .fits) (F.the-row ∷ []) (f, tt) (mf ∷ [], tt) (made set) (Inside h × (length (text h) ≤ 65535)) (inside, short)) $
+              move ! (6 ∷ 0 ∷ []) $ use2 W (raw (Parsed 𝓤 H A mem run .pre to)) (hands-text l 𝓤 H A W (typed .1 .1 .0 .fits) (F.the-row ∷ []) (f, tt) (mf ∷ [], tt) (made set) (Inside h × (length (text h) ≤ MAX-TEXT)) (inside, short)) $
               calls-at ! fm (Parsed 𝓤 H A mem run) known to (and-then ! (load ! (from ! (stop !)) (look ! 10 refl)) (and-then ! (load ! (from ! (stop !)) (look ! 8 refl)) (and-then ! (load ! (from ! (stop !)) (look ! 14 refl)) (no-more !)))) (λ u.
               answered ! tt parsed.ended (parsed.clauses 𝓤 H A mem run) to u (Token l) (id⊢ 𝓤 _) (λ a. Means a × Ends a) (λ a ws. needs 𝓤 (Ends a) (fact 𝓤 (Means a)) (λ w. fact-mono 𝓤 (Means a) (Means a × Ends a) (λ e. (e, w)))) (λ a e.
               peeks ! S.the-row (Is S.the-row) (shows 𝓤 H A S.the-row) a (u ∷ []) (λ is. land ! (from ! (stop !)) (init ! 13 refl (okS a u is)) $
