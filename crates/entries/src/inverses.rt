@@ -7,7 +7,7 @@ ghost use Rattle.laws.proofs.Walking.{Packed};
 ghost use Rattle.invert.specs.Nodes.{over};
 ghost use Rattle.entries.specs.Inverses.{refusing, written, ruled};
 use notation::answer::Answer;
-use sound::NO_ROOM;
+use notation::refusals::NO_ROOM;
 use sound::check;
 
 // The inverse whose groups are kept as they are: refusals 1, 2, 6, 8, 5.

@@ -8,6 +8,8 @@ ghost use Rattle.notation.specs.WellFormed.{inside};
 ghost use Rattle.record.specs.Meaning as means;
 ghost use Rattle.entries.specs.Parts.{partOutcome, Inside};
 use notation::answer::Answer;
+use notation::refusals::NO_SUCH_LAYER_COUNT;
+use notation::refusals::NO_SUCH_RECORD;
 use record::RECORD;
 use record::decode::family_of;
 use record::decode::layers;
@@ -17,10 +19,6 @@ use record::spanned::Span;
 use sound::check;
 
 const MAX_LAYER: u32 = 32767;
-
-const NO_SUCH_LAYER_COUNT: u8 = 11;
-
-const NO_SUCH_RECORD: u8 = 12;
 
 // A part of the text, or why there is none.
 pub enum PartAnswer {

@@ -2,7 +2,7 @@
 ghost use mathlib.Core.Path.{_≡_};
 ghost use Rattle.notation.specs.Entries as rule;
 use notation::answer::Answer;
-use sound::NO_ROOM;
+use notation::refusals::NO_ROOM;
 use sound::check;
 
 // Refusals 1, 2, 6, 5. Where the buffer may be too short, a first run has no room and only measures.

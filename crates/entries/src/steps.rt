@@ -6,15 +6,12 @@ ghost use Rattle.notation.specs.Entries as rule;
 ghost use Rattle.sound.specs.Sound.{Counted};
 use expand::visit::visit;
 use notation::answer::Answer;
+use notation::limits::MAX_STEPS;
+use notation::refusals::NO_ROOM;
+use notation::refusals::NO_SUCH_PLACE;
+use notation::refusals::TOO_MANY_STEPS;
 use record::RECORD;
-use sound::NO_ROOM;
 use sound::check;
-
-const MAX_STEPS: u64 = 4294967295;
-
-const TOO_MANY_STEPS: u8 = 9;
-
-const NO_SUCH_PLACE: u8 = 10;
 
 // How many steps a tree unrolls into: refusals 1, 2, 6, 7 or 8, 9.
 pub fn count_steps(text: &[u8], tree: &[u8]) -> Answer

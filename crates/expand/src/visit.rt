@@ -13,6 +13,8 @@ ghost use Rattle.nodes.specs.Nodes.{IsNode};
 ghost use Rattle.expand.specs.Meaning.{told, summary, Held, leafSum, overflowsAt, binaryKind};
 use nodes::first_end;
 use nodes::node_end;
+use notation::refusals::NISS;
+use notation::refusals::OVERFLOW;
 use numbers::signed::is_negative;
 use numbers::signed::magnitude;
 use record::RECORD;
@@ -21,10 +23,6 @@ use record::kinds;
 
 // One more than the most steps that are counted: a count that reaches it is held there.
 const HELD: u64 = 4294967296;
-
-const NISS: u8 = 7;
-
-const OVERFLOW: u8 = 8;
 
 pub struct Summary {
     pub steps: u64,

@@ -17,6 +17,7 @@ ghost use Rattle.invert.specs.Nodes.{inverse, over};
 use bytes::copy;
 use nodes::first_end;
 use nodes::node_end;
+use notation::refusals::NISS;
 use parts::inner_start;
 use record::RECORD;
 use record::copy::copy_record;
@@ -24,9 +25,6 @@ use record::fields;
 use record::kinds;
 use record::undo::undo_record;
 use refusal::pair_refusal;
-
-// The refusal of a NISS group, which has no deep inverse.
-const HAS_NISS: u8 = 7;
 
 // 0, or 8 where a node of the outer list is a pair that has no inverse.
 pub fn inv_refusal(tree: &[u8]) -> u8
@@ -73,7 +71,7 @@ fn node_refusal(node: &[u8], before: u8) -> u8
 {
     let kind = fields::kind(node);
     if kind == kinds::NISS {
-        return HAS_NISS;
+        return NISS;
     }
     if kind == kinds::COMMUTATOR {
         return before;

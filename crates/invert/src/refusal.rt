@@ -3,13 +3,12 @@ ghost use mathlib.Core.Path.{_≡_};
 ghost use Rattle.notation.specs.Packed.{headAt};
 ghost use Rattle.record.specs.Undone.{StartsRecord};
 ghost use Rattle.invert.specs.Nodes.{headRefusal, over};
+use notation::refusals::OVERFLOW;
 use record::fields;
 use record::kinds;
 
 // The bits of −2147483648, which has no negative in 32 bits, and the refusal of a pair that holds it.
 const MIN: u32 = 2147483648;
-
-const OVERFLOW: u8 = 8;
 
 // OVERFLOW where the first record is a pair with no inverse; else what was found before.
 pub fn pair_refusal(t: &[u8], before: u8) -> u8

@@ -21,10 +21,10 @@ use crate::lines::tree_line;
 use display::write::put_bytes;
 use entries::count_steps;
 use notation::answer::Answer;
-use notation::features;
 use notation::features::Features;
+use notation::features;
+use notation::refusals::NO_ROOM;
 use parse::parse_notation;
-use sound::NO_ROOM;
 
 const MAX_INPUT: usize = 3072;
 

@@ -5,3 +5,5 @@ pub mod answer;
 pub mod charsets;
 pub mod common;
 pub mod features;
+pub mod limits;
+pub mod refusals;

@@ -11,11 +11,14 @@ use crate::nodes::node_list;
 use charsets::is_utf8;
 use notation::answer::Answer;
 use notation::features::Features;
+use notation::limits::MAX_NESTING;
+use notation::limits::MAX_TEXT;
+use notation::refusals::NOT_NOTATION;
+use notation::refusals::NOT_UTF8;
+use notation::refusals::NO_ROOM;
+use notation::refusals::TOO_LONG;
+use notation::refusals::TOO_NESTED;
 use record::RECORD;
-
-const MAX_TEXT: usize = 65535;
-
-const MAX_NESTING: usize = 64;
 
 // So many bytes are counted at once.
 const BLOCK: usize = 32;
@@ -103,21 +106,21 @@ pub fn parse_notation(text: &[u8], features: Features, tree: &mut [u8]) -> Answe
     ensures { λ r. ⌜ record { answer = rule.outcome r; buffer = now (tree .exit) } ≡ rule.parseNotation features (now (text .entry)) (now (tree .entry)) ⌝ }
 {
     if MAX_TEXT < text.len() {
-        return Answer::Refused(1);
+        return Answer::Refused(TOO_LONG);
     }
     if !is_utf8(text) {
-        return Answer::Refused(2);
+        return Answer::Refused(NOT_UTF8);
     }
     if !nesting_ok(text) {
-        return Answer::Refused(3);
+        return Answer::Refused(TOO_NESTED);
     }
     let measured = node_list(text, 0, features, &mut tree[0..0], 0);
     if measured.next < text.len() {
-        return Answer::Refused(4);
+        return Answer::Refused(NOT_NOTATION);
     }
     let size = RECORD * measured.slot;
     if tree.len() < size {
-        return Answer::Refused(5);
+        return Answer::Refused(NO_ROOM);
     }
     node_list(text, 0, features, &mut tree[0..size], 0);
     Answer::Value(size as u64)

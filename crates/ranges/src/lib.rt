@@ -10,12 +10,11 @@ ghost use Rattle.ranges.specs.Lent.{rangeAt, rangesFrom, counted, Resolv
 use layer::Layer;
 use layer::LayerRange;
 use notation::answer::Answer;
+use notation::refusals::NO_ROOM;
 use numbers::big_endian::read_u16;
 
 // Simplified ranges neither overlap nor touch, so 32,767 layers hold at most 16,384 of them, of four bytes each.
 const BYTES: usize = 65536;
-
-const NO_ROOM: u8 = 5;
 
 // The k-th of the ranges that the bytes hold.
 fn range_at(bytes: &[u8], k: usize) -> LayerRange

@@ -3,6 +3,7 @@
 
 use charsets::whitespace_end;
 use notation::features::Features;
+use notation::limits::MAX_TEXT;
 use parse::parts::LeafAnswer;
 use parse::parts::Taken;
 ghost use mathlib.Core.Path.{_≡_};
@@ -14,9 +15,6 @@ ghost use Rattle.notation.specs.Numbers.{fromBits};
 ghost use Rattle.notation.specs.Grammar as rule;
 ghost use Rattle.parse.specs.Meaning as means;
 ghost use Rattle.reader.specs.Cursor as cursor;
-
-// Of a longer text no leaf is read: its places would not fit a record.
-const MAX_TEXT: usize = 65535;
 
 pub struct Reader<'a> {
     text: &'a [u8],

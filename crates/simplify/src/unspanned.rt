@@ -28,6 +28,7 @@ use layer::LayerRange;
 use layer::LayerRangeOption;
 use layer::SignedLayer;
 use notation::answer::Answer;
+use notation::refusals::NO_ROOM;
 use numbers::signed::is_negative;
 use numbers::signed::magnitude;
 use parse::layer_set_element;
@@ -35,9 +36,6 @@ use parse::parts::LayerSetElement;
 use parse::parts::LayerSetElementAnswer;
 use parse::parts::Taken;
 use record::spanned::LayerPrefixContents;
-
-// The refusal of a buffer that is too small.
-const NO_ROOM: u8 = 5;
 
 // Axes with fewer layers than this have a small table: clearing the large one costs more than all the rest.
 const FEW_LAYERS: u16 = 128;

@@ -29,7 +29,8 @@ use Rattle.laws.proofs.Readers.{
   Place, Yields, pick-read, took-front, took-is, weaken, yields-done, yields-fail, yields-bind, yields-or, yields-when, yields-just, yields-someWhitespace,
   yields-padded, yields-spanned, yields-separatedBy, run-le
 }
-use Rattle.sizes.proofs.Digits.{digits, repeats, Number, natAbs-neg, signed-least, yields-uint, yields-sint, yields-multiplier}
+use Rattle.numbers.proofs.TwosComplement.{natAbs-neg}
+use Rattle.sizes.proofs.Digits.{digits, repeats, Number, signed-least, yields-uint, yields-sint, yields-multiplier}
 use Rattle.sizes.proofs.Sets.{whole, yields-word, yields-constraintSet, yields-layerSet}
 
 abbrev pub layerBytes : Layers Span → ℕ

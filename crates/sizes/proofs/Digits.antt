@@ -14,8 +14,10 @@ use Rattle.notation.specs.Grammar.{uint, sint, multiplier, MAX-I32}
 use Rattle.notation.specs.Print.{putPrime, putMultiplier}
 use Rattle.laws.proofs.Bools.{and-left, and-right}
 use Rattle.laws.proofs.Readers.{
-  Place, Yields, pick-read, took-front, took-is, weaken, yields-done, yields-bind, yields-or, yields-just, digits-le
+  Place, Yields, pick-read, took-front, took-is, weaken, yields-done, yields-bind, yields-or, yields-just
 }
+use Rattle.numbers.proofs.Bounds.{digits-le}
+use Rattle.numbers.proofs.TwosComplement.{natAbs-neg}
 use Rattle.laws.proofs.ReadBack.Numbers.{show-apart}
 
 -- how many digits a number has
@@ -115,11 +117,6 @@ signedDigits z = length (showSigned z [])
 negative-digits : (v : ℕ) → signedDigits (negℤ (pos v)) ≤ 1 + digits v
 negative-digits zero = omega arith
 negative-digits (suc v) = omega arith
-
-pub natAbs-neg : (m : ℤ) → natAbs (negℤ m) ≡ natAbs m
-natAbs-neg (pos zero) = refl
-natAbs-neg (pos (suc n)) = refl
-natAbs-neg (negsuc n) = refl
 
 module _ {c : Place} where
   pub yields-uint : (low high : ℕ) → Yields c (uint low high) Number

@@ -6,19 +6,12 @@ ghost use Rattle.notation.specs.Entries.{outcome};
 ghost use Rattle.sound.specs.Sound.{Sound, recordsIn};
 use charsets::is_utf8;
 use notation::answer::Answer;
+use notation::limits::MAX_TEXT;
+use notation::refusals::NOT_UTF8;
+use notation::refusals::NOT_WELL_FORMED;
+use notation::refusals::TOO_LONG;
 use record::RECORD;
 use tree::well_formed;
-
-// The refusal of a buffer that is too small.
-pub const NO_ROOM: u8 = 5;
-
-const TOO_LONG: u8 = 1;
-
-const NOT_UTF8: u8 = 2;
-
-const NOT_WELL_FORMED: u8 = 6;
-
-const MAX_TEXT: usize = 65535;
 
 // How many records the tree has, or refusal 1, 2 or 6.
 pub fn check(text: &[u8], tree: &[u8]) -> Answer

@@ -3,6 +3,7 @@
 use crate::leaf::move_ok;
 use crate::leaf::multiplier_ok;
 use crate::leaf::rotation_ok;
+use notation::limits::MAX_NESTING;
 use record::RECORD;
 use record::decode::layered_move;
 use record::decode::rotation;
@@ -24,8 +25,6 @@ ghost use Rattle.notation.specs.Packed.{RECORD, record25, headAt};
 ghost use Rattle.notation.specs.WellFormed.{multiplierOk, wellFormed};
 ghost use Rattle.record.specs.Meaning.{field};
 ghost use Rattle.tree.specs.Formed.{formed, firstOk};
-
-const MAX_NESTING: usize = 64;
 
 pub fn well_formed(text: &[u8], tree: &[u8]) -> bool
     ensures { λ r. ⌜ r ≡ wellFormed (now (text .entry)) (now (tree .entry)) ⌝ }
