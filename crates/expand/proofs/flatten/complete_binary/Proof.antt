@@ -29,23 +29,11 @@ add-whole c = omega (arith, total-room (c .before .before .pre) (c .if1 .taken),
 repeat-requires : tie.Need-repeat-requires
 repeat-requires c κs = omega (arith, total-room (c .before .before .before .pre) (c .before .if1 .taken))
 
-sub-turn : tie.Need-sub-turn
-sub-turn c = search needs
-
-part-turn-start : tie.Need-part-turn-start
-part-turn-start c = search needs
-
 part-turn-end : tie.Need-part-turn-end
 part-turn-end c = omega (arith, third-room (c .before .before .before .before .before .before .pre), c .before .before .repeat .kept .0)
 
 turn-requires : tie.Need-turn-requires
 turn-requires c κs = let p = c .before .before .before .before .before .before .before .pre in first-held p (twice p (c .before .before .before .repeat .ensures))
-
-sub-turn-2 : tie.Need-sub-turn-2
-sub-turn-2 c = search needs
-
-part-turn-start-2 : tie.Need-part-turn-start-2
-part-turn-start-2 c = search needs
 
 part-turn-end-2 : tie.Need-part-turn-end-2
 part-turn-end-2 c =
@@ -59,9 +47,6 @@ turn-requires-2 c κs =
     let p = c .before .before .before .before .before .before .before .before .before .before .before .pre in
     second-held p (second-of p (twice p (c .before .before .before .before .before .before .before .repeat .ensures)) (c .before .before .before .turn .ensures))
 
-same-length : tie.Need-same-length
-same-length c = search needs
-
 returns : tie.Need-returns
 returns c =
     let p = c .before .before .before .before .before .before .before .before .before .before .before .before .before .before .pre in
@@ -70,20 +55,11 @@ returns c =
 repeat-requires-2 : tie.Need-repeat-requires-2
 repeat-requires-2 c κs = omega (arith, third-room (c .before .before .before .pre))
 
-sub-turn-3 : tie.Need-sub-turn-3
-sub-turn-3 c = search needs
-
-part-turn-start-3 : tie.Need-part-turn-start-3
-part-turn-start-3 c = search needs
-
 part-turn-end-3 : tie.Need-part-turn-end-3
 part-turn-end-3 c = omega (arith, third-room (c .before .before .before .before .before .before .pre), c .before .before .repeat2 .kept .0)
 
 turn-requires-3 : tie.Need-turn-requires-3
 turn-requires-3 c κs = let p = c .before .before .before .before .before .before .before .pre in first-held p (once p (c .before .before .before .repeat2 .ensures))
-
-same-length-2 : tie.Need-same-length-2
-same-length-2 c = search needs
 
 returns-2 : tie.Need-returns-2
 returns-2 c =
@@ -98,20 +74,20 @@ complete-binary-spec =
     add-third
     add-whole
     repeat-requires
-    sub-turn
-    part-turn-start
+    (λ c. search needs)  -- sub-turn
+    (λ c. search needs)  -- part-turn-start
     part-turn-end
     turn-requires
-    sub-turn-2
-    part-turn-start-2
+    (λ c. search needs)  -- sub-turn-2
+    (λ c. search needs)  -- part-turn-start-2
     part-turn-end-2
     turn-requires-2
-    same-length
+    (λ c. search needs)  -- same-length
     returns
     repeat-requires-2
-    sub-turn-3
-    part-turn-start-3
+    (λ c. search needs)  -- sub-turn-3
+    (λ c. search needs)  -- part-turn-start-3
     part-turn-end-3
     turn-requires-3
-    same-length-2
+    (λ c. search needs)  -- same-length-2
     returns-2)

@@ -9,23 +9,8 @@ use borrow.Author.Needs.{needs}
 use Rattle.expand.proofs.flatten.repeat_block.Statement.{statement}
 use Rattle.expand.proofs.flatten.repeat_block.Tie as tie
 
-magnitude-requires : tie.Need-magnitude-requires
-magnitude-requires c κs = search needs
-
-cast-total : tie.Need-cast-total
-cast-total c = search needs
-
 mul-total : tie.Need-mul-total
 mul-total c = omega (arith, ap (λ (z : ℕ). c .before .before .args .size * z) (c .magnitude .ensures), c .before .before .pre .room, c .before .before .good)
-
-is-negative-requires : tie.Need-is-negative-requires
-is-negative-requires c κs = search needs
-
-sub-turn : tie.Need-sub-turn
-sub-turn c = search needs
-
-part-turn-start : tie.Need-part-turn-start
-part-turn-start c = search needs
 
 part-turn-end : tie.Need-part-turn-end
 part-turn-end c = omega (arith, one-repeat (c .before .before .before .before .pre), c .before .before .before .before .pre .room)
@@ -40,9 +25,6 @@ repeat-requires c κs = (
       (omega (arith, ap (λ (z : ℕ). c .before .before .before .before .before .before .before .before .before .args .size * z) (c .before .before .before .before .before .before .before .magnitude .ensures), c .before .before .before .before .before .before .before .before .before .pre .room)),
 )
 
-same-length : tie.Need-same-length
-same-length c = search needs
-
 returns : tie.Need-returns
 returns c =
     turned-written (fromBits 32 (c .before .before .before .before .before .before .before .before .before .before .before .before .args .multiplier)) (c .before .before .before .before .before .before .before .before .before .before .magnitude .ensures) (c .before .before .before .before .before .before .before .before .before .before .before .before .pre) (sym (c .before .before .before .before .before .before .before .before .before .is-negative .ensures) ∙ c .before .before .before .before .before .before .before .before .if1 .taken)
@@ -50,9 +32,6 @@ returns c =
 
 repeat-requires-2 : tie.Need-repeat-requires-2
 repeat-requires-2 c κs = omega (arith, ap (λ (z : ℕ). c .before .before .before .before .before .args .size * z) (c .before .before .before .magnitude .ensures), one-repeat (c .before .before .before .before .before .pre), c .before .before .before .before .before .pre .room)
-
-same-length-2 : tie.Need-same-length-2
-same-length-2 c = search needs
 
 returns-2 : tie.Need-returns-2
 returns-2 c =
@@ -63,17 +42,17 @@ pub repeat-block-spec : {M : Type 1} → statement M
 repeat-block-spec =
     tie.close
     (tie.spec
-    magnitude-requires
-    cast-total
+    (λ c κs. search needs)  -- magnitude-requires
+    (λ c. search needs)  -- cast-total
     mul-total
-    is-negative-requires
-    sub-turn
-    part-turn-start
+    (λ c κs. search needs)  -- is-negative-requires
+    (λ c. search needs)  -- sub-turn
+    (λ c. search needs)  -- part-turn-start
     part-turn-end
     turn-requires
     repeat-requires
-    same-length
+    (λ c. search needs)  -- same-length
     returns
     repeat-requires-2
-    same-length-2
+    (λ c. search needs)  -- same-length-2
     returns-2)

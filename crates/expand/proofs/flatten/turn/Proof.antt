@@ -14,61 +14,25 @@ abbrev μ-loop : tie.MeasureT-loop
 loop-holds : tie.Need-loop-holds Inv-loop μ-loop
 loop-holds c = turning-starts _ (c .before .pre)
 
-add-loop : tie.Need-add-loop Inv-loop μ-loop
-add-loop c = search needs
-
-sub-exchange-ends : tie.Need-sub-exchange-ends Inv-loop μ-loop
-sub-exchange-ends c = search needs
-
-part-exchange-ends-start : tie.Need-part-exchange-ends-start Inv-loop μ-loop
-part-exchange-ends-start c = search needs
-
-part-exchange-ends-end : tie.Need-part-exchange-ends-end Inv-loop μ-loop
-part-exchange-ends-end c = search needs
-
 exchange-ends-requires : tie.Need-exchange-ends-requires Inv-loop μ-loop
 exchange-ends-requires c κs =
     let at-loop = c .before .before in
     (two-long (at-loop .before .before .pre) (at-loop .loop .inv) (c .before .loop-test .taken), ends-start (at-loop .before .before .pre) (at-loop .loop .inv) (c .before .loop-test .taken))
-
-add-from : tie.Need-add-from Inv-loop μ-loop
-add-from c = search needs
-
-sub-to : tie.Need-sub-to Inv-loop μ-loop
-sub-to c = search needs
-
-loop-less : tie.Need-loop-less Inv-loop μ-loop
-loop-less c = search needs
 
 loop-again : tie.Need-loop-again Inv-loop μ-loop
 loop-again c =
     let at-loop = c .before .before .before .before .before in
     turning-goes-on (at-loop .before .before .pre) (at-loop .loop .inv) (c .before .before .before .before .loop-test .taken) (c .before .before .exchange-ends .ensures) (c .before .before .exchange-ends .kept .0)
 
-sub-undo-record : tie.Need-sub-undo-record Inv-loop μ-loop
-sub-undo-record c = search needs
-
-part-undo-record-start : tie.Need-part-undo-record-start Inv-loop μ-loop
-part-undo-record-start c = search needs
-
-part-undo-record-end : tie.Need-part-undo-record-end Inv-loop μ-loop
-part-undo-record-end c = search needs
-
 undo-record-requires : tie.Need-undo-record-requires Inv-loop μ-loop
 undo-record-requires c κs =
     let at-loop = c .before .before .before in
     only-starts (at-loop .before .before .pre) (at-loop .loop .inv) (c .before .before .loop-test .left) (c .before .if1 .taken)
 
-same-length : tie.Need-same-length Inv-loop μ-loop
-same-length c = search needs
-
 returns : tie.Need-returns Inv-loop μ-loop
 returns c =
     let at-loop = c .before .before .before .before .before .before in
     turned-odd (at-loop .before .before .pre) (at-loop .loop .inv) (c .before .before .before .before .before .loop-test .left) (c .before .before .before .before .if1 .taken) (c .before .before .undo-record .ensures)
-
-same-length-2 : tie.Need-same-length-2 Inv-loop μ-loop
-same-length-2 c = search needs
 
 returns-2 : tie.Need-returns-2 Inv-loop μ-loop
 returns-2 c = turned-even (c .before .before .before .before .pre) (c .before .before .loop .inv) (c .if1 .left)
@@ -80,20 +44,20 @@ turn-spec =
     Inv-loop
     μ-loop
     loop-holds
-    add-loop
-    sub-exchange-ends
-    part-exchange-ends-start
-    part-exchange-ends-end
+    (λ c. search needs)  -- add-loop
+    (λ c. search needs)  -- sub-exchange-ends
+    (λ c. search needs)  -- part-exchange-ends-start
+    (λ c. search needs)  -- part-exchange-ends-end
     exchange-ends-requires
-    add-from
-    sub-to
-    loop-less
+    (λ c. search needs)  -- add-from
+    (λ c. search needs)  -- sub-to
+    (λ c. search needs)  -- loop-less
     loop-again
-    sub-undo-record
-    part-undo-record-start
-    part-undo-record-end
+    (λ c. search needs)  -- sub-undo-record
+    (λ c. search needs)  -- part-undo-record-start
+    (λ c. search needs)  -- part-undo-record-end
     undo-record-requires
-    same-length
+    (λ c. search needs)  -- same-length
     returns
-    same-length-2
+    (λ c. search needs)  -- same-length-2
     returns-2)
