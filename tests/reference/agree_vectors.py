@@ -14,7 +14,7 @@ from entry_vectors import LARGE, NISS, PAIRS, TEXTS, TOP, random_texts
 from lines import ROOM, checksum, spelled
 from reading_vectors import MAX, MIN, WCA
 
-MOST, MOST_STEP = 3000, 50  # the longest buffers that the program can lend
+MOST, MOST_STEP = 4560, 76  # the longest buffers that the program can lend
 UNROLLED = 20000  # longer lists are not made
 STEP = n.RECORD + 2
 MORE_PLACES = (TOP, TOP + 1, 1 << 63, (1 << 64) - 1)
@@ -89,13 +89,19 @@ def demand(text, features, place):
     assert unrolled is None or len(unrolled) == total, text
     assert found.count == found.recount == total, text
     assert min(found.read.answer, found.inverse.answer, found.printed.answer, found.back.answer) >= 0, text
+    # without room for a step all the rest holds as well
+    short = Agreement(text, features, place, 1 << 20, 0)
+    assert (short.count, short.recount, short.read.answer, short.back.answer) == (total, total, found.read.answer, found.back.answer), text
     if place < total:
         step = n.step_at(nodes, place) if unrolled is None else unrolled[place]
-        assert found.step.written == n.record(step), text
-        undone, = n.opened(found.printed.written, found.undone.written)
+        assert found.step.written == n.record(step) and short.step.answer == -5, text
+        back = n.read(found.printed.written, features)
+        from_end = total - 1 - place
+        undone = n.step_at(back, from_end) if unrolled is None else n.unroll(back)[from_end]
+        assert found.undone.written == n.record(undone), text
         assert meaning(undone) == meaning(n.undo(step)), text
     else:
-        assert found.step.answer == -10, text
+        assert found.step.answer == short.step.answer == -10, text
     return True
 
 
@@ -146,8 +152,9 @@ def rooms():
     for step_room in (0, 1, n.RECORD - 1, n.RECORD, n.RECORD + 1, MOST_STEP):
         for text, place in (("R U2'", 1), ("R", 1), ("^(R)", 0), ("((-2147483648,0))", 0)):
             yield case(text, place, step_room=step_room)
-    yield case("R " * 120, 119, room=MOST)
-    yield case("R " * 121, 120, room=MOST)
+    most = MOST // n.RECORD
+    yield case("R " * most, most - 1, room=MOST)
+    yield case("R " * (most + 1), most, room=MOST)
 
 
 def refused():

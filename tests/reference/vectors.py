@@ -11,7 +11,7 @@ import oracle_vectors
 import reading_vectors
 
 HOME = os.path.join(os.path.dirname(os.path.abspath(__file__)), "..", "..", "crates", "replay")
-MOST = 2097152  # what the program reads at most
+MOST = 64 * 262144  # what the program reads at most: so many pieces
 
 
 def main():
