@@ -1,4 +1,5 @@
 -- Small facts.
+pub mod Outcomes
 pub mod Bools
 -- Unrolling, inverses, counting, seeking.
 pub mod Unrolling
