@@ -14,7 +14,7 @@ use Rattle.notation.specs.Meaning.{SameStep}
 use Rattle.notation.specs.Invert.{undo}
 use Rattle.notation.specs.Unroll.{flatten}
 use Rattle.notation.specs.Entries.{
-  Lent, lend, kept, outcome, value, reading, inverse, display, parseNotation, invEntry, displayEntry, countSteps, seekStep
+  Lent, lent, lend, kept, outcome, value, reading, inverse, display, parseNotation, invEntry, displayEntry, countSteps, seekStep
 }
 use Rattle.notation.specs.Demands.{Gives, Agrees, Demand3, printedInverse, treeBack}
 use Rattle.notation.specs.declared.features.Features.{Features}
@@ -22,7 +22,7 @@ use Rattle.notation.specs.declared.answer.Answer.{Answer}
 use Rattle.record.proofs.RoundTrip.{length-record25}
 use Rattle.laws.proofs.DemandThree.{theorem}
 use Rattle.hypuz_notation.specs.declared.agreement.Agreement.{Agreement}
-use Rattle.hypuz_notation.specs.Agreement.{Buffers, front, lent, Found, Run, Assumed, Demanded, Agreed}
+use Rattle.hypuz_notation.specs.Agreement.{Buffers, front, Found, Run, Assumed, Demanded, Agreed}
 
 -- a result at the front of a buffer, and its length
 abbrev filled : List ℕ → List ℕ → Lent ℕ

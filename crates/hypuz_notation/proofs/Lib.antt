@@ -1,3 +1,2 @@
 pub mod Agreeing
 pub mod Handing
-pub mod Values

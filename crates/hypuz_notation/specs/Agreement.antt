@@ -11,7 +11,7 @@ use Rattle.notation.specs.Meaning.{SameStep}
 use Rattle.notation.specs.Invert.{undo}
 use Rattle.notation.specs.Unroll.{flatten}
 use Rattle.notation.specs.Entries as rule
-use Rattle.notation.specs.Entries.{Lent, outcome, value, parseNotation, invEntry, displayEntry, countSteps, seekStep, MAX-TEXT}
+use Rattle.notation.specs.Entries.{outcome, value, lent, parseNotation, invEntry, displayEntry, countSteps, seekStep, MAX-TEXT}
 use Rattle.notation.specs.Demands.{Unrollable, printedInverse, treeBack, AtMost}
 use Rattle.notation.specs.declared.features.Features.{Features}
 use Rattle.notation.specs.declared.answer.Answer.{Answer}
@@ -29,10 +29,6 @@ pub record Buffers : Type 0 where
 -- the part of a buffer that an answer says is used
 abbrev pub front : Answer → List ℕ → List ℕ
 front a buffer = take (value (outcome a)) buffer
-
--- an answer and the buffer after it
-abbrev pub lent : Answer → List ℕ → Lent ℕ
-lent a buffer = record { answer = outcome a; buffer = buffer }
 
 -- Which rule each answer is of, and with it the buffer after the run: each entry took what the one before it had written.
 pub record Run (f : Features) (text : List ℕ) (k : ℕ) (r : Agreement) (before after : Buffers) : Type 0 where

@@ -1,4 +1,5 @@
 -- Small facts.
+pub mod Outcomes
 pub mod Bools
 pub mod ListEntries
 -- Unrolling, inverses, counting, seeking.

@@ -45,6 +45,10 @@ pub record Lent (A : Type 0) : Type 0 where
   pub answer : Outcome ℕ
   pub buffer : List A
 
+-- an answer of the code and the buffer after it
+abbrev pub lent : {A : Type 0} → Answer → List A → Lent A
+lent a buffer = record { answer = outcome a; buffer = buffer }
+
 abbrev pub kept : {A : Type 0} → ℕ → List A → Lent A
 kept r buffer = record { answer = refusal r; buffer = buffer }
 

@@ -34,6 +34,7 @@ pub record Hands (r : ℕ) (buffer : List ℕ) (rule : Lent ℕ) : Type 0 where
 
 -- Why nothing is lost by the modulo: a value below 2^56 is told whole, and no value reaches 2^56. Those of the inverses and of printing are at most
 -- the length of the buffer that is lent, and no machine has one of 2^56 bytes; the others are below 2^56 whatever is lent.
+-- The theorem is `never-bites` in crates/values/proofs/Values.antt.
 abbrev pub Small : Outcome ℕ → Type 0
 Small o = value o < VALUES
 

@@ -13,9 +13,10 @@ use Rattle.notation.specs.declared.answer.Answer.{Answer}
 use Rattle.notation.specs.declared.answer.Answer.the-variants.{Value, Refused}
 use Rattle.layer.specs.Meaning.{range}
 use Rattle.layer.specs.declared.range.LayerRange.{LayerRange}
+use Rattle.laws.proofs.Outcomes.{no-refusal, same-result}
+use Rattle.simplify.proofs.Few.{few}
 use Rattle.simplify.proofs.Answers.{length-rangeBytes, answered}
 use Rattle.ranges.specs.Lent.{rangesFrom, Resolved}
-use Rattle.ranges.proofs.Few.{few, refusal-result, result-result}
 use Rattle.ranges.proofs.Reading.{read-back}
 
 map-drop : (f : LayerRange → Range) (k : ℕ) (zs : List LayerRange) → map f (drop k zs) ≡ drop k (map f zs)
@@ -45,17 +46,17 @@ module _ (text tree : List ℕ) (k n : ℕ) (neg : Bool) (room : ℕ) (bytes byt
           let f : refusal v ≡ refusal w = sym (ap outcome is) ∙ refused-by w q in
           rw is (record { enough = omega arith; inside = omega arith; same = λ zs e. rw (q, f) })
       go (result l) q =
-          absurd (refusal-result (sym (ap outcome is) ∙ ap (λ (x : Lent ℕ). x .answer) (rule ∙ bytes-of l q)))
+          no-refusal (sym (ap outcome is) ∙ ap (λ (x : Lent ℕ). x .answer) (rule ∙ bytes-of l q))
 
     module _ (m : ℕ) (is : r ≡ Value m) where
       -- the ranges, and what is known of them
       found : (l : List Range) → layerRanges text tree k n neg ≡ result l → (m ≡ length l) × (bytes′ ≡ rangeBytes l ++ drop (4 * length l) bytes)
       found l q =
           let e = rule ∙ bytes-of l q in
-          (result-result (sym (ap outcome is) ∙ ap (λ (x : Lent ℕ). x .answer) e), ap (λ (x : Lent ℕ). x .buffer) e)
+          (same-result (sym (ap outcome is) ∙ ap (λ (x : Lent ℕ). x .answer) e), ap (λ (x : Lent ℕ). x .buffer) e)
 
       none : (w : ℕ) → layerRanges text tree k n neg ≡ refusal w → ⊥
-      none w q = refusal-result (sym (refused-by w q) ∙ ap outcome is)
+      none w q = no-refusal (sym (refused-by w q) ∙ ap outcome is)
 
       pub resolved-full : room < m → Resolved text tree k n neg room (Refused 5) bytes′
       resolved-full h = go (layerRanges text tree k n neg) refl where

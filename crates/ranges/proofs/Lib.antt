@@ -2,8 +2,6 @@
 pub mod Front
 -- A local array of bytes in a walk.
 pub mod Local
--- How many simplified ranges there can be.
-pub mod Few
 -- Ranges read back from their bytes.
 pub mod Reading
 -- What is answered.

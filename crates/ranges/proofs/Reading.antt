@@ -12,8 +12,8 @@ use Rattle.numbers.proofs.BigEndian.{fromBigEndian-bigEndian}
 use Rattle.layer.specs.Meaning.{range}
 use Rattle.layer.specs.declared.range.LayerRange.{LayerRange}
 use Rattle.simplify.proofs.Table.{All, nothing, _and_}
+use Rattle.simplify.proofs.Few.{Short}
 use Rattle.ranges.specs.Lent.{rangesFrom}
-use Rattle.ranges.proofs.Few.{Short}
 
 two-of : (s : List ℕ) (n : ℕ) (rest : List ℕ) → n < 65536 → s ≡ bigEndian 2 n ++ rest → fromBigEndian (take 2 s) ≡ n
 unfolding digits

@@ -10,27 +10,22 @@ use lib.Dec.{leb}
 use lib.ListN.{length, take, drop, replicate, length-replicate}
 use lib.Seq.{sets}
 use borrow.Author.Tests.{leb-true, le-leb, lt-leb}
-use Rattle.notation.specs.Basics.{every}
 use Rattle.notation.specs.Numbers.{bigEndian, digits}
 use Rattle.notation.specs.Layers.{Range, MAX-LAYER, insert, sort, joinFrom, join, simplified, setRanges, keep}
 use Rattle.notation.specs.Tree.{Layers, Span, partOf, singleLayer, layerRange, layerSet}
 use Rattle.notation.specs.Meaning.{layerSetIn, orEmpty}
 use Rattle.notation.specs.WellFormed.{isSome, inside, layersOk}
 use Rattle.notation.specs.Refusals.{result}
-use Rattle.notation.specs.Grammar.{layerSetElements}
-use Rattle.notation.specs.Entries.{lend, inEntries, rangeBytes}
+use Rattle.notation.specs.Entries.{lent, lend, inEntries, rangeBytes}
 use Rattle.notation.specs.declared.answer.Answer.the-variants.{Value, Refused}
 use Rattle.layer.specs.Meaning.{IsLayer, IsRange}
 use Rattle.laws.proofs.Bools.{false-true, and-left, and-right}
-use Rattle.laws.proofs.InRange.{elementInRange}
-use Rattle.laws.proofs.Readers.{anywhere}
-use Rattle.laws.proofs.ReadingYields.{yields-element, yields-braces}
 use Rattle.simplify.specs.Reach.{rangeFrom}
-use Rattle.simplify.specs.Elements.{lent, markedSet}
+use Rattle.simplify.specs.Elements.{markedSet}
 use Rattle.simplify.proofs.Table.{Gathered, gathers}
 use Rattle.simplify.proofs.Sweep.{none-written, all-written, one-written}
-use Rattle.simplify.proofs.SetElements.{whole}
 use Rattle.simplify.proofs.ElementRanges.{set-ranges}
+use Rattle.simplify.proofs.Few.{set-read}
 
 -- ── a buffer with room, and one without ──
 
@@ -79,12 +74,9 @@ length-zeros k m h = sym (ap length (take-zeros k m h) ∙ length-replicate k 0)
 
 pub set-gathered : (n : ℕ) → IsLayer n → (allowed : Bool) (part s₀ s : List ℕ) → isSome (layerSetIn part) ≡ true → s₀ ≡ replicate (n + 1) 0 →
     s ≡ markedSet n allowed (orEmpty (layerSetIn part)) s₀ → Gathered n (setRanges n allowed (orEmpty (layerSetIn part))) s
-unfolding layerSetIn layerSetElements
 set-gathered n real allowed part s₀ s h e f =
-    let w = whole (layerSetElements true 0 part) h in
-    let y = yields-braces {c = anywhere} elementInRange (yields-element true) .took 0 part tt (w .0) (w .1) [] (w .2) in
-    let es : every elementInRange (orEmpty (layerSetIn part)) ≡ true = rw (w .3) (y .holds) in
-    gathers n (setRanges n allowed (orEmpty (layerSetIn part))) (set-ranges n allowed (real .low) (orEmpty (layerSetIn part)) es) s₀ s e f
+    gathers n (setRanges n allowed (orEmpty (layerSetIn part)))
+    (set-ranges n allowed (real .low) (orEmpty (layerSetIn part)) (set-read part true h)) s₀ s e f
 
 -- ── the layers of a move ──
 

@@ -6,5 +6,7 @@ pub mod Sweep
 pub mod SetElements
 -- What each of them marks.
 pub mod ElementRanges
+-- How many simplified ranges there can be.
+pub mod Few
 -- What is answered.
 pub mod Answers

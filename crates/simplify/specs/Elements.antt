@@ -7,7 +7,7 @@ use mathlib.Core.Option.{Option, none, some}
 use lib.IntN.{natAbs}
 use Rattle.notation.specs.Layers.{Range, LayerSetElement, single, range, elementRange, setRanges, simplified}
 use Rattle.notation.specs.Refusals.{result}
-use Rattle.notation.specs.Entries.{Lent, outcome, lend, inEntries, rangeBytes}
+use Rattle.notation.specs.Entries.{lent, lend, inEntries, rangeBytes}
 use Rattle.notation.specs.declared.answer.Answer.{Answer}
 use Rattle.layer.specs.Meaning.{IsLayer}
 use Rattle.simplify.specs.Reach.{marked, markedAll}
@@ -28,10 +28,6 @@ markedElement n neg e reach = markedIf (elementRange n neg e) reach
 -- the table with those of a set
 abbrev pub markedSet : ℕ → Bool → List LayerSetElement → List ℕ → List ℕ
 markedSet n neg es reach = markedAll (setRanges n neg es) reach
-
--- an answer and the buffer after it
-abbrev pub lent : Answer → List ℕ → Lent ℕ
-lent answer buffer = record { answer = outcome answer; buffer = buffer }
 
 -- the answer for some ranges: simplified, and lent as entries of four bytes
 abbrev pub Gives : List Range → Answer → List ℕ → List ℕ → Type 0

@@ -1,7 +1,7 @@
 -- Simplified ranges neither overlap nor touch: an axis of n layers has at most (n + 1) / 2 of them, and their ends fit 16 bits. Assumes nothing.
 use Prim.Native.Nat.{ℕ, _+_, _*_, _≤_, _<_, min, max}
 use native.Mathlib.Omega.{arith}
-use mathlib.Core.Path.{_≡_, refl, sym, ap, subst}
+use mathlib.Core.Path.{_≡_, refl, sym, subst}
 use mathlib.Core.Bool.{Bool, true, false}
 use mathlib.Core.List.{List, [], _∷_}
 use mathlib.Core.Option.{Option, none, some}
@@ -9,22 +9,22 @@ use lib.Dec.{leb}
 use lib.ListN.{length}
 use borrow.Author.Tests.{leb-true, leb-false}
 use Rattle.notation.specs.Basics.{pick, choose, between, every}
-use Rattle.notation.specs.Refusals.{Outcome, refusal, result, _>>=_, _>>_, unless, NO-SUCH-LAYER-COUNT}
+use Rattle.notation.specs.Refusals.{result, unless, NO-SUCH-LAYER-COUNT}
 use Rattle.notation.specs.Layers.{Range, LayerSetElement, MAX-LAYER, insert, sort, touching, joined, joinFrom, join, simplified, clampToLayerCount, setRanges, keep}
-use Rattle.notation.specs.Tree.{Layers, noLayers, singleLayer, layerRange, layerSet, Span, partOf, Tree}
-use Rattle.notation.specs.Packed.{Head}
+use Rattle.notation.specs.Tree.{Layers, noLayers, singleLayer, layerRange, layerSet, Span, partOf}
 use Rattle.notation.specs.Grammar.{layerSetElements}
 use Rattle.notation.specs.Meaning.{layerSetIn, orEmpty}
 use Rattle.notation.specs.WellFormed.{isSome}
 use Rattle.notation.specs.Entries.{checked, recordAt, layersOf, rangesIn, layerRanges}
 use Rattle.layer.specs.Meaning.{RangeUpTo}
 use Rattle.laws.proofs.Bools.{false-true, and-left, and-right}
+use Rattle.laws.proofs.Outcomes.{same-result, after, held}
 use Rattle.laws.proofs.InRange.{elementInRange}
 use Rattle.laws.proofs.Readers.{anywhere}
 use Rattle.laws.proofs.ReadingYields.{yields-element, yields-braces}
 use Rattle.simplify.proofs.Table.{All, nothing, _and_, Deeper, Sorted, empty, first, all-weaken, all-sort, sort-sorted}
 use Rattle.simplify.proofs.SetElements.{whole}
 use Rattle.simplify.proofs.ElementRanges.{set-ranges}
 
 -- both ends fit 16 bits
 pub record Short (r : Range) : Type 0 where
@@ -97,7 +97,7 @@ none-read none h = refl
 none-read (some l) h = absurd (false-true (sym h))
 
 -- what the grammar reads as a set has layers from 1 to 32,767 only
-set-read : (part : List ℕ) (t : Bool) → isSome (layerSetIn part) ≡ t → every elementInRange (orEmpty (layerSetIn part)) ≡ true
+pub set-read : (part : List ℕ) (t : Bool) → isSome (layerSetIn part) ≡ t → every elementInRange (orEmpty (layerSetIn part)) ≡ true
 unfolding layerSetIn layerSetElements
 set-read part true h =
     let w = whole (layerSetElements true 0 part) h in
@@ -115,38 +115,13 @@ few-layers text n neg (layerSet p) least most =
 
 -- ── the rule's ranges ──
 
-is-result : {A : Type 0} → Outcome A → ℕ
-is-result (refusal r) = 0
-is-result (result a) = 1
-
-pub refusal-result : {A : Type 0} {r : ℕ} {a : A} → _≡_ {A = Outcome A} (refusal r) (result a) → ⊥
-unfolding is-result
-refusal-result e = let z : _≡_ {A = ℕ} 0 1 = ap is-result e in omega (arith, z)
-
-the-result : {A : Type 0} → A → Outcome A → A
-the-result d (refusal r) = d
-the-result d (result a) = a
-
-pub result-result : {A : Type 0} {a b : A} → _≡_ {A = Outcome A} (result a) (result b) → a ≡ b
-unfolding the-result
-result-result {a = a} e = ap (the-result a) e
-
-module _ (text tree : List ℕ) (k n : ℕ) (neg : Bool) (l : List Range) where
-  abbrev after : Layers Span → Outcome (List Range)
-  after ls = result (simplified (rangesIn text n neg ls))
-
-  of-layers : (o : Outcome (Layers Span)) → 1 ≤ n → n ≤ MAX-LAYER → _>>=_ o after ≡ result l → Few l
-  of-layers (refusal r) least most e = absurd (refusal-result e)
-  of-layers (result ls) least most e = subst Few (result-result e) (few-layers text n neg ls least most)
-
-  of-record : (c : Outcome Tree) (t : Bool) → between 1 MAX-LAYER n ≡ t → (h : Outcome Head) →
-      _>>_ c (_>>_ (unless NO-SUCH-LAYER-COUNT t) (_>>=_ h (λ h. _>>=_ (layersOf h) after))) ≡ result l → Few l
-  of-record (refusal r) t b h e = absurd (refusal-result e)
-  of-record (result x) false b h e = absurd (refusal-result e)
-  of-record (result x) true b (refusal r) e = absurd (refusal-result e)
-  of-record (result x) true b (result h) e =
-      of-layers (layersOf h) (leb-true 1 n (and-left _ (leb n MAX-LAYER) b)) (leb-true n MAX-LAYER (and-right (leb 1 n) _ b)) e
-
-  pub few : layerRanges text tree k n neg ≡ result l → Few l
-  unfolding layerRanges
-  few e = of-record (checked text tree) (between 1 MAX-LAYER n) refl (recordAt tree k) e
+pub few : (text tree : List ℕ) (k n : ℕ) (neg : Bool) (l : List Range) → layerRanges text tree k n neg ≡ result l → Few l
+unfolding layerRanges
+few text tree k n neg l e =
+    let c = after (checked text tree) e in
+    let b = after (unless NO-SUCH-LAYER-COUNT (between 1 MAX-LAYER n)) (c .2) in
+    let h = after (recordAt tree k) (b .2) in
+    let ls = after (layersOf (h .0)) (h .2) in
+    let real = held NO-SUCH-LAYER-COUNT (between 1 MAX-LAYER n) (b .1) in
+    subst Few (same-result (ls .2))
+    (few-layers text n neg (ls .0) (leb-true 1 n (and-left _ (leb n MAX-LAYER) real)) (leb-true n MAX-LAYER (and-right (leb 1 n) _ real)))

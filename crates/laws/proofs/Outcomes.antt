@@ -1,0 +1,21 @@
+-- What a rule gives that asks others one after another, by what each of them gave. Assumes nothing.
+use Prim.Native.Nat.{ℕ}
+use mathlib.Core.Path.{_≡_, refl}
+use mathlib.Core.Bool.{Bool, true, false}
+use native.Mathlib.Omega.{arith}
+use Rattle.notation.specs.Refusals.{Outcome, refusal, result, _>>=_, unless}
+
+pub no-refusal : {A B : Type 0} {r : ℕ} {a : A} → _≡_ {A = Outcome A} (refusal r) (result a) → B
+no-refusal e = absurd (let n : _≡_ {A = ℕ} 0 1 = cc in omega arith)
+
+pub same-result : {A : Type 0} {a b : A} → _≡_ {A = Outcome A} (result a) (result b) → a ≡ b
+same-result e = cc
+
+-- what the first gave, and that the rest gave the result
+pub after : {A B : Type 0} (o : Outcome A) {f : A → Outcome B} {b : B} → _>>=_ o f ≡ result b → (a : A) × (o ≡ result a) × (f a ≡ result b)
+after (refusal r) e = no-refusal e
+after (result a) e = (a, refl, e)
+
+pub held : (r : ℕ) {u : Unit {0}} (t : Bool) → unless r t ≡ result u → t ≡ true
+held r true e = refl
+held r false e = no-refusal e

@@ -1,0 +1,2 @@
+-- The modulo of the C functions' answers never bites.
+pub mod Values
