@@ -3,13 +3,13 @@
  * Link with target/staticlib/libhypuz_notation.a, made by `rt staticlib hypuz_notation`. The functions need no library, no heap and no
  * start-up call, keep no state and may be called from any number of threads, each with its own buffers.
  *
- * Every function answers one number: a refusal's number times 2^56, plus the value modulo 2^56 (0 when refused). Take it apart with
- * hypuz_refusal and hypuz_value. A refusal leaves every byte of a lent buffer as it was; after success the bytes past the used part are as
- * they were.
+ * Every function answers one number: a refusal's number times 2^56, plus the value modulo 2^56 (0 when refused). No value reaches 2^56 where
+ * no buffer has so many bytes, so nothing is lost. Take it apart with hypuz_refusal and hypuz_value. A refusal leaves every byte of a lent
+ * buffer as it was; after success the bytes past the used part are as they were.
  *
  * A buffer is a pointer and a length in bytes. The pointer may not be null, also when the length is 0; a text, a tree and a buffer that is
- * written may not overlap. A text is UTF-8 of at most 65,535 bytes. A tree is a run of 25-byte records over its text, as
- * hypuz_parse_notation writes it; any bytes may be given as a tree, and are refused with 6 if they are not one.
+ * written may not overlap. A text is UTF-8 of at most 65,535 bytes. A tree is a run of records of HYPUZ_RECORD bytes over its
+ * text, as hypuz_parse_notation writes it; any bytes may be given as a tree, and are refused with 6 if they are not one.
  *
  * Refusals: 1 text too long, 2 not UTF-8, 3 nested too deep, 4 not notation, 5 buffer too short, 6 not a tree over this text, 7 a NISS group
  * stands in the way, 8 a Square-1 number that cannot be negated, 9 more than 4,294,967,295 steps, 10 no such place, 11 no such number of
@@ -49,7 +49,7 @@ uint64_t hypuz_parse_notation(const uint8_t *text, size_t text_size, uint32_t fe
 /* How many steps the tree unrolls into. Refusals 1, 2, 6, 7 or 8, 9. */
 uint64_t hypuz_count_steps(const uint8_t *text, size_t text_size, const uint8_t *tree, size_t tree_size);
 
-/* The record of the step at a place, from 0: 25. Its time does not depend on the number of steps. Refusals 1, 2, 6, 7 or 8, 9, 10, 5. */
+/* The record of the step at a place, from 0: HYPUZ_RECORD. Its time does not depend on the number of steps. Refusals 1, 2, 6, 7 or 8, 9, 10, 5. */
 uint64_t hypuz_seek_step(const uint8_t *text, size_t text_size, const uint8_t *tree, size_t tree_size, uint64_t place, uint8_t *step, size_t step_size);
 
 /* The shallow inverse as a tree over the same text: bytes used. Refusals 1, 2, 6, 8, 5. */
