@@ -11,13 +11,13 @@ use Rattle.notation.specs.Invert.{undo}
 use Rattle.notation.specs.Print.{put, printed}
 use Rattle.notation.specs.Entries.{checked, inverse, display, steps}
 use Rattle.notation.specs.Lister.{line, field, stepLines, stepsPart, treePart}
+use Rattle.notation.specs.Demands.{printedInverse}
 use Rattle.laws.proofs.Unrolling.{flat}
 use Rattle.laws.proofs.Counting.{count, count-is}
 use Rattle.sound.specs.Sound.{Counted}
 use Rattle.entries.proofs.Stepping.{these}
 use Rattle.display.specs.Written.{Wrote}
 use Rattle.display.proofs.Writing.{wrote-as, wrote-then}
-use Rattle.listing.specs.Listing.{inverseShown}
 
 -- the same as a list that is put in front of what follows
 pub wrote-to : {old new : List ℕ} {at next : ℕ} {f : List ℕ → List ℕ} (l : List ℕ) → f [] ≡ l → Wrote old new at next f → Wrote old new at next (λ rest. l ++ rest)
@@ -44,10 +44,10 @@ pub display-refused : (text tree : List ℕ) (r : ℕ) → checked text tree ≡
 display-refused text tree r e = rw e
 
 -- the inverse, printed or refused
-pub inverse-given : (text tree l l′ : List ℕ) → inverse text tree ≡ result l → l′ ≡ l → field (display text l′) ≡ field (inverseShown text tree)
+pub inverse-given : (text tree l l′ : List ℕ) → inverse text tree ≡ result l → l′ ≡ l → field (display text l′) ≡ field (printedInverse text tree)
 inverse-given text tree l l′ e b = rw (e, b)
 
-pub inverse-refused : (text tree : List ℕ) (r : ℕ) → inverse text tree ≡ refusal r → field (refusal r) ≡ field (inverseShown text tree)
+pub inverse-refused : (text tree : List ℕ) (r : ℕ) → inverse text tree ≡ refusal r → field (refusal r) ≡ field (printedInverse text tree)
 inverse-refused text tree r e = rw e
 
 -- The count and the steps.
@@ -63,8 +63,8 @@ steps-refused text tree r e = rw e
 
 -- The lines of a tree.
 pub tree-lines : (text tree : List ℕ) →
-    line (put "text" []) (field (display text tree)) (line (put "inverse" []) (field (inverseShown text tree)) (stepsPart text (steps text tree) ++ []))
+    line (put "text" []) (field (display text tree)) (line (put "inverse" []) (field (printedInverse text tree)) (stepsPart text (steps text tree) ++ []))
     ≡ treePart text (result tree)
 tree-lines text tree =
-    ap (λ (l : List ℕ). line (put "text" []) (field (display text tree)) (line (put "inverse" []) (field (inverseShown text tree)) l))
+    ap (λ (l : List ℕ). line (put "text" []) (field (display text tree)) (line (put "inverse" []) (field (printedInverse text tree)) l))
     (append-nil (stepsPart text (steps text tree)))

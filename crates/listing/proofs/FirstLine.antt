@@ -11,7 +11,7 @@ use Rattle.notation.specs.Features.{WCA, MAXIMAL}
 use Rattle.notation.specs.Refusals.{Outcome, result}
 use Rattle.notation.specs.Print.{put}
 use Rattle.notation.specs.Entries.{reading}
-use Rattle.notation.specs.Lister.{treePart, listing, lister}
+use Rattle.notation.specs.Lister.{treePart, MAX-INPUT, listing, lister}
 use Rattle.notation.specs.declared.features.Features.{Features}
 use Rattle.notation.proofs.Bools.{and-false}
 
@@ -46,13 +46,13 @@ is-other (a ∷ []) h n f = absurd (omega arith)
 is-other (a ∷ (b ∷ l)) h n f = rw (ne-eqb a 119 n, ne-eqb a 109 f)
 
 -- the text
-pub text-long : (f : Features) (text : List ℕ) → 3072 < length text → put "refused input\n" [] ≡ listing f text
-text-long f text h = rw (lt-leb (length text) 3072 h)
+pub text-long : (f : Features) (text : List ℕ) → MAX-INPUT < length text → put "refused input\n" [] ≡ listing f text
+text-long f text h = rw (lt-leb (length text) MAX-INPUT h)
 
-pub text-fits : (f : Features) (text : List ℕ) (o : Outcome (List ℕ)) → length text ≤ 3072 → reading f text ≡ o → treePart text o ≡ listing f text
-text-fits f text o h e = rw (le-leb (length text) 3072 h) (ap (treePart text) (sym e))
+pub text-fits : (f : Features) (text : List ℕ) (o : Outcome (List ℕ)) → length text ≤ MAX-INPUT → reading f text ≡ o → treePart text o ≡ listing f text
+text-fits f text o h e = rw (le-leb (length text) MAX-INPUT h) (ap (treePart text) (sym e))
 
-pub text-read : (f : Features) (text part tree : List ℕ) → length text ≤ 3072 → reading f text ≡ result tree → part ≡ tree → treePart text (result part) ++ [] ≡ listing f text
+pub text-read : (f : Features) (text part tree : List ℕ) → length text ≤ MAX-INPUT → reading f text ≡ result tree → part ≡ tree → treePart text (result part) ++ [] ≡ listing f text
 text-read f text part tree h e q =
     append-nil (treePart text (result part)) ∙ ap (λ (t : List ℕ). treePart text (result t)) q ∙ text-fits f text (result tree) h e
 

@@ -1,4 +1,4 @@
--- A listed tree is no longer than 25 bytes for each byte of its text, and its inverse is as long. Assumes nothing.
+-- A listed tree has at most a record for each byte of its text, and its inverse is as long. Assumes nothing.
 use Prim.Native.Nat.{ℕ, _*_, _≤_}
 use mathlib.Core.Path.{_≡_, refl, sym, ap, _∙_}
 use mathlib.Core.Bool.{Bool, true, false}

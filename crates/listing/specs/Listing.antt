@@ -1,17 +1,14 @@
--- The size of a listed tree, its printed inverse, and a listing in a buffer.
-use Prim.Native.Nat.{ℕ}
+-- The size of a listed tree, and a listing in a buffer.
+use Prim.Native.Nat.{ℕ, _*_}
 use mathlib.Core.Path.{_≡_}
 use mathlib.Core.List.{List, _++_}
 use lib.ListN.{length, drop}
-use Rattle.notation.specs.Refusals.{Outcome, _>>=_}
-use Rattle.notation.specs.Entries.{inverse, display}
+use Rattle.notation.specs.Packed.{RECORD}
+use Rattle.notation.specs.Lister.{MAX-INPUT}
 
--- the bytes of 3,072 records
+-- a record for each byte of the longest text
 abbrev pub MAX-TREE : ℕ
-MAX-TREE = 76800
-
-abbrev pub inverseShown : List ℕ → List ℕ → Outcome (List ℕ)
-inverseShown text tree = do t ← inverse text tree; display text t
+MAX-TREE = RECORD * MAX-INPUT
 
 -- r bytes at the front of a buffer, which are the list; the rest stays
 pub record AtFront (list before after : List ℕ) (r : ℕ) : Type 0 where

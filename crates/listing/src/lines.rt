@@ -14,17 +14,23 @@ ghost use Rattle.notation.specs.Invert.{undo};
 ghost use Rattle.notation.specs.Print.{putStep};
 ghost use Rattle.notation.specs.Entries as entries;
 ghost use Rattle.notation.specs.Lister as rule;
+ghost use Rattle.notation.specs.Demands.{printedInverse};
 ghost use Rattle.laws.proofs.Unrolling.{flat};
 ghost use Rattle.sound.specs.Sound.{Counted};
 ghost use Rattle.display.specs.Written.{MOST as most, Wrote};
-ghost use Rattle.listing.specs.Listing.{MAX-TREE as maxTree, inverseShown};
+ghost use Rattle.listing.specs.Listing.{MAX-TREE as maxTree};
 use display::unspanned::node_list;
 use display::write::put;
 use display::write::put_bytes;
 use display::write::put_number;
 use expand::seek::seek;
 use notation::answer::Answer;
+use record::RECORD;
 use sound::check;
+
+// So many bytes of text are listed; their tree has at most a record for each of them.
+pub const MAX_INPUT: usize = 3072;
+pub const MAX_TREE: usize = RECORD * MAX_INPUT;
 
 // A line whose field is a refusal.
 pub fn refused_line(out: &mut [u8], at: usize, label: &[u8], number: u8) -> usize
@@ -68,9 +74,9 @@ pub fn tree_line(out: &mut [u8], at: usize, label: &[u8], text: &[u8], tree: &[u
 pub fn inverse_line(out: &mut [u8], at: usize, label: &[u8], text: &[u8], tree: &[u8]) -> usize
     requires { ⌜ at ≤ most ⌝ }
     requires { ⌜ length (now tree) ≤ maxTree ⌝ }
-    ensures { λ r. ⌜ Wrote (now (out .entry)) (now (out .exit)) at r (rule.line (now (label .entry)) (rule.field (inverseShown (now (text .entry)) (now (tree .entry))))) ⌝ }
+    ensures { λ r. ⌜ Wrote (now (out .entry)) (now (out .exit)) at r (rule.line (now (label .entry)) (rule.field (printedInverse (now (text .entry)) (now (tree .entry))))) ⌝ }
 {
-    let mut inverse = [0u8; 76800];
+    let mut inverse = [0u8; MAX_TREE];
     match entries::inv(text, tree, &mut inverse) {
         Answer::Value(size) => {
             let end = size as usize;
@@ -87,7 +93,7 @@ pub fn step_line(out: &mut [u8], at: usize, text: &[u8], tree: &[u8], place: u64
     ensures { λ r. ⌜ ((x : Leaf) → getElem? (flat undo false (unpack (now (tree .entry)))) place ≡ some x →
         Wrote (now (out .entry)) (now (out .exit)) at r (rule.line (show place []) (putStep (stepOf (now (text .entry)) x) []))) ⌝ }
 {
-    let mut step = [0u8; 25];
+    let mut step = [0u8; RECORD];
     seek(tree, place, &mut step);
     let space = put_number(out, at, place as u32);
     let start = put(out, space, b' ');

@@ -18,6 +18,8 @@ use crate::lines::number_line;
 use crate::lines::refused_line;
 use crate::lines::step_line;
 use crate::lines::tree_line;
+use crate::lines::MAX_INPUT;
+use crate::lines::MAX_TREE;
 use display::write::put_bytes;
 use entries::count_steps;
 use notation::answer::Answer;
@@ -25,8 +27,6 @@ use notation::features::Features;
 use notation::features;
 use notation::refusals::NO_ROOM;
 use parse::parse_notation;
-
-const MAX_INPUT: usize = 3072;
 
 // So many steps are listed.
 const SHOWN: u64 = 1000;
@@ -73,14 +73,14 @@ fn put_input(out: &mut [u8], input: &[u8]) -> usize
     put_bytes(out, 0, b"refused input\n")
 }
 
-// A text of at most 3,072 bytes has at most so many records, so its tree always fits.
+// The tree of a text that is not too long always fits.
 fn put_listing(out: &mut [u8], text: &[u8], features: Features) -> usize
     ensures { λ r. ⌜ Wrote (now (out .entry)) (now (out .exit)) 0 r (λ rest. rule.listing features (now (text .entry)) ++ rest) ⌝ }
 {
     if MAX_INPUT < text.len() {
         return put_bytes(out, 0, b"refused input\n");
     }
-    let mut tree = [0u8; 76800];
+    let mut tree = [0u8; MAX_TREE];
     match parse_notation(text, features, &mut tree) {
         Answer::Value(size) => {
             let end = size as usize;

@@ -42,8 +42,12 @@ treePart text (result tree) =
     (line (put "inverse" []) (field (do t ← inverse text tree; display text t))
     (stepsPart text (steps text tree)))
 
+-- so many bytes of text are listed
+abbrev pub MAX-INPUT : ℕ
+MAX-INPUT = 3072
+
 abbrev pub listing : Features → List ℕ → List ℕ
-listing f text = pick (leb (length text) 3072) (treePart text (reading f text)) (put "refused input\n" [])
+listing f text = pick (leb (length text) MAX-INPUT) (treePart text (reading f text)) (put "refused input\n" [])
 
 unfoldable pub lister : List ℕ → List ℕ
 lister input =

@@ -5,6 +5,7 @@ use mathlib.Core.Path.{ap}
 use native.Mathlib.Omega.{arith}
 use lib.ListN.{replicate, length-replicate}
 use Rattle.notation.specs.Entries.{inverse, outcome}
+use Rattle.listing.specs.Listing.{MAX-TREE}
 use Rattle.listing.proofs.Fields.{wrote-field, inverse-given, inverse-refused}
 use Rattle.listing.proofs.Lending.{lent, unlent, given-part, given-fits}
 use Rattle.listing.proofs.Sizes.{inverse-long}
@@ -30,7 +31,7 @@ part-tree-line-end : tie.Need-part-tree-line-end
 part-tree-line-end c =
     let call = c .before .before .before .before .before .before in
     let a = call .before .before .before .before .before .before .args in
-    given-fits (lent (inverse (a .text .now) (a .tree .now)) (replicate 76800 0) _ _ (ap outcome (c .before .before .before .size .given .1)) (call .inv .ensures))
+    given-fits (lent (inverse (a .text .now) (a .tree .now)) (replicate MAX-TREE 0) _ _ (ap outcome (c .before .before .before .size .given .1)) (call .inv .ensures))
 
 tree-line-requires : tie.Need-tree-line-requires
 tree-line-requires c κs = search needs
@@ -49,7 +50,7 @@ returns c =
     let line = c .before .before in
     let call = line .before .before .before .before .before .before .before .before in
     let a = call .before .before .before .before .before .before .args in
-    let g = lent (inverse (a .text .now) (a .tree .now)) (replicate 76800 0) _ _ (ap outcome (line .before .before .before .before .before .size .given .1)) (call .inv .ensures) in
+    let g = lent (inverse (a .text .now) (a .tree .now)) (replicate MAX-TREE 0) _ _ (ap outcome (line .before .before .before .before .before .size .given .1)) (call .inv .ensures) in
     wrote-field (a .label .now) (inverse-given (a .text .now) (a .tree .now) (g .list) _ (g .is) (given-part g)) (line .tree-line .ensures)
 
 same-length-2 : tie.Need-same-length-2
@@ -61,8 +62,8 @@ returns-2 c =
     let call = line .before .before .before .before .before .before in
     let start = call .before .before .before .before .before .before in
     let a = start .args in
-    let r = unlent (inverse (a .text .now) (a .tree .now)) (replicate 76800 0) _ _
-        (λ l e. omega (arith, inverse-long (a .text .now) (a .tree .now) l e, start .pre .1, length-replicate {0} {A = ℕ} 76800 0)) (ap outcome (line .before .before .before .number .given .1)) (call .inv .ensures) in
+    let r = unlent (inverse (a .text .now) (a .tree .now)) (replicate MAX-TREE 0) _ _
+        (λ l e. omega (arith, inverse-long (a .text .now) (a .tree .now) l e, start .pre .1, length-replicate {0} {A = ℕ} MAX-TREE 0)) (ap outcome (line .before .before .before .number .given .1)) (call .inv .ensures) in
     wrote-field (a .label .now) (inverse-refused (a .text .now) (a .tree .now) _ r) (line .refused-line .ensures)
 
 pub inverse-line-spec : {M : Type 1} → statement M

@@ -7,6 +7,7 @@ use lib.ListN.{replicate, length-replicate}
 use Rattle.notation.specs.Refusals.{refusal}
 use Rattle.notation.specs.Entries.{reading, outcome}
 use Rattle.notation.specs.Lister.{listing}
+use Rattle.listing.specs.Listing.{MAX-TREE}
 use Rattle.listing.proofs.Fields.{wrote-to}
 use Rattle.listing.proofs.FirstLine.{text-long, text-fits, text-read}
 use Rattle.listing.proofs.Lending.{lent, unlent, given-part, given-fits, given-long}
@@ -48,14 +49,14 @@ part-put-tree-end : tie.Need-part-put-tree-end
 part-put-tree-end c =
     let call = c .before .before .before .before .before .before in
     let a = call .before .before .before .before .before .args in
-    given-fits (lent (reading (a .features) (a .text .now)) (replicate 76800 0) _ _ (ap outcome (c .before .before .before .size .given .1)) (call .parse-notation .ensures))
+    given-fits (lent (reading (a .features) (a .text .now)) (replicate MAX-TREE 0) _ _ (ap outcome (c .before .before .before .size .given .1)) (call .parse-notation .ensures))
 
 put-tree-requires : tie.Need-put-tree-requires
 put-tree-requires c κs =
     let call = c .before .before .before .before .before .before .before in
     let a = call .before .before .before .before .before .args in
-    let g = lent (reading (a .features) (a .text .now)) (replicate 76800 0) _ _ (ap outcome (c .before .before .before .before .size .given .1)) (call .parse-notation .ensures) in
-    omega (arith, given-long g, length-replicate {0} {A = ℕ} 76800 0)
+    let g = lent (reading (a .features) (a .text .now)) (replicate MAX-TREE 0) _ _ (ap outcome (c .before .before .before .before .size .given .1)) (call .parse-notation .ensures) in
+    omega (arith, given-long g, length-replicate {0} {A = ℕ} MAX-TREE 0)
 
 enum-known-number : tie.Need-enum-known-number
 enum-known-number c = search needs
@@ -74,7 +75,7 @@ returns-2 c =
     let lines = c .before .before in
     let call = lines .before .before .before .before .before .before .before .before in
     let a = call .before .before .before .before .before .args in
-    let g = lent (reading (a .features) (a .text .now)) (replicate 76800 0) _ _ (ap outcome (lines .before .before .before .before .before .size .given .1)) (call .parse-notation .ensures) in
+    let g = lent (reading (a .features) (a .text .now)) (replicate MAX-TREE 0) _ _ (ap outcome (lines .before .before .before .before .before .size .given .1)) (call .parse-notation .ensures) in
     wrote-to (listing (a .features) (a .text .now)) (text-read (a .features) (a .text .now) _ (g .list) (call .before .before .if1 .left) (g .is) (given-part g)) (lines .put-tree .ensures)
 
 same-length-3 : tie.Need-same-length-3
@@ -85,8 +86,8 @@ returns-3 c =
     let line = c .before .before in
     let call = line .before .before .before .before .before .before .before in
     let a = call .before .before .before .before .before .args in
-    let r = unlent (reading (a .features) (a .text .now)) (replicate 76800 0) _ _
-        (λ l e. omega (arith, reading-long (a .features) (a .text .now) l e, call .before .before .if1 .left, length-replicate {0} {A = ℕ} 76800 0)) (ap outcome (line .before .before .before .before .number .given .1)) (call .parse-notation .ensures) in
+    let r = unlent (reading (a .features) (a .text .now)) (replicate MAX-TREE 0) _ _
+        (λ l e. omega (arith, reading-long (a .features) (a .text .now) l e, call .before .before .if1 .left, length-replicate {0} {A = ℕ} MAX-TREE 0)) (ap outcome (line .before .before .before .before .number .given .1)) (call .parse-notation .ensures) in
     wrote-to (listing (a .features) (a .text .now)) (text-fits (a .features) (a .text .now) (refusal _) (call .before .before .if1 .left) r) (line .refused-line .ensures)
 
 pub put-listing-spec : {M : Type 1} → statement M

@@ -5,8 +5,8 @@ use Rattle.notation.specs.Refusals.{result}
 use Rattle.notation.specs.Print.{put}
 use Rattle.notation.specs.Entries.{display, steps}
 use Rattle.notation.specs.Lister.{line, field, stepsPart, treePart}
+use Rattle.notation.specs.Demands.{printedInverse}
 use Rattle.display.proofs.Writing.{wrote-then}
-use Rattle.listing.specs.Listing.{inverseShown}
 use Rattle.listing.proofs.Fields.{wrote-to, tree-lines}
 use Rattle.listing.proofs.listing.put_tree.Statement.{statement}
 use Rattle.listing.proofs.listing.put_tree.Tie as tie
@@ -39,8 +39,8 @@ returns c =
     let tree = a .tree .now in
     wrote-to (treePart text (result tree)) (tree-lines text tree)
     (wrote-then {f = line (put "text" []) (field (display text tree))}
-    {g = λ rest. line (put "inverse" []) (field (inverseShown text tree)) (stepsPart text (steps text tree) ++ rest)} (t .tree-line .ensures)
-    (wrote-then {f = line (put "inverse" []) (field (inverseShown text tree))} {g = λ rest. stepsPart text (steps text tree) ++ rest}
+    {g = λ rest. line (put "inverse" []) (field (printedInverse text tree)) (stepsPart text (steps text tree) ++ rest)} (t .tree-line .ensures)
+    (wrote-then {f = line (put "inverse" []) (field (printedInverse text tree))} {g = λ rest. stepsPart text (steps text tree) ++ rest}
     (i .inverse-line .ensures) (s .put-steps .ensures)))
 
 pub put-tree-spec : {M : Type 1} → statement M
