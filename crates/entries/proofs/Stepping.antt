@@ -24,7 +24,8 @@ use Rattle.expand.specs.Places.{found}
 use Rattle.expand.specs.Steps.{Wrote}
 use Rattle.expand.proofs.Steps.{length-records}
 use Rattle.sound.specs.Sound.{Sound, Counted}
-use Rattle.sound.proofs.Outcomes.{Checks, no-result, refused, lend-refused, lend-handed, lend-short, lend-fits}
+use Rattle.laws.proofs.Bools.{no-refusal}
+use Rattle.sound.proofs.Outcomes.{Checks, refused, lend-refused, lend-handed, lend-short, lend-fits}
 
 -- What `count_steps` promises of its answer.
 pub record Counts (text tree : List ℕ) (o : Outcome ℕ) : Type 0 where
@@ -32,7 +33,7 @@ pub record Counts (text tree : List ℕ) (o : Outcome ℕ) : Type 0 where
   pub counted : (n : ℕ) → o ≡ result n → Counted text tree n
 
 refuses : (text tree : List ℕ) {o : Outcome ℕ} (r : ℕ) → o ≡ refusal r → steps text tree ≡ refusal r → Counts text tree o
-refuses text tree r q e = record { answer = rw (q, e); counted = λ n p. no-result (sym q ∙ p) }
+refuses text tree r q e = record { answer = rw (q, e); counted = λ n p. no-refusal (sym q ∙ p) }
 
 pub count-unsound : {text tree : List ℕ} {o : Outcome ℕ} {r : ℕ} → Checks text tree o → o ≡ refusal r → Counts text tree o
 unfolding steps
@@ -86,7 +87,7 @@ module _ (text tree : List ℕ) (o : Outcome ℕ) (e : o ≡ countSteps text tre
           p ∙ ap refusal (ap refusalNumber (z ∙ q))
       go (result l) p =
           let z : result (length l) ≡ o = rw p at (sym e) in
-          no-result (sym q ∙ sym z)
+          no-refusal (sym q ∙ sym z)
 
   pub flatten-refused : record { answer = o; buffer = buffer } ≡ flattenEntry text tree buffer
   flatten-refused = lend-handed (unrolled text tree) buffer q (rw refused-steps)

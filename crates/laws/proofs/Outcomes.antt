@@ -2,11 +2,8 @@
 use Prim.Native.Nat.{ℕ}
 use mathlib.Core.Path.{_≡_, refl}
 use mathlib.Core.Bool.{Bool, true, false}
-use native.Mathlib.Omega.{arith}
 use Rattle.notation.specs.Refusals.{Outcome, refusal, result, _>>=_, unless}
-
-pub no-refusal : {A B : Type 0} {r : ℕ} {a : A} → _≡_ {A = Outcome A} (refusal r) (result a) → B
-no-refusal e = absurd (let n : _≡_ {A = ℕ} 0 1 = cc in omega arith)
+use Rattle.laws.proofs.Bools.{no-refusal}
 
 pub same-result : {A : Type 0} {a b : A} → _≡_ {A = Outcome A} (result a) (result b) → a ≡ b
 same-result e = cc

@@ -3,6 +3,6 @@
 pub mod lines;
 pub mod listing;
 
+pub use listing::MAX_LISTING;
 pub use listing::list;
 pub use listing::list_whole;
-pub use listing::MAX_LISTING;

@@ -13,7 +13,8 @@ use Rattle.notation.specs.declared.answer.Answer.{Answer}
 use Rattle.notation.specs.declared.answer.Answer.the-variants.{Value, Refused}
 use Rattle.layer.specs.Meaning.{range}
 use Rattle.layer.specs.declared.range.LayerRange.{LayerRange}
-use Rattle.laws.proofs.Outcomes.{no-refusal, same-result}
+use Rattle.laws.proofs.Bools.{no-refusal}
+use Rattle.laws.proofs.Outcomes.{same-result}
 use Rattle.simplify.proofs.Few.{few}
 use Rattle.simplify.proofs.Answers.{length-rangeBytes, answered}
 use Rattle.ranges.specs.Lent.{rangesFrom, Resolved}

@@ -21,7 +21,7 @@ use Rattle.notation.specs.Invert.{undo, overflows}
 use Rattle.notation.specs.Unroll.{flatten}
 use Rattle.notation.specs.Print.{put, putStep, printed}
 use Rattle.notation.specs.Entries.{MAX-STEPS, reading, checked, inverse, display, steps}
-use Rattle.notation.specs.Lister.{line, field, stepLines, stepsPart, treePart, listing, lister}
+use Rattle.notation.specs.Lister.{MAX-INPUT, line, field, stepLines, stepsPart, treePart, listing, lister}
 use Rattle.notation.specs.declared.features.Features.{Features}
 use Rattle.laws.proofs.Bools.{and-left, and-right, and-both, no-some}
 use Rattle.laws.proofs.Unrolling.{verdict}
@@ -50,19 +50,19 @@ line-long label field rest = omega (arith, length-append label (32 ∷ (field ++
 refused-long : (r : ℕ) → length (field (refusal r)) ≤ 18
 refused-long r = omega (arith, ten-digits r)
 
-pub step-line-long : (text : List ℕ) (k : ℕ) (x : Leaf) (rest : List ℕ) → leafBytes x ≤ 3072 →
+pub step-line-long : (text : List ℕ) (k : ℕ) (x : Leaf) (rest : List ℕ) → leafBytes x ≤ MAX-INPUT →
     length (line (show k []) (putStep (stepOf text x) []) rest) ≤ 3857 + length rest
 step-line-long text k x rest h =
     omega (arith, line-long (show k []) (putStep (stepOf text x) []) rest, ten-digits k, printed-step text x [])
 
-step-lines-long : (text : List ℕ) (m k : ℕ) {l : List Leaf} → Within 3072 l → length (stepLines text m k l) ≤ m * 3857
+step-lines-long : (text : List ℕ) (m k : ℕ) {l : List Leaf} → Within MAX-INPUT l → length (stepLines text m k l) ≤ m * 3857
 unfolding stepLines
 step-lines-long text zero k w = omega arith
 step-lines-long text (suc m) k empty = omega arith
 step-lines-long text (suc m) k (one {x} {l} h w) =
     omega (arith, step-line-long text k x (stepLines text m (suc k) l) h, step-lines-long text m (suc k) w)
 
-steps-long : (text : List ℕ) (o : Outcome (List Leaf)) → ((l : List Leaf) → o ≡ result l → Within 3072 l) → length (stepsPart text o) ≤ 3857025
+steps-long : (text : List ℕ) (o : Outcome (List Leaf)) → ((l : List Leaf) → o ≡ result l → Within MAX-INPUT l) → length (stepsPart text o) ≤ 3857025
 steps-long text (refusal r) h = omega (arith, line-long (put "steps" []) (field (refusal r)) [], refused-long r)
 steps-long text (result l) h =
     omega (arith, line-long (put "steps" []) (show (length l) []) (stepLines text 1000 0 l), ten-digits (length l), step-lines-long text 1000 0 (h l refl))
@@ -94,7 +94,7 @@ inverse-fits (cons (block b m) l) r h =
     (and-both (bodyFits b) true (and-left _ _ h) refl)
 
 -- What an accepted text's tree and its inverse print.
-module _ (f : Features) (text : List ℕ) (t : Tree) (short : length text ≤ 3072) (good : Tidy f text t) where
+module _ (f : Features) (text : List ℕ) (t : Tree) (short : length text ≤ MAX-INPUT) (good : Tidy f text t) where
   checks-as : (t′ : Tree) → treeOk text t′ ≡ true → treeFits t′ ≡ true → size t′ ≡ size t → depth t′ ≡ depth t → checked text (pack t′) ≡ result t′
   checks-as t′ o h z d =
       let fits = tree-fits text (good .accepted .short) t′ o h (omega (arith, good .small)) in
@@ -121,18 +121,18 @@ module _ (f : Features) (text : List ℕ) (t : Tree) (short : length text ≤ 30
           let c = checks-as (inverted t) (inverted-ok text t (good .inBounds)) (inverse-fits t i (good .fits)) (inverted-size t) (inverted-depth t) in
           rw c (tree-long (inverted t) (inverted-bytes t) (inverted-size t))
 
-  steps-within : (l : List Leaf) → steps text (pack t) ≡ result l → Within 3072 l
+  steps-within : (l : List Leaf) → steps text (pack t) ≡ result l → Within MAX-INPUT l
   unfolding steps
   steps-within l i = go (flatten t) refl (rw tree-checks at i)
     where
       after : Bool → List Leaf → Outcome (List Leaf)
       after b l′ = do unless TOO-MANY-STEPS b; result l′
-      counted : (b : Bool) (l′ : List Leaf) → flatten t ≡ result l′ → after b l′ ≡ result l → Within 3072 l
+      counted : (b : Bool) (l′ : List Leaf) → flatten t ≡ result l′ → after b l′ ≡ result l → Within MAX-INPUT l
       counted false l′ j i = absurd (let n : _≡_ {A = ℕ} 0 1 = cc in omega arith)
       counted true l′ j i =
           let same : l′ ≡ l = cc in
-          subst (Within 3072) (unrolled-list t l′ j .1 ∙ same) (unrolled-within t false (omega (arith, reading-bytes f text t (good .accepted .reads))))
-      go : (o : Outcome (List Leaf)) → flatten t ≡ o → _>>=_ o (λ l′. after (leb (length l′) MAX-STEPS) l′) ≡ result l → Within 3072 l
+          subst (Within MAX-INPUT) (unrolled-list t l′ j .1 ∙ same) (unrolled-within t false (omega (arith, reading-bytes f text t (good .accepted .reads))))
+      go : (o : Outcome (List Leaf)) → flatten t ≡ o → _>>=_ o (λ l′. after (leb (length l′) MAX-STEPS) l′) ≡ result l → Within MAX-INPUT l
       go (refusal r) j i = absurd (let n : _≡_ {A = ℕ} 0 1 = cc in omega arith)
       go (result l′) j i = counted (leb (length l′) MAX-STEPS) l′ j i
 
@@ -145,15 +145,15 @@ module _ (f : Features) (text : List ℕ) (t : Tree) (short : length text ≤ 30
 
 -- The whole listing.
 listing-long : (f : Features) (text : List ℕ) → length (listing f text) ≤ MAX-LISTING
-listing-long f text = go (leb (length text) 3072) refl (reading f text) refl
+listing-long f text = go (leb (length text) MAX-INPUT) refl (reading f text) refl
   where
-    go : (b : Bool) → leb (length text) 3072 ≡ b → (o : Outcome (List ℕ)) → reading f text ≡ o →
+    go : (b : Bool) → leb (length text) MAX-INPUT ≡ b → (o : Outcome (List ℕ)) → reading f text ≡ o →
         length (pick b (treePart text o) (put "refused input\n" [])) ≤ MAX-LISTING
     go false h o e = omega arith
     go true h (refusal r) e = omega (arith, line-long (put "text" []) (field (refusal r)) [], refused-long r)
     go true h (result tree) e =
         let a = accepted-tree f text tree e in
-        rw (← a .2) (tree-part-long f text (a .0) (leb-true (length text) 3072 h) (tidy f text (a .0) (a .1)))
+        rw (← a .2) (tree-part-long f text (a .0) (leb-true (length text) MAX-INPUT h) (tidy f text (a .0) (a .1)))
 
 pub listing-fits : (input : List ℕ) → length (lister input) ≤ MAX-LISTING
 unfolding lister

@@ -13,11 +13,9 @@ use Rattle.notation.specs.Packed.{RECORD, unpack}
 use Rattle.notation.specs.WellFormed.{wellFormed}
 use Rattle.notation.specs.Entries.{Lent, lend, checked, refusalNumber, value, MAX-TEXT}
 use Rattle.numbers.proofs.Positional.{Below}
+use Rattle.laws.proofs.Bools.{no-refusal}
 use Rattle.tree.proofs.Bytes.{accepted}
 use Rattle.sound.specs.Sound.{Sound, recordsIn}
-
-pub no-result : {A B : Type 0} {r : ℕ} {a : A} → _≡_ {A = Outcome A} (refusal r) (result a) → B
-no-result e = absurd (let z : _≡_ {A = ℕ} 0 1 = cc in omega arith)
 
 -- What `check` promises of its answer.
 abbrev pub Checks : List ℕ → List ℕ → Outcome ℕ → Type 0
@@ -25,7 +23,7 @@ Checks text tree o = (o ≡ recordsIn text tree) × ((n : ℕ) → o ≡ result 
 
 module _ (text tree : List ℕ) where
   refuses : (r : ℕ) → checked text tree ≡ refusal r → Checks text tree (refusal r)
-  refuses r e = (rw e, λ n q. no-result q)
+  refuses r e = (rw e, λ n q. no-refusal q)
 
   pub too-long : MAX-TEXT < length text → Checks text tree (refusal TOO-LONG)
   unfolding checked
@@ -70,7 +68,7 @@ module _ {text tree : List ℕ} {o : Outcome ℕ} (c : Checks text tree o) where
           z ∙ ap refusal (ap refusalNumber (sym w ∙ q))
       go (result t) z =
           let w : o ≡ result (length tree / RECORD) = rw z at (c .0) in
-          no-result (sym q ∙ w)
+          no-refusal (sym q ∙ w)
 
 -- Lent buffers.
 module _ {A : Type 0} (o : Outcome (List A)) (buffer : List A) where

@@ -25,7 +25,8 @@ use Rattle.notation.specs.declared.features.Features.{Features}
 use Rattle.numbers.proofs.Positional.{Below, below-nil, below-append, below-drop}
 use Rattle.record.specs.Range.{FitsSpan, FitsHead}
 use Rattle.record.proofs.RoundTrip.{length-record25, record25-below}
-use Rattle.laws.proofs.Outcomes.{no-refusal, same-result, after, held}
+use Rattle.laws.proofs.Bools.{no-refusal}
+use Rattle.laws.proofs.Outcomes.{same-result, after, held}
 use Rattle.laws.proofs.Packing.{length-pack, well-formed-packed}
 use Rattle.laws.proofs.ReadingYields.{reading-size}
 use Rattle.laws.proofs.Accepting.{accepted-tree}

@@ -2,7 +2,7 @@
 use mathlib.Core.Path.{sym, ap, _∙_}
 use borrow.Author.Needs.{needs}
 use Rattle.notation.specs.Entries.{outcome, refusalNumber}
-use Rattle.sound.proofs.Outcomes.{no-result}
+use Rattle.laws.proofs.Bools.{no-refusal}
 use Rattle.entries.specs.declared.parts.PartAnswer.the-variants.{Refused}
 use Rattle.entries.proofs.parts.no_part.Statement.{statement}
 use Rattle.entries.proofs.parts.no_part.Tie as tie
@@ -14,7 +14,7 @@ enum-known-answer : tie.Need-enum-known-answer
 enum-known-answer c = search needs
 
 returns : tie.Need-returns
-returns c = λ n q. no-result (sym q ∙ ap outcome (c .enum-told .given .1))
+returns c = λ n q. no-refusal (sym q ∙ ap outcome (c .enum-told .given .1))
 
 returns-2 : tie.Need-returns-2
 returns-2 c = λ n q. ap Refused (ap refusalNumber (sym (ap outcome (c .before .answer .given .1)) ∙ q))
