@@ -1,5 +1,5 @@
 #!/usr/bin/env bash
-# Everything that is run beside the gate, on the archive of this checkout; some ten minutes once the crates are proved.
+# Everything that is run beside the gate, on the archive of this checkout: some ten minutes, of which proving the crates takes half if they are not proved yet.
 #   tests/run.sh [SRC]      SRC: the folder that holds the published Rust, crates/hypuz_notation/src, to compare with it too
 # Each run says what it did. The last line is 'N passed, M failed, K skipped', and the exit status is 0 where none failed.
 set -u
@@ -41,12 +41,12 @@ has() {
 
 # The stored vectors are what the reference and the Rust's sample give today.
 vectors() {
-    rm -rf "$log/vectors" && mkdir -p "$log/vectors"
-    python3 tests/reference/vectors.py "$log/vectors" && cmp "$log/vectors/stdin" crates/replay/stdin && cmp "$log/vectors/stdout" crates/replay/stdout
+    mkdir -p "$log/made"
+    python3 tests/reference/vectors.py "$log/made" && cmp "$log/made/stdin" crates/replay/stdin && cmp "$log/made/stdout" crates/replay/stdout
 }
 
 lister() {
-    for seed in 11 12; do python3 tests/reference/lister_cases.py target/bin/lister $seed || return 1; done
+    for seed in 11 12 13 14 15; do python3 tests/reference/lister_cases.py target/bin/lister $seed || return 1; done
 }
 
 # Whether clang can link libFuzzer and AddressSanitizer.
@@ -81,7 +81,7 @@ else
     skip forms "needs python3 (package python3)"
 fi
 if has python3 && has cc; then
-    run damaged python3 tests/oracle/damaged.py 20000 1
+    run damaged python3 tests/oracle/damaged.py 60000 1
 else
     skip damaged "needs python3 and a C compiler (packages python3, gcc)"
 fi
@@ -92,7 +92,7 @@ elif ! has cargo; then
 else
     run characters tests/oracle/characters.sh "$src"
     run oracle tests/oracle/build.sh "$src"
-    run reference python3 tests/oracle/compare_reference.py target/oracle/target/release/oracle 20000
+    run reference python3 tests/oracle/compare_reference.py target/oracle/target/release/oracle 100000
     run compare target/oracle/target/release/compare 100000 1
 fi
 if can_fuzz; then

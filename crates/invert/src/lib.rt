@@ -126,6 +126,7 @@ fn invert(tree: &[u8], out: &mut [u8], deep: bool)
     }
 }
 
+// Of a group. Deep, its contents are inverted and its multiplier is kept; shallow, it is the other way round.
 fn invert_group(node: &[u8], out: &mut [u8], deep: bool)
     requires { ⌜ ((n : Node Leaf) × IsNode (now node) n) ⌝ }
     requires { ⌜ field 0 (now node) / 16 ≤ 5 ⌝ }
@@ -155,6 +156,7 @@ fn inv_leaf(node: &[u8], out: &mut [u8])
     undo_record(out);
 }
 
+// Of a group as a whole.
 fn inv_node(node: &[u8], out: &mut [u8])
     requires { ⌜ ((n : Node Leaf) × IsNode (now node) n) ⌝ }
     requires { ⌜ length (now out) ≡ length (now node) ⌝ }
