@@ -8,7 +8,7 @@ cd "$root" || exit 2
 src=${1:-}
 [ -z "$src" ] || src=$(cd "$src" && pwd) || exit 2
 log=$root/target/run
-mkdir -p "$log"
+rm -rf "$log" && mkdir -p "$log"
 passed=0
 failed=0
 skipped=0
