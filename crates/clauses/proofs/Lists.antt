@@ -10,7 +10,7 @@ use lib.Dec.{leb, ltb, lit<}
 use lib.ListN.{length, getD, take, drop, length-drop}
 use lib.Seq.{length-take-le, drop-drop}
 use Rattle.notation.specs.Basics.{pick, sameList}
-use Rattle.notation.specs.Packed.{RECORD, cut, Head, leafHead, groupHead, binaryHead, headFields, record25, headAt}
+use Rattle.notation.specs.Packed.{RECORD, cut, Head, leafHead, groupHead, binaryHead, headFields, headRecord, headAt}
 use Rattle.notation.specs.Clauses.{
   Fields, fieldsOf, kind, first, second, number, isGroup, kindOk, unusedOk, listsEnd, groupsDeep
 }
@@ -58,7 +58,7 @@ at-depth text d (binaryHead g n n′ m) e = (and-right (ltb 0 d) _ e, ltb-true 0
 
 -- What the clauses of a record say of the head that it holds.
 record Says (text bs : List ℕ) : Type 0 where
-  exact : record25 (headAt bs) ≡ take RECORD bs
+  exact : headRecord (headAt bs) ≡ take RECORD bs
   head : headOk text 1 (headAt bs) ≡ true
   deep : pick (isGroup (fieldsAt bs)) 1 0 ≡ level (headAt bs)
   first-said : first (fieldsAt bs) ≡ said.first (headAt bs)
@@ -70,7 +70,7 @@ module _ (text bs : List ℕ) (below : Below 256 bs) (long : RECORD ≤ length b
   listed-same = refl
 
   -- a record is written as it stands exactly if its fields are
-  by-fields : sameList (headFields (headAt bs)) (fieldsAt bs) ≡ sameList (record25 (headAt bs)) (take RECORD bs)
+  by-fields : sameList (headFields (headAt bs)) (fieldsAt bs) ≡ sameList (headRecord (headAt bs)) (take RECORD bs)
   by-fields = same-record (headAt bs) bs (headFields-fit (headAt bs) (head-fits bs below)) below long
 
   number-fits : number (fieldsAt bs) < 4294967296
@@ -83,10 +83,10 @@ module _ (text bs : List ℕ) (below : Below 256 bs) (long : RECORD ≤ length b
       (λ e. refl, (λ e. refl, (λ e. refl, (λ e. refl, (λ e. refl, (λ e. refl, (λ e. refl, tt)))))))))))))))
       (λ j l e. absurd (omega (arith, leb-true j 14 e)))
 
-  says-of : kindOk (fieldsAt bs) ≡ true → sameList (record25 (headAt bs)) (take RECORD bs) ≡ true → headOk text 1 (headAt bs) ≡ true → Says text bs
+  says-of : kindOk (fieldsAt bs) ≡ true → sameList (headRecord (headAt bs)) (take RECORD bs) ≡ true → headOk text 1 (headAt bs) ≡ true → Says text bs
   says-of k e h =
       record {
-        exact = same-eq (record25 (headAt bs)) (take RECORD bs) e;
+        exact = same-eq (headRecord (headAt bs)) (take RECORD bs) e;
         head = h;
         deep = level-said k;
         first-said = first-written bs below long e;
@@ -110,11 +110,11 @@ module _ (text bs : List ℕ) (below : Below 256 bs) (long : RECORD ≤ length b
       (λ j l e z. absurd (let b : 128 ≡ getD (fieldsAt bs) 0 0 = ap (λ (s : List ℕ). getD s 0 0) z in omega arith))
       refl
 
-  says-record : record25 (headAt bs) ≡ take RECORD bs → headOk text 1 (headAt bs) ≡ true → RecordOk text (fieldsAt bs) × Says text bs
+  says-record : headRecord (headAt bs) ≡ take RECORD bs → headOk text 1 (headAt bs) ≡ true → RecordOk text (fieldsAt bs) × Says text bs
   says-record x h =
       let r = fieldsAt bs in
-      let s : sameList (record25 (headAt bs)) (take RECORD bs) ≡ true =
-      subst (λ (l : List ℕ). sameList (record25 (headAt bs)) l ≡ true) x (same-refl (record25 (headAt bs)))
+      let s : sameList (headRecord (headAt bs)) (take RECORD bs) ≡ true =
+      subst (λ (l : List ℕ). sameList (headRecord (headAt bs)) l ≡ true) x (same-refl (headRecord (headAt bs)))
       in
       let e : headFields (headAt bs) ≡ r = same-eq (headFields (headAt bs)) r (by-fields ∙ s) in
       let k : kindOk r ≡ true = kind-written e in

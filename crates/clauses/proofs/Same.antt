@@ -16,7 +16,7 @@ use Rattle.notation.specs.Clauses.{
   Fields, fieldsOf, kindOk, unusedOk, partsInside, groupsDeep, layersInRange, multiplierInRange, familyReads, partsRead, clauseByClause, clauses
 }
 use Rattle.numbers.proofs.Positional.{Below, below-nil, below-cons, below-append, below-tail}
-use Rattle.record.proofs.RoundTrip.{record25-below}
+use Rattle.record.proofs.RoundTrip.{headRecord-below}
 use Rattle.laws.proofs.Bools.{and-left, and-right}
 use Rattle.laws.proofs.Packing.{length-pack}
 use Rattle.tree.specs.Formed.{formed}
@@ -29,8 +29,8 @@ use Rattle.clauses.proofs.Lists.{RecordOk, AllOk, ListOk, agree}
 mutual
   unfolding packNode packBody pack
   node-below : (n : Node Leaf) → Below 256 (packNode n)
-  node-below (leaf x) = record25-below (leafHead x)
-  node-below (block b m) = below-append 256 _ (packBody b) (record25-below (bodyHead b m)) (body-below b)
+  node-below (leaf x) = headRecord-below (leafHead x)
+  node-below (block b m) = below-append 256 _ (packBody b) (headRecord-below (bodyHead b m)) (body-below b)
 
   body-below : (b : Body Leaf) → Below 256 (packBody b)
   body-below (group k a) = pack-below a

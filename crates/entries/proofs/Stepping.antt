@@ -13,7 +13,7 @@ use Rattle.notation.specs.Packed.{RECORD, leafHead, leafRecord, unpack}
 use Rattle.notation.specs.Invert.{undo}
 use Rattle.notation.specs.Unroll.{flatten}
 use Rattle.notation.specs.Entries.{Lent, lend, steps, records, unrolled, flattenEntry, countSteps, stepAt, seekStep, refusalNumber, value, MAX-STEPS}
-use Rattle.record.proofs.RoundTrip.{length-record25}
+use Rattle.record.proofs.RoundTrip.{length-headRecord}
 use Rattle.laws.proofs.ListEntries.{get-past}
 use Rattle.laws.proofs.Unrolling.{flat, firstRefusal, flatten-is}
 use Rattle.laws.proofs.Counting.{count, count-is, visit, visit-is}
@@ -133,14 +133,14 @@ module _ (text tree : List ℕ) (n : ℕ) (c : Counted text tree n) (buffer : Li
   pub seek-short : (k : ℕ) → k < n → length buffer < RECORD → record { answer = refusal NO-ROOM; buffer = buffer } ≡ seekStep text tree k buffer
   seek-short k h s =
       let f = there k h in
-      lend-short (stepAt text tree k) buffer (leafRecord (f .0)) (rw (these, f .1)) (omega (arith, length-record25 (leafHead (f .0))))
+      lend-short (stepAt text tree k) buffer (leafRecord (f .0)) (rw (these, f .1)) (omega (arith, length-headRecord (leafHead (f .0))))
 
   pub seek-written : (k : ℕ) → k < n → RECORD ≤ length buffer → (after : List ℕ) →
       after ≡ found (seek false (unpack tree) k) ++ drop RECORD buffer →
       record { answer = result RECORD; buffer = after } ≡ seekStep text tree k buffer
   seek-written k h s after w =
       let f = there k h in
-      let long : length (leafRecord (f .0)) ≡ RECORD = length-record25 (leafHead (f .0)) in
+      let long : length (leafRecord (f .0)) ≡ RECORD = length-headRecord (leafHead (f .0)) in
       let bytes : after ≡ leafRecord (f .0) ++ drop RECORD buffer = w ∙ ap (λ (o : Option Leaf). found o ++ drop RECORD buffer) (seek-is (unpack tree) false k ∙ f .1) in
       ap (λ (b : List ℕ). record { answer = result RECORD; buffer = b }) bytes
       ∙ ap (λ (m : ℕ). record { answer = result m; buffer = leafRecord (f .0) ++ drop m buffer }) (sym long)

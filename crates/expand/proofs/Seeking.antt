@@ -22,7 +22,7 @@ use Rattle.numbers.specs.Sign.{isNegative}
 use Rattle.record.specs.Meaning.{field}
 use Rattle.record.specs.Undone.{StartsRecord}
 use Rattle.record.proofs.Copying.{copied-front}
-use Rattle.record.proofs.RoundTrip.{length-record25}
+use Rattle.record.proofs.RoundTrip.{length-headRecord}
 use Rattle.record.proofs.Undoing.{Undone}
 use Rattle.laws.proofs.Packing.{FitsNode}
 use Rattle.laws.proofs.Walking.{Packed, no-node}
@@ -408,7 +408,7 @@ inside-less t e w o = omega (arith, part-length (w .from) (w .to) (part 0 e t), 
 
 -- The step's record, copied and undone where it is inverted.
 copied : (x : Leaf) (from step : List ℕ) {s : List ℕ} → from ≡ leafRecord x → s ≡ take (length from) from ++ drop (length from) step → s ≡ leafRecord x ++ drop RECORD step
-copied x from step e h = copied-front from step RECORD (ap length e ∙ length-record25 (leafHead x)) h ∙ ap (λ (a : List ℕ). a ++ drop RECORD step) e
+copied x from step e h = copied-front from step RECORD (ap length e ∙ length-headRecord (leafHead x)) h ∙ ap (λ (a : List ℕ). a ++ drop RECORD step) e
 
 pub step-copied : (d : Bool) (x : Leaf) (from step : List ℕ) {s : List ℕ} → d ≡ false → from ≡ leafRecord x → s ≡ take (length from) from ++ drop (length from) step →
     s ≡ leafRecord (pick d (undo x) x) ++ drop RECORD step

@@ -16,7 +16,7 @@ use Rattle.notation.specs.Unroll.{copies, turned}
 use Rattle.notation.specs.declared.common.BinaryGroupKind.{BinaryGroupKind}
 use Rattle.notation.specs.declared.common.BinaryGroupKind.the-variants.{Commutator, Conjugate}
 use Rattle.record.specs.Range.{FitsNumber, FitsLeaf}
-use Rattle.record.proofs.RoundTrip.{length-record25}
+use Rattle.record.proofs.RoundTrip.{length-headRecord}
 use Rattle.laws.proofs.Packing.{FitsNode, FitsBody, FitsTree}
 use Rattle.laws.proofs.Unrolling.{backwards, flatBinary, flatNode, flatBody, flat}
 use Rattle.expand.specs.Steps.{Small, Undoable, All, none, one}
@@ -24,7 +24,7 @@ use Rattle.expand.specs.Steps.{Small, Undoable, All, none, one}
 pub length-records : (l : List Leaf) → length (records l) ≡ RECORD * length l
 unfolding records
 length-records [] = refl
-length-records (x ∷ l) = length-append (leafRecord x) (records l) ∙ omega (arith, length-record25 (leafHead x), length-records l)
+length-records (x ∷ l) = length-append (leafRecord x) (records l) ∙ omega (arith, length-headRecord (leafHead x), length-records l)
 
 pub records-append : (a b : List Leaf) → records (a ++ b) ≡ records a ++ records b
 unfolding records

@@ -6,7 +6,7 @@ use native.Mathlib.Omega.{arith}
 use lib.ListN.{length, take, drop, length-append, length-drop}
 use lib.Seq.{take-at, length-take-le}
 use Rattle.notation.specs.Tree.{Leaf, Node, leaf, block, group, binaryGroup, append, Tree}
-use Rattle.notation.specs.Packed.{RECORD, binaryHead, record25, size, packNode, packBody, pack, unpack}
+use Rattle.notation.specs.Packed.{RECORD, binaryHead, headRecord, size, packNode, packBody, pack, unpack}
 use Rattle.notation.specs.declared.common.BinaryGroupKind.the-variants.{Commutator, Conjugate}
 use Rattle.record.specs.Meaning.{field, withLists}
 use Rattle.record.proofs.Copying.{copied-whole}
@@ -41,7 +41,7 @@ exchanged (block (binaryGroup Commutator a b) m) {bs} s kind l c c′ ec ec′ =
     (ap₂ (λ (x y : List ℕ). withLists (size b) (size a) (x ++ y)) (record-is s)
     (ap₂ (λ (x y : List ℕ). x ++ y) (list-is (l .packedSecond) (l .unpacksSecond _ s)) (list-is (l .packedFirst) (l .unpacksFirst _ s)))
     ∙ lists-set Commutator (size a) (size b) (size b) (size a) m (pack b ++ pack a)
-    ∙ sym (append-nil (record25 (binaryHead Commutator (size b) (size a) m) ++ (pack b ++ pack a)))
+    ∙ sym (append-nil (headRecord (binaryHead Commutator (size b) (size a) m) ++ (pack b ++ pack a)))
     ∙ sym (ap (λ (t : Tree). pack (deeply t)) (alone s)))
 
 -- The three copies and the two counts, as the code makes them: each part is as long as its place.

@@ -7,11 +7,11 @@ use native.Mathlib.Omega.{arith}
 use lib.Dec.{eqb}
 use lib.ListN.{length, drop}
 use Rattle.laws.proofs.Packing.{length-pack}
-use Rattle.record.proofs.RoundTrip.{length-record25}
+use Rattle.record.proofs.RoundTrip.{length-headRecord}
 use Rattle.notation.specs.Utf8.{byteAt}
 use Rattle.notation.specs.Numbers.{fromBits}
 use Rattle.notation.specs.Tree.{block, group, binaryGroup}
-use Rattle.notation.specs.Packed.{RECORD, widths, layOut, headFields, Head, groupHead, binaryHead, record25, nodeSize, bodySize, size, packNode, packBody, pack}
+use Rattle.notation.specs.Packed.{RECORD, widths, layOut, headFields, Head, groupHead, binaryHead, headRecord, nodeSize, bodySize, size, packNode, packBody, pack}
 use Rattle.notation.specs.Grammar.{rejected, read, groupKind, groupNode, binaryGroupKind, binaryGroupNode, nodeList}
 use Rattle.notation.specs.declared.features.Features.{Features}
 use Rattle.notation.specs.declared.common.GroupKind.{GroupKind}
@@ -25,15 +25,15 @@ use Rattle.parse.proofs.Groups.{group-unopened, group-unclosed, group-r
 inner-kept : (slot : ℕ) (xs old mid : List ℕ) → Wrote (RECORD * (slot + 1)) xs old mid → Kept (RECORD * slot) old mid
 inner-kept slot xs old mid w = kept-less (RECORD * slot) (RECORD * (slot + 1)) old mid (omega arith) (w .kept)
 
-laid : (fs : List ℕ) (h : Head) → fs ≡ headFields h → layOut widths fs ≡ record25 h
-unfolding record25
+laid : (fs : List ℕ) (h : Head) → fs ≡ headFields h → layOut widths fs ≡ headRecord h
+unfolding headRecord
 laid fs h e = ap (layOut widths) e
 
 -- a group's record, written by its fields, before those of its lists
 outer : (slot : ℕ) (fs : List ℕ) (h : Head) → fs ≡ headFields h → (xs old mid : List ℕ) → Wrote (RECORD * (slot + 1)) xs old mid →
-    Wrote (RECORD * slot) (record25 h ++ xs) old (put (RECORD * slot) (layOut widths fs) mid)
+    Wrote (RECORD * slot) (headRecord h ++ xs) old (put (RECORD * slot) (layOut widths fs) mid)
 outer slot fs h e xs old mid w =
-    rw (laid fs h e) (header (RECORD * slot) (RECORD * (slot + 1)) (record25 h) xs old mid (omega (arith, length-record25 h)) w)
+    rw (laid fs h e) (header (RECORD * slot) (RECORD * (slot + 1)) (headRecord h) xs old mid (omega (arith, length-headRecord h)) w)
 
 module _ (f : Features) (text : List ℕ) (at slot : ℕ) (old : List ℕ) where
   module _ (kind : GroupKind) (bracket : ℕ) (starts : read kind bracket (drop bracket text) ≡ groupKind at (drop at text)) where

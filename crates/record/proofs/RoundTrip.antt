@@ -47,7 +47,7 @@ use Rattle.notation.specs.Packed.{
   lowAndHigh,
   setPart,
   headFields,
-  record25,
+  headRecord,
   familyAt,
   headOf,
   headAt,
@@ -71,13 +71,13 @@ length-headFields (leafHead (megaminx k)) = refl
 length-headFields (groupHead k n m) = refl
 length-headFields (binaryHead k n n′ m) = refl
 
-pub length-record25 : (h : Head) → length (record25 h) ≡ RECORD
-unfolding record25
-length-record25 h = length-layOut widths (headFields h) (length-headFields h)
+pub length-headRecord : (h : Head) → length (headRecord h) ≡ RECORD
+unfolding headRecord
+length-headRecord h = length-layOut widths (headFields h) (length-headFields h)
 
-pub record25-below : (h : Head) → Below 256 (record25 h)
-unfolding record25
-record25-below h = layOut-below widths (headFields h)
+pub headRecord-below : (h : Head) → Below 256 (headRecord h)
+unfolding headRecord
+headRecord-below h = layOut-below widths (headFields h)
 
 -- the four parts of the first byte
 module _ (k t f p : ℕ) (t-fits : t < 2) (f-fits : f < 4) (p-fits : p < 2) where
@@ -238,11 +238,11 @@ headOf-headFields (binaryHead Commutator n n′ m) h = rw (number-back m (h .2))
 headOf-headFields (binaryHead Conjugate n n′ m) h = rw (number-back m (h .2))
 
 -- a record in front of others: its fields, and what it says
-pub cut-record25 : (h : Head) (rest : List ℕ) → FitsHead h → cut widths (take RECORD (record25 h ++ rest)) ≡ headFields h
-unfolding record25
-cut-record25 h rest k =
-    ap (cut widths) (take-at (record25 h) rest RECORD (length-record25 h) ∙ sym (append-nil (record25 h)))
+pub cut-headRecord : (h : Head) (rest : List ℕ) → FitsHead h → cut widths (take RECORD (headRecord h ++ rest)) ≡ headFields h
+unfolding headRecord
+cut-headRecord h rest k =
+    ap (cut widths) (take-at (headRecord h) rest RECORD (length-headRecord h) ∙ sym (append-nil (headRecord h)))
     ∙ cut-layOut [] (headFields-fit h k)
 
-pub headAt-record25 : (h : Head) (rest : List ℕ) → FitsHead h → headAt (record25 h ++ rest) ≡ h
-headAt-record25 h rest k = ap headOf (cut-record25 h rest k) ∙ headOf-headFields h k
+pub headAt-headRecord : (h : Head) (rest : List ℕ) → FitsHead h → headAt (headRecord h ++ rest) ≡ h
+headAt-headRecord h rest k = ap headOf (cut-headRecord h rest k) ∙ headOf-headFields h k

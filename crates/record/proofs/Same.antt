@@ -9,7 +9,7 @@ use lib.Dec.{eqb}
 use lib.ListN.{length, take, getD}
 use lib.Seq.{length-take-le}
 use Rattle.notation.specs.Basics.{sameList}
-use Rattle.notation.specs.Packed.{RECORD, widths, layOut, cut, Head, headFields, record25}
+use Rattle.notation.specs.Packed.{RECORD, widths, layOut, cut, Head, headFields, headRecord}
 use Rattle.notation.proofs.Bools.{false-true, and-left as left, and-right as right, and-both as both}
 use Rattle.numbers.proofs.Positional.{Below, below-take}
 use Rattle.record.specs.Meaning.{field, span, spanAt}
@@ -78,6 +78,6 @@ all-fields t a b c d e f g h = λ i.
     a i ∷ b i ∷ c i ∷ d i ∷ e i ∷ f i .offset ∷ f i .size ∷ g i .offset ∷ g i .size ∷ h i .offset ∷ h i .size ∷ []
 
 pub same-record : (h : Head) (bs : List ℕ) → Fits widths (headFields h) → Below 256 bs → RECORD ≤ length bs →
-    sameList (headFields h) (cut widths (take RECORD bs)) ≡ sameList (record25 h) (take RECORD bs)
-unfolding record25
+    sameList (headFields h) (cut widths (take RECORD bs)) ≡ sameList (headRecord h) (take RECORD bs)
+unfolding headRecord
 same-record h bs f b l = same-fields (headFields h) bs f b l

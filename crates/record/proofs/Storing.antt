@@ -10,7 +10,7 @@ use lib.IntN.{ℤ}
 use lib.ListN.{length, getD, take, drop, set, length-append}
 use lib.Seq.{sets, sets-eq, drop-at, length-take-le}
 use Rattle.notation.specs.Numbers.{bigEndian, fromBigEndian}
-use Rattle.notation.specs.Packed.{RECORD, widths, layOut, binaryHead, headFields, record25}
+use Rattle.notation.specs.Packed.{RECORD, widths, layOut, binaryHead, headFields, headRecord}
 use Rattle.notation.specs.declared.common.BinaryGroupKind.{BinaryGroupKind}
 use Rattle.numbers.proofs.BigEndian.{length-bigEndian}
 use Rattle.record.specs.Meaning.{start, field, withField, withLists}
@@ -78,8 +78,8 @@ next-kept bs i n h long =
 
 -- the counts of a group with two lists
 pub lists-set : (k : BinaryGroupKind) (n n′ c c′ : ℕ) (m : ℤ) (rest : List ℕ)
-    → withLists c c′ (record25 (binaryHead k n n′ m) ++ rest) ≡ record25 (binaryHead k c c′ m) ++ rest
-unfolding record25
+    → withLists c c′ (headRecord (binaryHead k n n′ m) ++ rest) ≡ headRecord (binaryHead k c c′ m) ++ rest
+unfolding headRecord
 lists-set k n n′ c c′ m rest =
     let fs = headFields (binaryHead k n n′ m) in
     ap (withField 2 c′) (store-field widths fs rest 1 c (lit< tt) refl)

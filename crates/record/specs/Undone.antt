@@ -4,13 +4,13 @@ use mathlib.Core.Path.{_≡_}
 use mathlib.Core.List.{List, _++_}
 use lib.IntN.{negℤ}
 use lib.ListN.{length, drop}
-use Rattle.notation.specs.Packed.{RECORD, Head, leafHead, groupHead, binaryHead, record25, headAt}
+use Rattle.notation.specs.Packed.{RECORD, Head, leafHead, groupHead, binaryHead, headRecord, headAt}
 use Rattle.notation.specs.Invert.{undo}
 use Rattle.record.specs.Range.{FitsHead}
 
 -- bytes whose first record is one that packing writes
 pub record StartsRecord (bs : List ℕ) : Type 0 where
-  pub whole : record25 (headAt bs) ++ drop RECORD bs ≡ bs
+  pub whole : headRecord (headAt bs) ++ drop RECORD bs ≡ bs
   pub fits : FitsHead (headAt bs)
   pub long : RECORD ≤ length bs
 

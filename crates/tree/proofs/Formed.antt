@@ -11,11 +11,11 @@ use lib.ListN.{length, take, drop, length-drop, length-append, take-append-drop}
 use lib.Seq.{take-at, drop-at, drop-drop, length-take-le}
 use Rattle.notation.specs.Basics.{sameList}
 use Rattle.notation.specs.Tree.{Tree}
-use Rattle.notation.specs.Packed.{RECORD, Head, leafHead, groupHead, binaryHead, record25, size, packNode, packBody, pack, headAt, unpackFrom, unpack}
+use Rattle.notation.specs.Packed.{RECORD, Head, leafHead, groupHead, binaryHead, headRecord, size, packNode, packBody, pack, headAt, unpackFrom, unpack}
 use Rattle.notation.specs.WellFormed.{nodeOk, bodyOk, treeOk, nodeDepth, bodyDepth, depth, multiplierOk}
 use Rattle.numbers.proofs.Positional.{Below}
 use Rattle.record.specs.Range.{FitsHead}
-use Rattle.record.proofs.RoundTrip.{length-record25, headAt-record25}
+use Rattle.record.proofs.RoundTrip.{length-headRecord, headAt-headRecord}
 use Rattle.laws.proofs.Bools.{and-left, and-right, and-both}
 use Rattle.laws.proofs.Packing.{length-pack}
 use Rattle.record.proofs.Same.{same-refl, same-eq}
@@ -88,13 +88,13 @@ join-parts bs n n′ =
 
 -- What packing writes of a head's node.
 pack-node : (h : Head) (bs : List ℕ) (a b : Tree) → a ≡ unpack (firstBytes h bs) → b ≡ unpack (secondBytes h bs) →
-    packNode (nodeOf h a b) ≡ record25 (counting h (size a) (size b)) ++ (pack a ++ pack b)
+    packNode (nodeOf h a b) ≡ headRecord (counting h (size a) (size b)) ++ (pack a ++ pack b)
 unfolding packNode packBody pack unpackFrom
 pack-node (leafHead x) bs a b ea eb =
-    sym (append-nil _) ∙ ap₂ (λ (s t : Tree). record25 (leafHead x) ++ (pack s ++ pack t)) (sym ea) (sym eb)
+    sym (append-nil _) ∙ ap₂ (λ (s t : Tree). headRecord (leafHead x) ++ (pack s ++ pack t)) (sym ea) (sym eb)
 pack-node (groupHead g n m) bs a b ea eb =
-    ap (λ (l : List ℕ). record25 (groupHead g (size a) m) ++ l) (sym (append-nil (pack a)))
-    ∙ ap (λ (t : Tree). record25 (groupHead g (size a) m) ++ (pack a ++ pack t)) (sym eb)
+    ap (λ (l : List ℕ). headRecord (groupHead g (size a) m) ++ l) (sym (append-nil (pack a)))
+    ∙ ap (λ (t : Tree). headRecord (groupHead g (size a) m) ++ (pack a ++ pack t)) (sym eb)
 pack-node (binaryHead g n n′ m) bs a b ea eb = refl
 
 abbrev firstList : Head → List ℕ → Tree
@@ -105,12 +105,12 @@ secondList h bs = unpack (secondBytes h bs)
 
 view-bytes : (h : Head) (bs : List ℕ) →
     pack (viewed bs h)
-    ≡ record25 (counting h (size (firstList h bs)) (size (secondList h bs))) ++ (pack (firstList h bs) ++ (pack (secondList h bs) ++ pack (unpack (restBytes h bs))))
+    ≡ headRecord (counting h (size (firstList h bs)) (size (secondList h bs))) ++ (pack (firstList h bs) ++ (pack (secondList h bs) ++ pack (unpack (restBytes h bs))))
 unfolding pack
 view-bytes h bs =
     let a = firstList h bs in
     let b = secondList h bs in
-    let w = record25 (counting h (size a) (size b)) in
+    let w = headRecord (counting h (size a) (size b)) in
     ap (λ (l : List ℕ). l ++ pack (unpack (restBytes h bs))) (pack-node h bs a b refl refl)
     ∙ append-assoc w (pack a ++ pack b) (pack (unpack (restBytes h bs)))
     ∙ ap (λ (l : List ℕ). w ++ l) (append-assoc (pack a) (pack b) (pack (unpack (restBytes h bs))))
@@ -162,7 +162,7 @@ answered text d (binaryHead g n n′ m) bs a =
 
 -- The parts of a well-formed list whose first record says h.
 pub record Parts (text : List ℕ) (d : ℕ) (h : Head) (bs : List ℕ) : Type 0 where
-  pub exact : record25 h ≡ take RECORD bs
+  pub exact : headRecord h ≡ take RECORD bs
   pub long : RECORD + RECORD * both h ≤ length bs
   pub head : headOk text d h ≡ true
   pub list : Formed text (d - 1) (firstBytes h bs)
@@ -189,17 +189,17 @@ formed-parts text d bs b p f =
     let b′ = secondList h bs in
     let r = unpack (restBytes h bs) in
     let v : unpack bs ≡ viewed bs h = unpack-view bs p in
-    let w = record25 (counting h (size a) (size b′)) in
+    let w = headRecord (counting h (size a) (size b′)) in
     let shape : bs ≡ w ++ (pack a ++ (pack b′ ++ pack r)) = sym (f .whole) ∙ ap pack v ∙ view-bytes h bs in
     let few : size a ≤ first h = size-most (length (firstBytes h bs)) (first h) (drop RECORD bs) in
     let few′ : size b′ ≤ second h = size-most (length (secondBytes h bs)) (second h) (drop (RECORD + RECORD * first h) bs) in
     let says : counting h (size a) (size b′) ≡ h =
-    sym (ap headAt shape ∙ headAt-record25 (counting h (size a) (size b′)) _ (fewer-fits h (size a) (size b′) few few′ (head-fits bs b)))
+    sym (ap headAt shape ∙ headAt-headRecord (counting h (size a) (size b′)) _ (fewer-fits h (size a) (size b′) few few′ (head-fits bs b)))
     in
     let same = counts h (size a) (size b′) few few′ says in
     let la : length (pack a) ≡ RECORD * first h = length-pack a ∙ ap (λ (k : ℕ). RECORD * k) (same .0) in
     let lb : length (pack b′) ≡ RECORD * second h = length-pack b′ ∙ ap (λ (k : ℕ). RECORD * k) (same .1) in
-    let lw : length w ≡ RECORD = length-record25 (counting h (size a) (size b′)) in
+    let lw : length w ≡ RECORD = length-headRecord (counting h (size a) (size b′)) in
     let parts = cut-parts bs w (pack a) (pack b′) (pack r) (first h) (second h) shape lw la lb in
     let rest : restBytes h bs ≡ pack r = ap (λ (k : ℕ). drop (RECORD + RECORD * k) bs) (both-sum h) ∙ parts .3 in
     let sizes : length bs ≡ length w + (length (pack a) + (length (pack b′) + length (pack r))) =
@@ -209,7 +209,7 @@ formed-parts text d bs b p f =
     let low : depth (viewed bs h) ≤ d = subst (λ (t : Tree). depth t ≤ d) v (f .low) in
     let q = asked text d h bs (and-left _ _ ok) (omega arith) in
     record {
-      exact = sym (parts .0 ∙ ap record25 says);
+      exact = sym (parts .0 ∙ ap headRecord says);
       long = omega (arith, both-sum h);
       head = q .head;
       list = record { whole = sym (parts .1); ok = q .first-ok; low = q .first-low };
@@ -235,8 +235,8 @@ parts-formed text d bs p q =
     in
     let says : counting h (size a) (size b) ≡ h = ap₂ (counting h) sa sb ∙ counting-own h in
     let rest : pack r ≡ drop (RECORD + RECORD * (first h + second h)) bs = q .rest .whole ∙ ap (λ (k : ℕ). drop (RECORD + RECORD * k) bs) s in
-    let bytes : record25 (counting h (size a) (size b)) ++ (pack a ++ (pack b ++ pack r)) ≡ bs =
-    ap₂ (λ (w y : List ℕ). w ++ (y ++ (pack b ++ pack r))) (ap record25 says ∙ q .exact) (q .list .whole)
+    let bytes : headRecord (counting h (size a) (size b)) ++ (pack a ++ (pack b ++ pack r)) ≡ bs =
+    ap₂ (λ (w y : List ℕ). w ++ (y ++ (pack b ++ pack r))) (ap headRecord says ∙ q .exact) (q .list .whole)
     ∙ ap₂ (λ (y z : List ℕ). take RECORD bs ++ (firstBytes h bs ++ (y ++ z))) (q .list′ .whole) rest
     ∙ join-parts bs (first h) (second h)
     in

@@ -9,7 +9,7 @@ use lib.ListN.{length, take, getD}
 use Rattle.notation.specs.Basics.{sameList}
 use Rattle.notation.specs.Numbers.{toBits, fromBits}
 use Rattle.notation.specs.Tree.{Leaf, rotation, move, pause, pair, slash, megaminx}
-use Rattle.notation.specs.Packed.{RECORD, widths, cut, inOrder, nowhere, Head, leafHead, groupHead, binaryHead, groupNumber, binaryNumber, headFields, record25, headAt}
+use Rattle.notation.specs.Packed.{RECORD, widths, cut, inOrder, nowhere, Head, leafHead, groupHead, binaryHead, groupNumber, binaryNumber, headFields, headRecord, headAt}
 use Rattle.notation.specs.WellFormed.{leafOk, multiplierOk}
 use Rattle.notation.specs.declared.common.GroupKind.{GroupKind}
 use Rattle.notation.specs.declared.common.GroupKind.the-variants.{Simple, Macro, Simultaneous, Niss}
@@ -105,18 +105,18 @@ second-field (binaryHead k n n′ m) = refl
 
 module _ (bs : List ℕ) (below : Below 256 bs) (long : RECORD ≤ length bs) where
   -- a record that is compared by its fields
-  by-fields : sameList (headFields (headAt bs)) (cut widths (take RECORD bs)) ≡ sameList (record25 (headAt bs)) (take RECORD bs)
+  by-fields : sameList (headFields (headAt bs)) (cut widths (take RECORD bs)) ≡ sameList (headRecord (headAt bs)) (take RECORD bs)
   by-fields = same-record (headAt bs) bs (headFields-fit (headAt bs) (head-fits bs below)) below long
 
-  pub compared : (fs gs : List ℕ) (r : Bool) → fs ≡ headFields (headAt bs) → gs ≡ cut widths (take RECORD bs) → r ≡ sameList fs gs → r ≡ sameList (record25 (headAt bs)) (take RECORD bs)
+  pub compared : (fs gs : List ℕ) (r : Bool) → fs ≡ headFields (headAt bs) → gs ≡ cut widths (take RECORD bs) → r ≡ sameList fs gs → r ≡ sameList (headRecord (headAt bs)) (take RECORD bs)
   compared fs gs r p q e = e ∙ ap₂ sameList p q ∙ by-fields
 
   -- a record that is what packing writes
-  pub field-written : sameList (record25 (headAt bs)) (take RECORD bs) ≡ true → (i : ℕ) → field i bs ≡ getD (headFields (headAt bs)) i 0
+  pub field-written : sameList (headRecord (headAt bs)) (take RECORD bs) ≡ true → (i : ℕ) → field i bs ≡ getD (headFields (headAt bs)) i 0
   field-written e i = ap (λ (l : List ℕ). getD l i 0) (sym (same-eq (headFields (headAt bs)) (cut widths (take RECORD bs)) (by-fields ∙ e)))
 
-  pub first-written : sameList (record25 (headAt bs)) (take RECORD bs) ≡ true → field 1 bs ≡ first (headAt bs)
+  pub first-written : sameList (headRecord (headAt bs)) (take RECORD bs) ≡ true → field 1 bs ≡ first (headAt bs)
   first-written e = field-written e 1 ∙ first-field (headAt bs)
 
-  pub second-written : sameList (record25 (headAt bs)) (take RECORD bs) ≡ true → field 2 bs ≡ second (headAt bs)
+  pub second-written : sameList (headRecord (headAt bs)) (take RECORD bs) ≡ true → field 2 bs ≡ second (headAt bs)
   second-written e = field-written e 2 ∙ second-field (headAt bs)

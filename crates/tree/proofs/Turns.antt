@@ -11,7 +11,7 @@ use lib.Seq.{take-all}
 use Rattle.notation.specs.Basics.{sameList}
 use Rattle.notation.specs.Numbers.{fromBits}
 use Rattle.notation.specs.Tree.{Leaf, pause, pair}
-use Rattle.notation.specs.Packed.{RECORD, widths, cut, inOrder, nowhere, Head, leafHead, headFields, record25, headAt}
+use Rattle.notation.specs.Packed.{RECORD, widths, cut, inOrder, nowhere, Head, leafHead, headFields, headRecord, headAt}
 use Rattle.notation.specs.WellFormed.{leafOk, multiplierOk}
 use Rattle.numbers.proofs.Positional.{Below, below-drop}
 use Rattle.numbers.proofs.TwosComplement.{toBits-fromBits}
@@ -42,7 +42,7 @@ and-false false b e = refl
 
 -- whether the first record is what packing writes
 abbrev same : List ℕ → Bool
-same bs = sameList (record25 (headAt bs)) (take RECORD bs)
+same bs = sameList (headRecord (headAt bs)) (take RECORD bs)
 
 -- Lists that are not empty.
 module _ (text : List ℕ) (d : ℕ) (bs : List ℕ) (below : Below 256 bs) (some : 0 < length bs) where
@@ -50,7 +50,7 @@ module _ (text : List ℕ) (d : ℕ) (bs : List ℕ) (below : Below 256 bs) (som
   parts e = formed-parts text d bs below some (formed-fact text d bs e)
 
   same-part : Parts text d (headAt bs) bs → same bs ≡ true
-  same-part p = subst (λ (s : List ℕ). sameList (record25 (headAt bs)) s ≡ true) (p .exact) (same-refl (record25 (headAt bs)))
+  same-part p = subst (λ (s : List ℕ). sameList (headRecord (headAt bs)) s ≡ true) (p .exact) (same-refl (headRecord (headAt bs)))
 
   -- too short for a record
   pub too-short : length bs < RECORD → false ≡ formed text d bs
@@ -91,7 +91,7 @@ module _ (text : List ℕ) (d : ℕ) (bs : List ℕ) (below : Below 256 bs) (som
           fact-formed text d bs
           (parts-formed text d bs some
           (record {
-            exact = same-eq (record25 h) (take RECORD bs) (and-left _ _ (sym o ∙ holds));
+            exact = same-eq (headRecord h) (take RECORD bs) (and-left _ _ (sym o ∙ holds));
             long = long;
             head = and-left _ _ all;
             list = formed-fact text (d - 1) (firstBytes h bs) (and-left _ _ lists);

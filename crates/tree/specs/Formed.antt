@@ -5,7 +5,7 @@ use mathlib.Core.List.{List}
 use lib.Dec.{leb, ltb}
 use lib.ListN.{take, drop}
 use Rattle.notation.specs.Basics.{sameList}
-use Rattle.notation.specs.Packed.{RECORD, record25, pack, headAt, unpack, Head, leafHead, groupHead, binaryHead}
+use Rattle.notation.specs.Packed.{RECORD, headRecord, pack, headAt, unpack, Head, leafHead, groupHead, binaryHead}
 use Rattle.notation.specs.WellFormed.{treeOk, depth, leafOk, multiplierOk}
 
 unfoldable pub formed : List ℕ → ℕ → List ℕ → Bool
@@ -49,4 +49,4 @@ restBytes h bs = drop (RECORD + RECORD * both h) bs
 abbrev pub firstOk : List ℕ → ℕ → List ℕ → Bool
 firstOk text d bs =
     let h = headAt bs in
-    sameList (record25 h) (take RECORD bs) && (headOk text d h && (formed text (d - 1) (firstBytes h bs) && formed text (d - 1) (secondBytes h bs)))
+    sameList (headRecord h) (take RECORD bs) && (headOk text d h && (formed text (d - 1) (firstBytes h bs) && formed text (d - 1) (secondBytes h bs)))

@@ -21,7 +21,7 @@ ghost use lib.Dec.{leb, eqb};
 ghost use lib.ListN.{length, take};
 ghost use Rattle.notation.specs.Basics.{sameList};
 ghost use Rattle.notation.specs.Numbers.{fromBits};
-ghost use Rattle.notation.specs.Packed.{RECORD, record25, headAt};
+ghost use Rattle.notation.specs.Packed.{RECORD, headRecord, headAt};
 ghost use Rattle.notation.specs.WellFormed.{multiplierOk, wellFormed};
 ghost use Rattle.record.specs.Meaning.{field};
 ghost use Rattle.tree.specs.Formed.{formed, firstOk};
@@ -86,7 +86,7 @@ fn group_ok(text: &[u8], t: &[u8], depth: usize) -> bool
 fn group_record_ok(t: &[u8]) -> bool
     requires { ⌜ RECORD ≤ length (now t) ⌝ }
     requires { ⌜ field 0 (now t) / 16 < 6 ⌝ }
-    ensures { λ r. ⌜ r ≡ (sameList (record25 (headAt (now (t .entry)))) (take RECORD (now (t .entry))) && multiplierOk (fromBits 32 (field 3 (now (t .entry))))) ⌝ }
+    ensures { λ r. ⌜ r ≡ (sameList (headRecord (headAt (now (t .entry)))) (take RECORD (now (t .entry))) && multiplierOk (fromBits 32 (field 3 (now (t .entry))))) ⌝ }
 {
     let kind = fields::kind(t);
     let second = fields::second(t);
