@@ -76,11 +76,11 @@ next-kept bs i n h long =
     ∙ ap (λ (l : List ℕ). fromBigEndian (take (getD widths (suc i) 0) l)) after
     ∙ sym (field-at bs (suc i) h)
 
--- the counts of a group with two lists
-pub lists-set : (k : BinaryGroupKind) (n n′ c c′ : ℕ) (m : ℤ) (rest : List ℕ)
-    → withLists c c′ (headRecord (binaryHead k n n′ m) ++ rest) ≡ headRecord (binaryHead k c c′ m) ++ rest
+-- the sizes of a group's two lists
+pub lists-set : (k : BinaryGroupKind) (n n′ a a′ : ℕ) (m : ℤ) (c : ℕ) (rest : List ℕ)
+    → withLists a a′ (headRecord (binaryHead k n n′ m c) ++ rest) ≡ headRecord (binaryHead k a a′ m c) ++ rest
 unfolding headRecord
-lists-set k n n′ c c′ m rest =
-    let fs = headFields (binaryHead k n n′ m) in
-    ap (withField 2 c′) (store-field widths fs rest 1 c (lit< tt) refl)
-    ∙ store-field widths (set fs 1 c) rest 2 c′ (lit< tt) refl
+lists-set k n n′ a a′ m c rest =
+    let fs = headFields (binaryHead k n n′ m c) in
+    ap (withField 2 a′) (store-field widths fs rest 1 a (lit< tt) refl)
+    ∙ store-field widths (set fs 1 a) rest 2 a′ (lit< tt) refl

@@ -17,5 +17,5 @@ pub record StartsRecord (bs : List ℕ) : Type 0 where
 -- a record undone: a step, or a group as a whole
 abbrev pub undoneHead : Head → Head
 undoneHead (leafHead x) = leafHead (undo x)
-undoneHead (groupHead k n m) = groupHead k n (negℤ m)
-undoneHead (binaryHead k n n′ m) = binaryHead k n n′ (negℤ m)
+undoneHead (groupHead k n m c) = groupHead k n (negℤ m) c
+undoneHead (binaryHead k n n′ m c) = binaryHead k n n′ (negℤ m) c
