@@ -165,7 +165,7 @@ one-list bs k a m f e =
     }
   where
     h : Head
-    h = groupHead k (size a) m
+    h = bodyHead (group k a) m
     list : drop RECORD bs ≡ pack a
     list = ap (drop RECORD) (sym e) ∙ drop-at (headRecord h) (pack a) RECORD (length-headRecord h)
     fields : (i : ℕ) → field i bs ≡ getD (headFields h) i 0
@@ -186,7 +186,7 @@ two-lists bs k a b m f e =
     }
   where
     h : Head
-    h = binaryHead k (size a) (size b) m
+    h = bodyHead (binaryGroup k a b) m
     lists : drop RECORD bs ≡ pack a ++ pack b
     lists = ap (drop RECORD) (sym e) ∙ drop-at (headRecord h) (pack a ++ pack b) RECORD (length-headRecord h)
     fields : (i : ℕ) → field i bs ≡ getD (headFields h) i 0
