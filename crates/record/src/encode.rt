@@ -207,7 +207,7 @@ pub fn move_fields(x: Move) -> Fields
     }
 }
 
-fn group_number(k: GroupKind) -> u8
+pub fn group_number(k: GroupKind) -> u8
     ensures { λ r. ⌜ r ≡ packed.groupNumber k ⌝ }
 {
     match k {
@@ -218,7 +218,7 @@ fn group_number(k: GroupKind) -> u8
     }
 }
 
-fn binary_number(k: BinaryGroupKind) -> u8
+pub fn binary_number(k: BinaryGroupKind) -> u8
     ensures { λ r. ⌜ r ≡ packed.binaryNumber k ⌝ }
 {
     match k {
