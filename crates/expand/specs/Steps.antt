@@ -15,7 +15,7 @@ use Rattle.record.specs.Meaning.{field}
 use Rattle.record.specs.Range.{FitsFamily, FitsConstraints, FitsLayers, FitsLeaf}
 use Rattle.record.specs.Undone.{undoneHead}
 use Rattle.laws.proofs.Unrolling.{backwards, flatBinary, flat}
-use Rattle.laws.proofs.Counting.{countBinary}
+use Rattle.notation.specs.Counts.{countBinary}
 use Rattle.nodes.specs.Nodes.{IsNode}
 use Rattle.expand.specs.Meaning.{binaryKind}
 
