@@ -11,6 +11,7 @@ use lib.Seq.{take-at, take-add}
 use Rattle.notation.specs.Refusals.{NISS}
 use Rattle.notation.specs.Tree.{Leaf, Node, leaf, block, Body, group, binaryGroup, append, Tree}
 use Rattle.notation.specs.Packed.{RECORD, Head, groupHead, binaryHead, headRecord, groupNumber, size, bodyHead, packNode, packBody, pack, headAt, unpack}
+use Rattle.notation.specs.Counts.{hold, stored}
 use Rattle.notation.specs.declared.common.GroupKind.{GroupKind}
 use Rattle.notation.specs.declared.common.GroupKind.the-variants.{Simple, Macro, Simultaneous, Niss}
 use Rattle.notation.specs.declared.common.BinaryGroupKind.the-variants.{Commutator, Conjugate}
@@ -20,7 +21,7 @@ use Rattle.record.proofs.RoundTrip.{length-headRecord}
 use Rattle.record.proofs.Undoing.{Undone, starts-with, undone-with}
 use Rattle.laws.proofs.Walking.{Packed, nodeHead, inside, node-bytes, node-head-fits, nodeEnd, one-list}
 use Rattle.laws.proofs.Inverses.{inverted, deeply, deeplyNode, deeplyBody, deepRefusal, deepRefusalNode, deepRefusalBody, nissFirst}
-use Rattle.laws.proofs.WellFormedInverses.{deeply-size}
+use Rattle.laws.proofs.WellFormedInverses.{deeply-size, node-count, deeplyNode-count}
 use Rattle.nodes.specs.Nodes.{IsNode, part, Lists}
 use Rattle.nodes.proofs.Nodes.{part-rest, first-of, node-room, node-head, alone, kind-of, leaf-kind, group-kind, binary-kind}
 use Rattle.invert.specs.Nodes.{headRefusal, Inner}
@@ -35,8 +36,8 @@ packed-starts bs p h =
     (sym (p .whole) ∙ ap pack (f .unpacks) ∙ ap (λ (s : List ℕ). s ++ rest) (node-bytes n) ∙ append-assoc (headRecord (nodeHead n)) (inside n) rest)
 
 undone-body : (b : Body Leaf) (m : ℤ) → undoneHead (bodyHead b m) ≡ bodyHead b (negℤ m)
-undone-body (group k a) m = refl
-undone-body (binaryGroup k a b) m = refl
+undone-body (group k a) m = ap (groupHead k (size a) (negℤ m)) (ap hold (sym (node-count (block (group k a) m))))
+undone-body (binaryGroup k a b) m = ap (binaryHead k (size a) (size b) (negℤ m)) (ap hold (sym (node-count (block (binaryGroup k a b) m))))
 
 undone-node : (n : Node Leaf) {bs : List ℕ} → IsNode bs n → headRecord (undoneHead (nodeHead n)) ++ inside n ≡ pack (inverted (unpack bs))
 unfolding pack packNode inverted append
@@ -95,7 +96,7 @@ group-inner (block (binaryGroup Conjugate a b) m) s h n4 n5 = absurd (n5 (kind-o
 group-inner (block (group g a) m) {bs} s h n4 n5 =
     let o = one-list bs g a m (s .fits) (s .bytes) in
     inner-of s (lit≤ tt) (node-room s) (subst Packed (sym (part-rest RECORD bs)) (o .packedList)) (ap unpack (part-rest RECORD bs) ∙ o .unpacksList)
-    (ap (λ (l : List ℕ). l ++ pack (deeply a)) (record-is s ∙ ap (λ (z : ℕ). headRecord (groupHead g z m)) (sym (deeply-size a))))
+    (ap (λ (l : List ℕ). l ++ pack (deeply a)) (record-is s ∙ ap₂ (λ (z c : ℕ). headRecord (groupHead g z m c)) (sym (deeply-size a)) (ap hold (sym (deeplyNode-count (block (group g a) m))))))
     (λ n3. not-niss g (deepRefusal a) (λ z. n3 (kind-of s ∙ z)))
 
 pub conjugate-inner : (n : Node Leaf) {bs : List ℕ} {k : ℕ} → IsNode bs n → field 0 bs / 16 ≡ 5 → Lists bs k → Inner bs k
@@ -104,7 +105,7 @@ conjugate-inner (leaf x) s h l = absurd (omega (arith, kind-of s, leaf-kind x .0
 conjugate-inner (block (group g a) m) s h l = absurd (omega (arith, kind-of s, group-kind g))
 conjugate-inner (block (binaryGroup Commutator a b) m) s h l = absurd (omega (arith, kind-of s))
 conjugate-inner (block (binaryGroup Conjugate a b) m) {bs} {k} s h l =
-    let hd = headRecord (binaryHead Conjugate (size a) (size b) m) in
+    let hd = headRecord (bodyHead (binaryGroup Conjugate a b) m) in
     let end : k ≡ RECORD + (k - RECORD) = omega (arith, l .least) in
     let front : take k bs ≡ hd ++ pack a =
     ap (λ (j : ℕ). take j bs) end ∙ take-add RECORD (k - RECORD) bs ∙ ap₂ (λ (x y : List ℕ). x ++ y) (record-is s) (list-is (l .packedFirst) (l .unpacksFirst _ s))
@@ -112,7 +113,7 @@ conjugate-inner (block (binaryGroup Conjugate a b) m) {bs} {k} s h l =
     inner-of s (l .least) (l .most) (l .packedSecond) (l .unpacksSecond _ s)
     (ap (λ (x : List ℕ). x ++ pack (deeply b)) front
     ∙ append-assoc hd (pack a) (pack (deeply b))
-    ∙ ap (λ (z : ℕ). headRecord (binaryHead Conjugate (size a) z m) ++ (pack a ++ pack (deeply b))) (sym (deeply-size b)))
+    ∙ ap₂ (λ (z c : ℕ). headRecord (binaryHead Conjugate (size a) z m c) ++ (pack a ++ pack (deeply b))) (sym (deeply-size b)) (ap hold (sym (deeplyNode-count (block (binaryGroup Conjugate a b) m)))))
     (λ n3. refl)
 
 -- What one node is refused for.
