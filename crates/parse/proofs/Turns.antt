@@ -11,7 +11,7 @@ use Rattle.charsets.proofs.Runs.{run-dropped, end-length}
 use Rattle.laws.proofs.Counting.{hold-plus}
 use Rattle.laws.proofs.Inverses.{append-nil-nodes}
 use Rattle.laws.proofs.Packing.{length-pack}
-use Rattle.laws.proofs.WellFormedInverses.{size-append}
+use Rattle.laws.proofs.WellFormedInverses.{size-append, count-append}
 use Rattle.notation.specs.Chars.{whiteSpace}
 use Rattle.notation.specs.Utf8.{run}
 use Rattle.notation.specs.Tree.{Leaf, Node, leaf, block, nil, cons, Tree, append}
@@ -40,9 +40,8 @@ unfolding size
 size-last a n = size-append a (cons n nil) ∙ omega arith
 
 count-last : (a : Tree) (n : Node Leaf) → count (append a (cons n nil)) ≡ count a + countNode n
-unfolding append count
-count-last nil n = omega arith
-count-last (cons m a) n = omega (arith, count-last a n)
+unfolding count
+count-last a n = count-append a (cons n nil) ∙ omega arith
 
 -- the count so far and what the node's record stores come to the count with the node
 held-last : (a : Tree) (n : Node Leaf) (steps more total : ℕ) → steps ≡ hold (count a) → more ≡ stored n → total ≡ hold (steps + more) →
