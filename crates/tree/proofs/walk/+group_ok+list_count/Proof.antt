@@ -185,7 +185,9 @@ group-ok-of-group-requires : (t : ℕ) → group-ok-lts.Need-of-group-requires (
 group-ok-of-group-requires t c κs =
     let lists = two t (c .before .before .before .before .before .before) in
     let bound = c .before .before .before .before .b in
-    (first-held (lists .one) _ refl, second-held lists (bound .given .0 .0) (ap answer (bound .given .1)))
+    let held = first-held (lists .one) _ refl in
+    let held′ = second-held lists (bound .given .0 .0) (ap answer (bound .given .1)) in
+    (omega arith, omega arith)
 
 group-ok-returns-4 : (t : ℕ) → group-ok-lts.Need-returns-4 (group-claims t) (group-ok-at t) group-ok.Post
 group-ok-returns-4 t c =
@@ -261,7 +263,10 @@ list-count-sum-requires t c κs =
     let left = c .before .before .before .before .before .before .before .before .before .before .loop in
     let a = c .before .before .before .before .before .before .before .before .before .before .before .before .before .args in
     let ok = c .before .before .group-ok in
-    (left .inv .held, count-held (a .text .now) (a .depth) (left .t .now) (left .inv .below) (c .before .before .before .before .before .before .before .before .if1 .left) (ok .result) (ok .ensures) (c .before .if4 .taken) (c .count .result) (c .count .ensures))
+    let long = c .before .before .before .before .before .before .before .before .if1 .left in
+    let held = left .inv .held in
+    let held′ = count-held (a .text .now) (a .depth) (left .t .now) (left .inv .below) long (ok .result) (ok .ensures) (c .before .if4 .taken) (c .count .result) (c .count .ensures) in
+    (omega arith, omega arith)
 
 list-count-sub-t : (t : ℕ) → list-count-lts.Need-sub-t (list-claims t) (list-count-at t) list-count.Post list-count-Inv-loop list-count-μ-loop
 list-count-sub-t t c = search needs
