@@ -104,22 +104,23 @@ unfolding wellFormed formed clauseByClause every
 from-clauses text tree h =
     let n = length tree / RECORD in
     let rs = fieldsOf n tree in
-    let size : length tree ≡ RECORD * n = omega (arith, eqb-true (length tree % RECORD) 0 (search (and-left, and-right) depth 12)) in
+    let size : length tree ≡ RECORD * n = omega (arith, eqb-true (length tree % RECORD) 0 (search (and-left, and-right) depth 13)) in
     let e : Each text rs = record {
-      kinds = search (and-left, and-right) depth 12;
-      unused = search (and-left, and-right) depth 12;
-      inside = search (and-left, and-right) depth 12;
-      layers = search (and-left, and-right) depth 12;
-      multipliers = search (and-left, and-right) depth 12;
-      families = search (and-left, and-right) depth 12;
-      parts = search (and-left, and-right) depth 12;
+      kinds = search (and-left, and-right) depth 13;
+      unused = search (and-left, and-right) depth 13;
+      inside = search (and-left, and-right) depth 13;
+      layers = search (and-left, and-right) depth 13;
+      multipliers = search (and-left, and-right) depth 13;
+      families = search (and-left, and-right) depth 13;
+      parts = search (and-left, and-right) depth 13;
     } in
     fact-formed text MAX-NESTING tree
     (agree text (length rs) n MAX-NESTING tree (omega (arith, fields-length n tree)) size (bytes-below tree (and-left _ _ h)) .0
     (record {
       records = each-all text rs e;
-      ends = search (and-left, and-right) depth 12;
-      deep = leb-true (groupsDeep (length rs) rs) MAX-NESTING (search (and-left, and-right) depth 12);
+      ends = search (and-left, and-right) depth 13;
+      deep = leb-true (groupsDeep (length rs) rs) MAX-NESTING (search (and-left, and-right) depth 13);
+      counted = search (and-left, and-right) depth 13;
     }))
 
 from-packing : (text tree : List ℕ) → wellFormed text tree ≡ true → clauses text tree ≡ true
@@ -146,7 +147,8 @@ from-packing text tree h =
     and (each multiplierInRange (λ r q. q .bounds .multiplier-ok)
     and (each (familyReads text) (λ r q. q .bounds .family-ok)
     and (each (partsRead text) (λ r q. q .bounds .parts-ok)
-    and refl))))))))))
+    and (o .counted
+    and refl)))))))))))
 
 -- two tests that pass together are equal
 together : (a b : Bool) → (a ≡ true → b ≡ true) → (b ≡ true → a ≡ true) → a ≡ b
