@@ -13,6 +13,7 @@ use Rattle.notation.specs.Packed.{RECORD, leafHead, leafRecord}
 use Rattle.notation.specs.Entries.{records}
 use Rattle.notation.specs.Invert.{undo}
 use Rattle.notation.specs.Unroll.{copies, turned}
+use Rattle.notation.specs.Counts.{times}
 use Rattle.notation.specs.declared.common.BinaryGroupKind.{BinaryGroupKind}
 use Rattle.notation.specs.declared.common.BinaryGroupKind.the-variants.{Commutator, Conjugate}
 use Rattle.record.specs.Range.{FitsNumber, FitsLeaf}
@@ -103,7 +104,7 @@ mutual
 
   pub all-flatNode : (n : Node Leaf) (d : Bool) → FitsNode n → All Undoable (flatNode undo d n)
   all-flatNode (leaf x) d f = all-leaf d x f
-  all-flatNode (block b m) d f = all-copies (natAbs m) (all-flatBody b (turned m d) (f .1))
+  all-flatNode (block b m) d f = all-copies (times b m) (all-flatBody b (turned m d) (f .1))
 
   pub all-flatBody : (b : Body Leaf) (d : Bool) → FitsBody b → All Undoable (flatBody undo d b)
   all-flatBody (group k a) d f = all-flat a d f
