@@ -5,7 +5,7 @@ use mathlib.Core.List.{List}
 use native.Mathlib.Omega.{arith}
 use lib.ListN.{length}
 use Rattle.notation.specs.Packed.{unpack}
-use Rattle.notation.specs.Counts.{HELD, hold, countNode, count}
+use Rattle.notation.specs.Counts.{HELD, hold, count}
 use Rattle.record.specs.Meaning.{field}
 use Rattle.laws.proofs.Walking.{Packed, no-node}
 use Rattle.nodes.specs.Nodes.{part, FirstNode}

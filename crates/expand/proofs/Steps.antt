@@ -2,7 +2,7 @@
 use Prim.Native.Nat.{ℕ, zero, suc, _*_, _≤_, _<_}
 use mathlib.Core.Path.{_≡_, refl, sym, ap, _∙_}
 use mathlib.Core.Bool.{Bool, true, false}
-use mathlib.Core.List.{List, [], _∷_, _++_, map, append-assoc}
+use mathlib.Core.List.{List, [], _∷_, _++_, append-assoc}
 use native.Mathlib.Omega.{arith}
 use borrow.Author.Tests.{ltb-true}
 use lib.IntN.{ℤ, pos, negsuc, negℤ, natAbs}
@@ -19,7 +19,7 @@ use Rattle.notation.specs.declared.common.BinaryGroupKind.the-variants.{Commuta
 use Rattle.record.specs.Range.{FitsNumber, FitsLeaf}
 use Rattle.record.proofs.RoundTrip.{length-headRecord}
 use Rattle.laws.proofs.Packing.{FitsNode, FitsBody, FitsTree}
-use Rattle.laws.proofs.Unrolling.{backwards, flatBinary, flatNode, flatBody, flat}
+use Rattle.laws.proofs.Unrolling.{flatBinary, flatNode, flatBody, flat}
 use Rattle.expand.specs.Steps.{Small, Undoable, All, none, one}
 
 pub length-records : (l : List Leaf) → length (records l) ≡ RECORD * length l

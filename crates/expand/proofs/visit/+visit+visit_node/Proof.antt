@@ -1,7 +1,7 @@
 -- `visit::visit` and `visit::visit_node` meet their contracts. A list's measure lies above that of the nodes in it, which lies
 -- above that of the lists in the node. Assumes nothing.
 use Prim.Native.Nat.{ℕ, _+_, _*_, _<_}
-use mathlib.Core.Path.{sym, ap, _∙_}
+use mathlib.Core.Path.{ap, _∙_}
 use borrow.Author.Needs.{needs}
 use lib.Dec.{lit≤}
 use lib.ListN.{length}
