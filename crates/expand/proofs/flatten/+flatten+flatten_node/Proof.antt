@@ -97,12 +97,12 @@ pub +flatten+flatten-node-spec : {M : Type 1} → statement M
     (λ c κs.
     let kinded = c .before .before .before in
     let at-loop = kinded .before .before in
-    let leaf = first-leaf (at-loop .loop .inv .packed) (kinded .before .loop-test .taken) (kinded .kind .ensures) (c .before .before .if1 .taken) in
+    let leaf = first-leaf (at-loop .loop .inv .packed) (kinded .before .loop-test .taken) (kinded .kind .ensures) (omega (arith, c .before .before .if1 .taken)) in
     (leaf-record leaf, leaf-room leaf (leaf-fits (at-loop .loop .inv) (leaf .first))))  -- flatten-copy-record-requires
     (λ c.
     let kinded = c .before .before .before .before .before .before in
     let at-loop = kinded .before .before in
-    let leaf = first-leaf (at-loop .loop .inv .packed) (kinded .before .loop-test .taken) (kinded .kind .ensures) (c .before .before .before .before .before .if1 .taken) in
+    let leaf = first-leaf (at-loop .loop .inv .packed) (kinded .before .loop-test .taken) (kinded .kind .ensures) (omega (arith, c .before .before .before .before .before .if1 .taken)) in
     omega (arith, next-fits (at-loop .loop .inv) (leaf .first) (leaf-written leaf (c .before .before .copy-record .ensures)), at-loop .loop .inv .long, at-loop .before .before .before .good))  -- flatten-add-at
     (λ c. let tested = c .before .before .before .before .before .before .before in record-room _ (tested .before .loop .inv .packed) (tested .loop-test .taken))  -- flatten-sub-t
     (λ c. let tested = c .before .before .before .before .before .before .before in record-room _ (tested .before .loop .inv .packed) (tested .loop-test .taken))  -- flatten-part-t-start
@@ -113,7 +113,7 @@ pub +flatten+flatten-node-spec : {M : Type 1} → statement M
     (λ c.
     let kinded = c .before .before .before .before .before .before .before in
     let at-loop = kinded .before .before in
-    let leaf = first-leaf (at-loop .loop .inv .packed) (kinded .before .loop-test .taken) (kinded .kind .ensures) (c .before .before .before .before .before .before .if1 .taken) in
+    let leaf = first-leaf (at-loop .loop .inv .packed) (kinded .before .loop-test .taken) (kinded .kind .ensures) (omega (arith, c .before .before .before .before .before .before .if1 .taken)) in
     flattening-goes-on (at-loop .loop .inv) (leaf .first) (leaf-written leaf (c .before .before .before .copy-record .ensures)) (c .before .before .before .copy-record .kept .1 .0))  -- flatten-loop-again
     (λ c κs. search needs)  -- flatten-node-end-requires
     (λ c κs. search needs)  -- flatten-count-requires
