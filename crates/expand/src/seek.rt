@@ -102,22 +102,22 @@ fn in_block(node: &[u8], steps: u64, at: u64) -> Way
     ensures { λ r. ⌜ ((n : Node Leaf) → Within (now (node .entry)) steps at n → Onward (now (node .entry)) n at r) ⌝ }
 {
     let multiplier = fields::number(node);
-    let count = steps / (magnitude(multiplier) as u64);
-    let place = at % count;
+    let once = steps / (magnitude(multiplier) as u64);
+    let place = at % once;
     let inverted = is_negative(multiplier);
     let middle = first_end(node);
     let kind = fields::kind(node);
     if kind < kinds::COMMUTATOR {
-        let whole = List { from: RECORD, to: middle, count };
+        let whole = List { from: RECORD, to: middle, count: once };
         return in_list(whole, place, inverted);
     }
     let a = count(&node[RECORD..middle]);
     let first = List { from: RECORD, to: middle, count: a };
     if kind == kinds::CONJUGATE {
-        let second = List { from: middle, to: node.len(), count: count - 2 * a };
+        let second = List { from: middle, to: node.len(), count: once - 2 * a };
         return in_conjugate(first, second, place, inverted);
     }
-    let second = List { from: middle, to: node.len(), count: count / 2 - a };
+    let second = List { from: middle, to: node.len(), count: once / 2 - a };
     if inverted {
         return in_commutator(second, first, place);
     }
