@@ -22,8 +22,8 @@ use Rattle.sound.specs.Sound.{Sound}
 
 abbrev pub HeadOk : List ℕ → Head → Type 0
 HeadOk text (leafHead x) = leafOk text x ≡ true
-HeadOk text (groupHead k n m) = Unit {0}
-HeadOk text (binaryHead k n n′ m) = Unit {0}
+HeadOk text (groupHead k n m c) = Unit {0}
+HeadOk text (binaryHead k n n′ m c) = Unit {0}
 
 -- each of m records, whatever follows them
 pub record Each (text bytes : List ℕ) (m : ℕ) : Type 0 where

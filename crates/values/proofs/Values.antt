@@ -117,8 +117,8 @@ family-fits (leafHead pause) p h e = no-refusal e
 family-fits (leafHead (pair u d)) p h e = no-refusal e
 family-fits (leafHead slash) p h e = no-refusal e
 family-fits (leafHead (megaminx k)) p h e = no-refusal e
-family-fits (groupHead k n m) p h e = no-refusal e
-family-fits (binaryHead k n n′ m) p h e = no-refusal e
+family-fits (groupHead k n m c) p h e = no-refusal e
+family-fits (binaryHead k n n′ m c) p h e = no-refusal e
 
 part-fits : (text tree : List ℕ) (k : ℕ) (p : Span) → familySpan text tree k ≡ result p → FitsSpan p
 unfolding familySpan
