@@ -26,6 +26,10 @@ use parse::parse_notation;
 use parse::parts::LeafAnswer;
 use parse::parts::Taken;
 use reader::Reader;
+use record::RECORD;
+
+// Room for ten records.
+const TREE: usize = 10 * RECORD;
 
 fn number(n: u64) {
     let mut digits = [0u8; 20];
@@ -49,7 +53,7 @@ fn answer(a: Answer) {
 }
 
 fn ranges_of(text: &[u8], record: u64, max_layer: u32, negatives: bool) {
-    let mut tree = [0u8; 250];
+    let mut tree = [0u8; TREE];
     let Answer::Value(size) = parse_notation(text, features::maximal(), &mut tree) else {
         return;
     };
