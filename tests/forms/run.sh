@@ -6,15 +6,8 @@ root=$(cd "$(dirname "$0")/../.." && pwd)
 kit=$(dirname "$(dirname "$(readlink -f "$(command -v rt)")")")
 own=$kit/on/$(uname -m)
 out=$root/target/forms
-crates="notation charsets numbers layer record laws nodes parse tree display simplify invert expand sound entries hypuz_notation reader ranges"
 rm -rf "$out" && mkdir -p "$out"
-for c in $crates; do mkdir -p "$out/$c" && cp -r "$root/crates/$c/src" "$out/$c/src"; done
-# Handed over as sources, a library may not have a module with another library's name: notation's `charsets` and parse's `nodes` get other ones here.
-mv "$out/notation/src/charsets.rt" "$out/notation/src/character_sets.rt"
-mv "$out/parse/src/nodes.rt" "$out/parse/src/node_lists.rt"
-sed -i 's/mod charsets;/mod character_sets;/' "$out/notation/src/lib.rt"
-sed -i 's/mod nodes;/mod node_lists;/' "$out/parse/src/lib.rt"
-find "$out" -name '*.rt' -exec sed -i 's/notation::charsets/notation::character_sets/; s/crate::nodes::/crate::node_lists::/' {} +
+mapfile -t words < <(python3 "$root/tests/unproved.py" --copy "$out/crates")
 cat >"$out/program" <<'PROGRAM'
 use layer::Layer;
 use layer::LayerRange;
@@ -109,9 +102,6 @@ fn first(text: &[u8]) {
 fn main() {
 PROGRAM
 python3 "$root/tests/forms/cases.py" "$out/calls" "$out/lines"
-words=(--lib "std=$kit/libs/std/src/lib.rt")
-for c in bytes libc io; do words+=(--lib "$c=$kit/libs/$c/src/lib.rt"); done
-for c in $crates; do words+=(--lib "$c=$out/$c/src/lib.rt"); done
 # Some cases at a time, since the interpreter takes at most ten million steps.
 split -l 80 -d "$out/calls" "$out/calls."
 split -l 80 -d "$out/lines" "$out/lines."
