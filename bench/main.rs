@@ -1,6 +1,7 @@
 //! Times the C functions of the archive against the Rust's own on the same texts in one run, and prints tables in Markdown.
 //!
-//! `bench` prints the tables; `bench growth` how seeking and counting grow alone; `bench loop OPERATION KIND SIZE SECONDS` calls one of ours again and again, for a profiler.
+//! `bench` prints the tables; `bench growth` how seeking and counting grow alone; `bench loop OPERATION KIND SIZE SECONDS` calls one of ours again and again, for a profiler;
+//! `bench plain` prints the times of ours alone, a line each with tabs between, to be put beside those of another archive (turns.py); `bench text KIND SIZE` a text (instructions.py).
 mod ours;
 mod reader;
 
@@ -12,7 +13,7 @@ use std::time::{Duration, Instant};
 
 const KINDS: [&str; 6] = ["moves", "groups", "sets", "constraints", "square-1", "megaminx"];
 const SIZES: [usize; 3] = [100, 3_000, 64_000];
-const OPERATIONS: [&str; 9] = ["read", "display", "inv", "inv_deep", "flatten", "count", "seek", "ranges", "ranges of one record"];
+const OPERATIONS: [&str; 10] = ["read", "display", "inv", "inv_deep", "flatten", "count", "seek", "seek last", "ranges", "ranges of one record"];
 const ROUNDS: usize = 4;
 const SAMPLES: usize = 7;
 const SAMPLE: f64 = 2e6;
@@ -99,6 +100,11 @@ fn case(kind: &str, size: usize) -> Case {
     c
 }
 
+/// The place that is sought: two thirds of the way, or the last, before which all that is passed over stands.
+fn place(c: &Case, operation: &str) -> u64 {
+    if operation == "seek last" { c.steps - 1 } else { c.steps * 2 / 3 }
+}
+
 fn middle(tree: &[u8], list: &NodeList) -> Option<(u64, LayerPrefixContents)> {
     // Only lists without groups: there a record's number is the node's.
     let n = tree.len() / RECORD;
@@ -177,7 +183,10 @@ fn our_call<'a>(c: &'a Case, operation: &str) -> Option<Box<dyn FnMut() + 'a>> {
         "inv_deep" => Box::new(move || assert!(black_box(ours::inv_deep(black_box(text), tree, &mut out)).is_ok())),
         "flatten" => Box::new(move || assert!(black_box(ours::flatten(black_box(text), tree, &mut out)).is_ok())),
         "count" => Box::new(move || assert!(black_box(ours::count_steps(black_box(text), tree)).is_ok())),
-        "seek" => Box::new(move || assert!(black_box(ours::seek_step(black_box(text), tree, c.steps * 2 / 3, &mut out)).is_ok())),
+        "seek" | "seek last" => {
+            let place = place(c, operation);
+            Box::new(move || assert!(black_box(ours::seek_step(black_box(text), tree, place, &mut out)).is_ok()))
+        }
         _ => {
             let mut record = c.record.as_ref()?.0;
             let mut tree = tree;
@@ -210,7 +219,10 @@ fn rust_time(c: &Case, operation: &str) -> f64 {
         "inv" => best_apart(|| list.clone(), |l| l.inv()),
         "inv_deep" => best_apart(|| list.clone(), |l| l.inv_deep()),
         "flatten" | "count" => best_apart(|| (), |()| black_box(list).flatten()),
-        "seek" => best_apart(|| (), |()| black_box(list).flatten().map(|l| (l[(c.steps * 2 / 3) as usize].clone(), l))),
+        "seek" | "seek last" => {
+            let place = place(c, operation) as usize;
+            best_apart(|| (), |()| black_box(list).flatten().map(|l| (l[place].clone(), l)))
+        }
         _ => {
             let contents = &c.record.as_ref().unwrap().1;
             best_apart(|| (), |()| black_box(contents).simplify(AXIS))
@@ -263,14 +275,59 @@ fn read(text: &str) -> Vec<u8> {
     tree
 }
 
-/// Seeking the last step of the same 4,000 moves inside more and more groups, beside counting, which checks the same records.
-fn depth() {
-    for levels in [0, 8, 16, 32, 64] {
-        let text = "(".repeat(levels) + &vec!["R"; 4_000].join(" ") + &")".repeat(levels);
-        let (tree, mut step) = (read(&text), [0; RECORD]);
-        let seek = best(|| assert!(black_box(ours::seek_step(text.as_bytes(), black_box(&tree), 3_999, &mut step)).is_ok()));
-        let count = best(|| assert_eq!(black_box(ours::count_steps(text.as_bytes(), black_box(&tree))), Ok(4_000)));
+const LEVELS: [usize; 5] = [0, 8, 16, 32, 64];
+const GROUPS: [usize; 5] = [500, 1_000, 2_000, 4_000, 8_000];
+
+const NESTED: &str = "levels round 4,000 moves";
+const BESIDE: &str = "groups of three records";
+
+/// A text of a kind: so many bytes, levels or groups.
+fn any_text(kind: &str, size: usize) -> String {
+    match kind {
+        NESTED => "(".repeat(size) + &vec!["R"; 4_000].join(" ") + &")".repeat(size),
+        BESIDE => vec!["[R, U]"; size].join(" "),
+        _ => text(kind, size),
+    }
+}
+
+/// Seeking the last step, and counting, which checks and visits the same records: nanoseconds.
+fn last_and_count(text: &str) -> (f64, f64) {
+    let (text, tree, mut step) = (text.as_bytes(), read(text), [0; RECORD]);
+    let steps = ours::count_steps(text, &tree).unwrap();
+    let seek = best(|| assert!(black_box(ours::seek_step(text, black_box(&tree), steps - 1, &mut step)).is_ok()));
+    let count = best(|| assert_eq!(black_box(ours::count_steps(text, black_box(&tree))), Ok(steps)));
+    (seek, count)
+}
+
+/// Seeking the last step by depth, and by groups to be passed over.
+fn passed() {
+    for levels in LEVELS {
+        let (seek, count) = last_and_count(&any_text(NESTED, levels));
         println!("Seeking the last of 4,000 steps, {levels} levels deep: {} µs; counting them: {} µs.", shown(seek), shown(count));
+    }
+    for groups in GROUPS {
+        let (seek, count) = last_and_count(&any_text(BESIDE, groups));
+        println!("Seeking the last step of {groups} groups: {} µs; counting them: {} µs.", shown(seek), shown(count));
+    }
+}
+
+/// Times of ours alone: operation, kind, size, nanoseconds.
+fn plain() {
+    for kind in KINDS {
+        for size in SIZES {
+            let c = case(kind, size);
+            for operation in OPERATIONS {
+                if let Some(mut call) = our_call(&c, operation) {
+                    println!("{operation}\t{kind}\t{size}\t{}", best(&mut call));
+                }
+            }
+        }
+    }
+    for (kind, sizes) in [(NESTED, LEVELS), (BESIDE, GROUPS)] {
+        for size in sizes {
+            let (seek, count) = last_and_count(&any_text(kind, size));
+            println!("seek last\t{kind}\t{size}\t{seek}\ncount\t{kind}\t{size}\t{count}");
+        }
     }
 }
 
@@ -304,9 +361,15 @@ fn main() {
     if args.first().is_some_and(|a| a == "loop") {
         return profile(&args[1..]);
     }
+    if args.first().is_some_and(|a| a == "plain") {
+        return plain();
+    }
+    if args.first().is_some_and(|a| a == "text") {
+        return print!("{}", any_text(&args[1], args[2].parse().expect("a size")));
+    }
     if args.first().is_some_and(|a| a == "growth") {
         growth();
-        return depth();
+        return passed();
     }
     println!("Microseconds of a call, best of {} samples of 2 ms or one call; × is ours divided by the other.\n", ROUNDS * SAMPLES);
     rows("read", "plain reader");
@@ -315,11 +378,11 @@ fn main() {
         rows(operation, match *operation {
             "display" => "Display",
             "count" => "flatten",
-            "seek" => "flatten and index",
+            "seek" | "seek last" => "flatten and index",
             "ranges" | "ranges of one record" => "simplify",
             other => other,
         });
     }
     growth();
-    depth();
+    passed();
 }

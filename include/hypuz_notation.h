@@ -9,12 +9,27 @@
  *
  * A buffer is a pointer and a length in bytes. The pointer may not be null, also when the length is 0; a text, a tree and a buffer that is
  * written may not overlap. A text is UTF-8 of at most 65,535 bytes. A tree is a run of records of HYPUZ_RECORD bytes over its
- * text, as hypuz_parse_notation writes it; any bytes may be given as a tree, and are refused with 6 if they are not one.
+ * text, as hypuz_parse_notation writes it; any bytes may be given as a tree, and are refused with 6 if they are not one. The bytes of a text
+ * times HYPUZ_RECORD hold any tree of it.
  *
- * Refusals: 1 text too long, 2 not UTF-8, 3 nested too deep, 4 not notation, 5 buffer too short, 6 not a tree over this text, 7 a NISS group
- * stands in the way, 8 a Square-1 number that cannot be negated, 9 more than 4,294,967,295 steps, 10 no such place, 11 no such number of
- * layers, 12 no such record. Where several apply, the first of 1, 2, 3, 4 (reading) or 1, 2, 6, 11, 12, 7 or 8 (whichever the walk meets
- * first), 9, 10, 5 is given.
+ * The fields of a record by their bits, most significant first; those that a record does not use are 0. A group stands before what it holds.
+ *   4         kind: 0 group, 1 macro !, 2 simultaneous &, 3 NISS ^, 4 commutator, 5 conjugate, 6 rotation, 7 move, 8 pause, 9 Square-1 pair,
+ *             10 slash, 11 R++, 12 R--, 13 D++, 14 D--
+ *   1, 2, 1   tilde; form of the layers (0 none, 1 single, 2 range, 3 set); whether there are constraints
+ *   16, 16    records in the first list of a group, nested ones included, and in the second
+ *   32        multiplier, or u of a pair (signed)
+ *   32        d of a pair (signed), or low and high layer, 16 each
+ *   6 by 16   offset and length in the text of: family, constraints with braces, layer set with braces
+ *   40        count: how many steps the record unrolls into, repeats included; 4,294,967,296 if they are more than 4,294,967,295. It is 1 in a
+ *             leaf, whatever its multiplier, and so in every step that is handed over; 0 in a group of multiplier 0 and in a NISS group, which
+ *             adds 0 to what holds it. What stands inside such a group has its own count all the same.
+ * Reading and both inverses write the count. A tree with a wrong one anywhere is refused with 6: whoever puts records together by hand has to
+ * see to the counts of the groups around. One record with all that it holds may be cut out as it is.
+ *
+ * Refusals: 1 text too long, 2 not UTF-8, 3 nested too deep, 4 not notation, 5 buffer too short, 6 not a tree over this text (a wrong count is
+ * one reason), 7 a NISS group stands in the way, 8 a Square-1 number that cannot be negated, 9 more than 4,294,967,295 steps, 10 no such place,
+ * 11 no such number of layers, 12 no such record. Where several apply, the first of 1, 2, 3, 4 (reading) or 1, 2, 6, 11, 12, 7 or 8 (whichever
+ * the walk meets first), 9, 10, 5 is given.
  */
 #ifndef HYPUZ_NOTATION_H
 #define HYPUZ_NOTATION_H
@@ -26,8 +41,8 @@
 extern "C" {
 #endif
 
-/* Bytes of a record. */
-#define HYPUZ_RECORD 25
+/* Bytes of a record. Host code that names it, and never the number, goes on to work when a record gains a field. */
+#define HYPUZ_RECORD 30
 
 /* The features of a setting, to be added up. */
 #define HYPUZ_INVERTED_LAYERS 1u

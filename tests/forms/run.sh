@@ -6,15 +6,8 @@ root=$(cd "$(dirname "$0")/../.." && pwd)
 kit=$(dirname "$(dirname "$(readlink -f "$(command -v rt)")")")
 own=$kit/on/$(uname -m)
 out=$root/target/forms
-crates="notation charsets numbers layer record laws nodes parse tree display simplify invert expand sound entries hypuz_notation reader ranges"
 rm -rf "$out" && mkdir -p "$out"
-for c in $crates; do mkdir -p "$out/$c" && cp -r "$root/crates/$c/src" "$out/$c/src"; done
-# Handed over as sources, a library may not have a module with another library's name: notation's `charsets` and parse's `nodes` get other ones here.
-mv "$out/notation/src/charsets.rt" "$out/notation/src/character_sets.rt"
-mv "$out/parse/src/nodes.rt" "$out/parse/src/node_lists.rt"
-sed -i 's/mod charsets;/mod character_sets;/' "$out/notation/src/lib.rt"
-sed -i 's/mod nodes;/mod node_lists;/' "$out/parse/src/lib.rt"
-find "$out" -name '*.rt' -exec sed -i 's/notation::charsets/notation::character_sets/; s/crate::nodes::/crate::node_lists::/' {} +
+mapfile -t words < <(python3 "$root/tests/unproved.py" --copy "$out/crates")
 cat >"$out/program" <<'PROGRAM'
 use layer::Layer;
 use layer::LayerRange;
@@ -26,6 +19,10 @@ use parse::parse_notation;
 use parse::parts::LeafAnswer;
 use parse::parts::Taken;
 use reader::Reader;
+use record::RECORD;
+
+// Room for ten records.
+const TREE: usize = 10 * RECORD;
 
 fn number(n: u64) {
     let mut digits = [0u8; 20];
@@ -49,7 +46,7 @@ fn answer(a: Answer) {
 }
 
 fn ranges_of(text: &[u8], record: u64, max_layer: u32, negatives: bool) {
-    let mut tree = [0u8; 250];
+    let mut tree = [0u8; TREE];
     let Answer::Value(size) = parse_notation(text, features::maximal(), &mut tree) else {
         return;
     };
@@ -105,9 +102,6 @@ fn first(text: &[u8]) {
 fn main() {
 PROGRAM
 python3 "$root/tests/forms/cases.py" "$out/calls" "$out/lines"
-words=(--lib "std=$kit/libs/std/src/lib.rt")
-for c in bytes libc io; do words+=(--lib "$c=$kit/libs/$c/src/lib.rt"); done
-for c in $crates; do words+=(--lib "$c=$out/$c/src/lib.rt"); done
 # Some cases at a time, since the interpreter takes at most ten million steps.
 split -l 80 -d "$out/calls" "$out/calls."
 split -l 80 -d "$out/lines" "$out/lines."

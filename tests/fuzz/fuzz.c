@@ -9,7 +9,8 @@
 #include <sys/mman.h>
 #include <unistd.h>
 
-enum { GUARD = 64, MOST = 1 << 16, STEPS = 600 };
+/* STEPS: lists that fit into the region for buffers. COUNT: a record ends with its count, so many bytes. */
+enum { GUARD = 64, MOST = 1 << 16, OUTS = 1 << 14, STEPS = (OUTS - GUARD) / HYPUZ_RECORD, COUNT = 5 };
 
 static void demand(int holds, const char *what) {
     if (!holds) {
@@ -108,6 +109,54 @@ static uint64_t fits(call *f, const struct input *i, size_t room, size_t unit, c
     return all;
 }
 
+static uint64_t field(const uint8_t *at, size_t bytes) {
+    uint64_t n = 0;
+    for (size_t k = 0; k < bytes; k++) n = n << 8 | at[k];
+    return n;
+}
+
+static void store(uint8_t *record, uint64_t count) {
+    for (size_t k = HYPUZ_RECORD; k > HYPUZ_RECORD - COUNT; k--, count >>= 8) record[k - 1] = (uint8_t)count;
+}
+
+static uint64_t held(uint64_t count) { return count < 4294967296u ? count : 4294967296u; }
+
+/* Puts into every record the count that its other fields call for, from the last one to the first. A list that ends past the tree is cut there. */
+static void recount(uint8_t *tree, size_t size) {
+    size_t records = size / HYPUZ_RECORD, *ends = malloc((records + 1) * sizeof *ends);
+    for (size_t i = records; i-- > 0;) {
+        uint8_t *r = tree + i * HYPUZ_RECORD;
+        unsigned kind = r[0] >> 4;
+        ends[i] = i + 1;
+        if (kind > 5) {
+            store(r, 1);
+            continue;
+        }
+        size_t middle = i + 1 + field(r + 1, 2), last = middle + (kind > 3 ? field(r + 3, 2) : 0);
+        if (middle > records) middle = records;
+        if (last > records) last = records;
+        uint64_t lists[2] = {0, 0};
+        for (size_t k = i + 1; k < last; k = ends[k]) {
+            uint64_t *list = lists + (k >= middle);
+            *list = held(*list + field(tree + (k + 1) * HYPUZ_RECORD - COUNT, COUNT));
+        }
+        ends[i] = last;
+        uint64_t once = kind == 3 ? 0 : kind == 4 ? 2 * (lists[0] + lists[1]) : kind == 5 ? 2 * lists[0] + lists[1] : lists[0];
+        uint64_t number = field(r + 5, 4), times = number >> 31 ? 4294967296u - number : number;
+        store(r, held(held(once) * times));
+    }
+    free(ends);
+}
+
+/* Whether every record stores the count that its other fields call for. */
+static void counted(const uint8_t *tree, size_t size, const char *what) {
+    uint8_t *again = malloc(size + 1);
+    memcpy(again, tree, size);
+    recount(again, size);
+    demand(memcmp(again, tree, size) == 0, what);
+    free(again);
+}
+
 /* What must hold between the functions on a tree that is well formed. */
 static void together(const struct input *i, uint64_t n, uint64_t list) {
     if (hypuz_refusal(n)) {
@@ -115,15 +164,17 @@ static void together(const struct input *i, uint64_t n, uint64_t list) {
         return;
     }
     if (n > STEPS) return;
-    demand(list == 25 * n, "the list is as long as counted");
-    uint8_t *steps = malloc(25 * n + 1), step[25];
-    demand(flatten(i, steps, 25 * n) == 25 * n, "the list in an exact fit");
+    size_t whole = n * HYPUZ_RECORD;
+    demand(list == whole, "the list is as long as counted");
+    uint8_t *steps = malloc(whole + 1), step[HYPUZ_RECORD];
+    demand(flatten(i, steps, whole) == whole, "the list in an exact fit");
+    counted(steps, whole, "every step stores 1");
     for (int k = 0; k < 4 && n; k++) {
         uint64_t place = (i->place + (uint64_t)k * 7919) % n;
-        demand(hypuz_seek_step(i->text, i->text_size, i->tree, i->tree_size, place, step, 25) == 25, "seeking below the count");
-        demand(memcmp(step, steps + 25 * place, 25) == 0, "seeking gives the list's step");
+        demand(hypuz_seek_step(i->text, i->text_size, i->tree, i->tree_size, place, step, sizeof step) == sizeof step, "seeking below the count");
+        demand(memcmp(step, steps + place * HYPUZ_RECORD, sizeof step) == 0, "seeking gives the list's step");
     }
-    demand(hypuz_seek_step(i->text, i->text_size, i->tree, i->tree_size, n, step, 25) == (uint64_t)10 << 56, "seeking past the end");
+    demand(hypuz_seek_step(i->text, i->text_size, i->tree, i->tree_size, n, step, sizeof step) == (uint64_t)10 << 56, "seeking past the end");
     free(steps);
 }
 
@@ -133,6 +184,7 @@ static void twice(call *f, const struct input *i, uint64_t size, const char *wha
     demand(size == i->tree_size, what);
     uint8_t *once = malloc(size + 1), *again = malloc(size + 1);
     demand(f(i, once, size) == size, what);
+    counted(once, size, what);
     struct input back = *i;
     back.tree = once;
     demand(f(&back, again, size) == size && memcmp(again, i->tree, size) == 0, what);
@@ -162,6 +214,7 @@ static void every(const struct input *i, size_t room) {
         return;
     }
     demand(r == 0, "printing a tree that is well formed");
+    counted(i->tree, i->tree_size, "a wrong count is refused 6");
     twice(inv, i, shallow, "inverse twice");
     twice(inv_deep, i, deep, "deep inverse twice");
     together(i, n, list);
@@ -266,7 +319,7 @@ static void list(struct speller *s, unsigned depth) {
 }
 
 int LLVMFuzzerTestOneInput(const uint8_t *data, size_t size) {
-    if (!texts.base) atexit(print_totals), texts = region(MOST + 1), trees = region(1 << 17), outs = region(1 << 14);
+    if (!texts.base) atexit(print_totals), texts = region(MOST + 1), trees = region(1 << 17), outs = region(OUTS);
     if (size < 16) return 0;
     struct input i = {0};
     i.features = data[0] & 128 ? HYPUZ_MAXIMAL : data[0];
@@ -308,16 +361,20 @@ int LLVMFuzzerTestOneInput(const uint8_t *data, size_t size) {
         memmove(tree, trees.base, i.tree_size);
         if (damaged && i.tree_size) {
             tree[cut % i.tree_size] ^= data[-1] ? data[-1] : 1;
-            if ((data[-2] & 15) == 1) tree += 25 < i.tree_size ? 25 : 1, i.tree_size -= 25 < i.tree_size ? 25 : 1;
+            if ((data[-2] & 15) == 1) tree += HYPUZ_RECORD < i.tree_size ? HYPUZ_RECORD : 1, i.tree_size -= HYPUZ_RECORD < i.tree_size ? HYPUZ_RECORD : 1;
+        } else {
+            counted(tree, i.tree_size, "reading stores the counts");
         }
     }
+    /* Nearly every change makes a count wrong, which would hide all else: most changed trees get right ones again. */
+    if ((damaged || given) && data[-2] & 112) recount(tree, i.tree_size);
     i.tree = tree;
     /* A record and a place that are there, most of the time. */
-    if (i.record < 32 && i.tree_size >= 25) i.record = data[-11] % (i.tree_size / 25 + (data[-10] & 1));
-    uint64_t counted = hypuz_count_steps(i.text, i.text_size, i.tree, i.tree_size);
-    if (!hypuz_refusal(counted) && counted && !(data[-12] & 64)) i.place %= counted;
-    for (size_t k = 0; k + 25 <= i.tree_size; k += 25) note(256 + tree[k]);
-    note(512 + bits(i.tree_size / 25));
+    if (i.record < 32 && i.tree_size >= HYPUZ_RECORD) i.record = data[-11] % (i.tree_size / HYPUZ_RECORD + (data[-10] & 1));
+    uint64_t n = hypuz_count_steps(i.text, i.text_size, i.tree, i.tree_size);
+    if (!hypuz_refusal(n) && n && !(data[-12] & 64)) i.place %= n;
+    for (size_t k = 0; k + HYPUZ_RECORD <= i.tree_size; k += HYPUZ_RECORD) note(256 + tree[k]);
+    note(512 + bits(i.tree_size / HYPUZ_RECORD));
     every(&i, room);
     return 0;
 }

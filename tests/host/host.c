@@ -5,7 +5,7 @@
 #include <stdlib.h>
 #include <string.h>
 
-enum { ROOM = 4096, GUARD = 32, FILL = 0xa5 };
+enum { ROOM = 4096, GUARD = 32, FILL = 0xa5, COUNT = 5 }; /* a record ends with its count: so many bytes */
 
 static int checks, failures;
 
@@ -59,6 +59,17 @@ static void prints(const char *text, const uint8_t *tree, size_t size, const cha
     }
 }
 
+/* The count that a record stores. */
+static uint64_t stored(const uint8_t *record) {
+    uint64_t n = 0;
+    for (size_t i = HYPUZ_RECORD - COUNT; i < HYPUZ_RECORD; i++) n = n << 8 | record[i];
+    return n;
+}
+
+static void store(uint8_t *record, uint64_t n) {
+    for (size_t i = HYPUZ_RECORD; i > HYPUZ_RECORD - COUNT; i--, n >>= 8) record[i - 1] = (uint8_t)n;
+}
+
 /* Text, printed text, shallow inverse, deep inverse (or the number of its refusal), unrolled list. */
 static void item(const char *text, const char *shown, const char *inverse, const char *deep, unsigned deep_refusal, const char *steps, uint64_t n) {
     uint8_t tree[ROOM], other[ROOM];
@@ -85,15 +96,19 @@ static void item(const char *text, const char *shown, const char *inverse, const
     }
     expect(hypuz_count_steps(bytes(text), strlen(text), tree, size) == n, "counting", text);
     out = lend();
-    expect(hypuz_flatten(bytes(text), strlen(text), tree, size, out, ROOM) == 25 * n && untouched(25 * n), "unrolling", text);
+    size_t whole = n * HYPUZ_RECORD;
+    expect(hypuz_flatten(bytes(text), strlen(text), tree, size, out, ROOM) == whole && untouched(whole), "unrolling", text);
     uint8_t list[ROOM];
-    memcpy(list, out, 25 * n);
-    prints(text, list, 25 * n, steps);
+    memcpy(list, out, whole);
+    prints(text, list, whole, steps);
     for (uint64_t k = 0; k < n; k++) {
+        const uint8_t *step = list + k * HYPUZ_RECORD;
+        expect(stored(step) == 1, "the count of a step", text);
         out = lend();
-        expect(hypuz_seek_step(bytes(text), strlen(text), tree, size, k, out, 25) == 25 && memcmp(out, list + 25 * k, 25) == 0 && untouched(25), "seeking", text);
+        expect(hypuz_seek_step(bytes(text), strlen(text), tree, size, k, out, HYPUZ_RECORD) == HYPUZ_RECORD && memcmp(out, step, HYPUZ_RECORD) == 0 && untouched(HYPUZ_RECORD),
+               "seeking", text);
         out = lend();
-        expect(hypuz_seek_step(bytes(text), strlen(text), tree, size, k, out, 24) == refused(5) && untouched(0), "seeking in a short buffer", text);
+        expect(hypuz_seek_step(bytes(text), strlen(text), tree, size, k, out, HYPUZ_RECORD - 1) == refused(5) && untouched(0), "seeking in a short buffer", text);
     }
     out = lend();
     expect(hypuz_seek_step(bytes(text), strlen(text), tree, size, n, out, ROOM) == refused(10) && untouched(0), "seeking past the end", text);
@@ -115,6 +130,62 @@ static void ranges(const char *text, uint32_t layers, uint32_t negatives, const 
     }
 }
 
+/* Every function that takes a tree refuses it with 6 and writes nothing, also where another refusal would follow. */
+static void not_a_tree(const char *text, const uint8_t *tree, size_t size) {
+    const uint8_t *t = bytes(text);
+    size_t n = strlen(text);
+    uint8_t *out = lend();
+    for (size_t room = 0; room <= ROOM; room += ROOM) {
+        expect(hypuz_display(t, n, tree, size, out, room) == refused(6) && untouched(0), "printing a wrong count", text);
+        expect(hypuz_inv(t, n, tree, size, out, room) == refused(6) && untouched(0), "inverse of a wrong count", text);
+        expect(hypuz_inv_deep(t, n, tree, size, out, room) == refused(6) && untouched(0), "deep inverse of a wrong count", text);
+        expect(hypuz_flatten(t, n, tree, size, out, room) == refused(6) && untouched(0), "unrolling a wrong count", text);
+        expect(hypuz_seek_step(t, n, tree, size, 0, out, room) == refused(6) && untouched(0), "seeking in a wrong count", text);
+        expect(hypuz_seek_step(t, n, tree, size, UINT64_MAX, out, room) == refused(6) && untouched(0), "seeking past the end in a wrong count", text);
+        expect(hypuz_simplify(t, n, tree, size, 0, 3, 1, out, room) == refused(6) && untouched(0), "layer ranges in a wrong count", text);
+        expect(hypuz_simplify(t, n, tree, size, 99, 0, 1, out, room) == refused(6) && untouched(0), "layer ranges of nothing in a wrong count", text);
+    }
+    expect(hypuz_count_steps(t, n, tree, size) == refused(6), "counting a wrong count", text);
+    expect(hypuz_family(t, n, tree, size, 0) == refused(6), "family in a wrong count", text);
+    expect(hypuz_family(t, n, tree, size, 99) == refused(6), "family of nothing in a wrong count", text);
+}
+
+/* The counts that reading stores, record by record, and both inverses in their own order; then each of them wrong in turn. */
+static void counts(const char *text, size_t n, const uint64_t *want, const uint64_t *inverse, const uint64_t *deep) {
+    uint8_t tree[ROOM];
+    size_t size = read_text(text, tree);
+    expect(size == n * HYPUZ_RECORD, "records", text);
+    for (size_t i = 0; i < n; i++) expect(stored(tree + i * HYPUZ_RECORD) == want[i], "the count that reading stores", text);
+    uint8_t *out = lend();
+    expect(hypuz_inv(bytes(text), strlen(text), tree, size, out, ROOM) == size, "inverse", text);
+    for (size_t i = 0; i < n; i++) expect(stored(out + i * HYPUZ_RECORD) == inverse[i], "the count that the inverse stores", text);
+    if (deep) {
+        expect(hypuz_inv_deep(bytes(text), strlen(text), tree, size, out, ROOM) == size, "deep inverse", text);
+        for (size_t i = 0; i < n; i++) expect(stored(out + i * HYPUZ_RECORD) == deep[i], "the count that the deep inverse stores", text);
+    }
+    for (size_t i = 0; i < n; i++) {
+        uint8_t *record = tree + i * HYPUZ_RECORD;
+        uint64_t others[] = {want[i] + 1, want[i] - 1, want[i] + 4294967296u, want[i] ^ (uint64_t)1 << 39};
+        for (size_t k = 0; k < sizeof others / sizeof *others; k++) {
+            store(record, others[k]);
+            not_a_tree(text, tree, size);
+        }
+        store(record, want[i]);
+    }
+    expect(hypuz_refusal(hypuz_display(bytes(text), strlen(text), tree, size, lend(), ROOM)) == 0, "printing with the counts mended", text);
+}
+
+static void every_count(void) {
+    const uint64_t held = 4294967296u;
+    counts("R0 ((U)3 [F, .]2')2 /", 8, (uint64_t[]){1, 22, 3, 1, 8, 1, 1, 1}, (uint64_t[]){1, 22, 3, 1, 8, 1, 1, 1}, (uint64_t[]){1, 22, 8, 1, 1, 3, 1, 1});
+    counts("[(R)3: U F]'", 5, (uint64_t[]){8, 3, 1, 1, 1}, (uint64_t[]){8, 3, 1, 1, 1}, (uint64_t[]){8, 3, 1, 1, 1});
+    counts("(^((R)3) U)2", 5, (uint64_t[]){2, 0, 3, 1, 1}, (uint64_t[]){2, 0, 3, 1, 1}, NULL);
+    counts("((R)5)0 ()7", 4, (uint64_t[]){0, 5, 1, 0}, (uint64_t[]){0, 0, 5, 1}, (uint64_t[]){0, 0, 5, 1});
+    counts("((R)65535)65537", 3, (uint64_t[]){held - 1, 65535, 1}, (uint64_t[]){held - 1, 65535, 1}, (uint64_t[]){held - 1, 65535, 1});
+    counts("(((R)65536)65536)2", 4, (uint64_t[]){held, held, 65536, 1}, (uint64_t[]){held, held, 65536, 1}, (uint64_t[]){held, held, 65536, 1});
+    counts("(((R)65537)65537)0 U", 5, (uint64_t[]){0, held, 65537, 1, 1}, (uint64_t[]){1, 0, held, 65537, 1}, (uint64_t[]){1, 0, held, 65537, 1});
+}
+
 static void refusals(void) {
     uint8_t tree[ROOM];
     uint8_t *out = lend();
@@ -130,12 +201,13 @@ static void refusals(void) {
     expect(hypuz_parse_notation(bytes(deep), 65, HYPUZ_WCA, out, ROOM) == refused(3) && untouched(0), "refusal 3", "65 parentheses");
     expect(hypuz_parse_notation(bytes("R)"), 2, HYPUZ_WCA, out, ROOM) == refused(4) && untouched(0), "refusal 4", "R)");
     expect(hypuz_parse_notation(bytes("@R"), 2, HYPUZ_WCA, out, ROOM) == refused(4) && untouched(0), "a feature that is off", "@R");
-    expect(hypuz_parse_notation(bytes("@R"), 2, HYPUZ_GENERALIZED_ROTATIONS | 0xffffff80u, out, ROOM) == 25, "higher bits of features", "@R");
+    expect(hypuz_parse_notation(bytes("@R"), 2, HYPUZ_GENERALIZED_ROTATIONS | 0xffffff80u, out, ROOM) == HYPUZ_RECORD, "higher bits of features", "@R");
     out = lend();
     memset(tree, 0, sizeof tree);
     tree[0] = 0xf0;
-    expect(hypuz_display(bytes("R"), 1, tree, 25, out, ROOM) == refused(6) && untouched(0), "refusal 6", "kind 15");
-    expect(hypuz_inv(bytes("R"), 1, tree, 24, out, ROOM) == refused(6) && untouched(0), "refusal 6", "24 bytes");
+    store(tree, 1);
+    expect(hypuz_display(bytes("R"), 1, tree, HYPUZ_RECORD, out, ROOM) == refused(6) && untouched(0), "refusal 6", "kind 15");
+    expect(hypuz_inv(bytes("R"), 1, tree, HYPUZ_RECORD - 1, out, ROOM) == refused(6) && untouched(0), "refusal 6", "a byte short of a record");
     size_t size = read_text("^(R)0", tree);
     expect(hypuz_count_steps(bytes("^(R)0"), 5, tree, size) == refused(7), "refusal 7", "^(R)0");
     expect(hypuz_flatten(bytes("^(R)0"), 5, tree, size, out, ROOM) == refused(7) && untouched(0), "refusal 7", "^(R)0");
@@ -145,9 +217,9 @@ static void refusals(void) {
     expect(hypuz_count_steps(bytes("((R)65536)65536"), 15, tree, size) == refused(9), "refusal 9", "((R)65536)65536");
     size = read_text("((R)65535)65537", tree);
     expect(hypuz_count_steps(bytes("((R)65535)65537"), 15, tree, size) == 4294967295u, "counting", "((R)65535)65537");
-    expect(hypuz_seek_step(bytes("((R)65535)65537"), 15, tree, size, 4294967294u, out, 25) == 25, "seeking the last step", "((R)65535)65537");
+    expect(hypuz_seek_step(bytes("((R)65535)65537"), 15, tree, size, 4294967294u, out, HYPUZ_RECORD) == HYPUZ_RECORD, "seeking the last step", "((R)65535)65537");
     out = lend();
-    expect(hypuz_seek_step(bytes("((R)65535)65537"), 15, tree, size, 4294967295u, out, 25) == refused(10) && untouched(0), "refusal 10", "((R)65535)65537");
+    expect(hypuz_seek_step(bytes("((R)65535)65537"), 15, tree, size, 4294967295u, out, HYPUZ_RECORD) == refused(10) && untouched(0), "refusal 10", "((R)65535)65537");
     size = read_text(". R", tree);
     expect(hypuz_simplify(bytes(". R"), 3, tree, size, 1, 0, 1, out, ROOM) == refused(11) && untouched(0), "refusal 11", "0 layers");
     expect(hypuz_simplify(bytes(". R"), 3, tree, size, 1, 32768, 1, out, ROOM) == refused(11) && untouched(0), "refusal 11", "32,768 layers");
@@ -173,6 +245,7 @@ int main(void) {
     ranges("{5..9}R", 3, 0, "");
     ranges("R", 3, 0, "1-1");
     refusals();
+    every_count();
     printf("%d checks, %d failed\n", checks, failures);
     return failures != 0;
 }

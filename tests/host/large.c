@@ -28,10 +28,12 @@ int main(void) {
     size_t size = (size_t)RECORDS * HYPUZ_RECORD;
     uint8_t *tree = calloc(RECORDS, HYPUZ_RECORD), *out = malloc(size);
     if (!tree || !out) return 2;
-    for (size_t i = 0; i < RECORDS; i++) { /* the move R at offset 0 of the text, multiplier 1 */
-        tree[i * HYPUZ_RECORD] = 0x70;
-        tree[i * HYPUZ_RECORD + 8] = 1;
-        tree[i * HYPUZ_RECORD + 16] = 1;
+    for (size_t i = 0; i < RECORDS; i++) { /* the move R at offset 0 of the text, multiplier 1, which counts 1 */
+        uint8_t *record = tree + i * HYPUZ_RECORD;
+        record[0] = 0x70;
+        record[8] = 1;
+        record[16] = 1;
+        record[HYPUZ_RECORD - 1] = 1;
     }
     double t = now();
     report("count", t, hypuz_count_steps(text, 1, tree, size), RECORDS);

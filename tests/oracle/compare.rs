@@ -1,5 +1,8 @@
 //! Holds the C functions of the archive against the Rust on trees made at random.
 //!
+//! The Rust's trees have no count. The counts that records store are held against `stored` below, a plain sum over the Rust's tree as document 02 has it, in
+//! what reading, both inverses, unrolling and seeking write; all other fields by what is printed and answered, as before request 2.
+//!
 //! `compare [TREES] [SEED]` prints how often each comparison was made and how often it differed, with the shortest text that differs.
 //! `compare sample [SEED]` writes 300 cases with the Rust's answers, which are not taken from the archive.
 #[path = "generate.rs"]
@@ -16,6 +19,9 @@ use std::collections::{BTreeMap, HashMap};
 const STEPS: u128 = 5_000;
 const VISITS: u128 = 200_000;
 const MOST_STEPS: u128 = u32::MAX as u128;
+/// What a record stores for every count above MOST_STEPS; the field is the last of a record, 5 bytes, most significant first.
+const HELD: u128 = MOST_STEPS + 1;
+const COUNT: usize = 5;
 const FILL: u8 = 0xa5;
 const GUARD: usize = 8;
 
@@ -148,6 +154,40 @@ fn records<'a>(l: &'a NodeList, out: &mut Vec<&'a Node>) {
     }
 }
 
+/// The steps of a list, with each NISS group as none. Nothing is held here: 64 groups of 2^31 repeats pass 128 bits, so a sum stops at the largest number.
+fn total(l: &NodeList) -> u128 {
+    l.iter().map(own).fold(0, u128::saturating_add)
+}
+
+/// The steps of a node, its repeats included.
+fn own(n: &Node) -> u128 {
+    let once = match n {
+        Node::Group(Group { kind: GroupKind::Niss, .. }) => 0,
+        Node::Group(g) => total(&g.contents),
+        Node::BinaryGroup(g) => {
+            let (a, b) = (total(&g.lhs), total(&g.rhs));
+            match g.kind {
+                BinaryGroupKind::Commutator => a.saturating_add(b).saturating_mul(2),
+                BinaryGroupKind::Conjugate => a.saturating_mul(2).saturating_add(b),
+            }
+        }
+        _ => 1,
+    };
+    once.saturating_mul(repeats(n))
+}
+
+/// The counts that the records of a tree are to store, in reading order.
+fn stored(l: &NodeList) -> Vec<u64> {
+    let mut nodes = vec![];
+    records(l, &mut nodes);
+    nodes.into_iter().map(|n| own(n).min(HELD) as u64).collect()
+}
+
+/// The counts that records do store.
+fn counts(tree: &[u8]) -> Vec<u64> {
+    tree.chunks(RECORD).map(|r| r[RECORD - COUNT..].iter().fold(0, |n, b| n << 8 | u64::from(*b))).collect()
+}
+
 /// The ranges that the Rust resolves a move's layers to.
 fn ranges(mv: &Move, info: AxisLayersInfo) -> Vec<(u16, u16)> {
     let contents = mv.layers.contents.clone().unwrap_or(LayerPrefixContents::Single(Layer::SHALLOWEST));
@@ -251,10 +291,11 @@ fn compare(r: &mut Random, l: &NodeList, report: &mut Report) {
     let ours = read(&text, nodes.len());
     report.same("reading: records", &text, &Ok(nodes.len() * RECORD), &ours.as_ref().map(|o| o.tree.len()).map_err(|e| *e));
     let Ok(ours) = ours else { return };
+    report.same("reading: counts", &text, &Ok(stored(l)), &Ok(counts(&ours.tree)));
     report.same("display", &text, &Ok(text.clone()), &ours.printed(&ours.tree, text.len()));
     spelling(r, l, &text, nodes.len(), report);
-    inverse("inv", ours::inv, l.clone().inv(), &ours, &text, report);
-    inverse("inv_deep", ours::inv_deep, l.clone().inv_deep(), &ours, &text, report);
+    inverse(["inv", "inv: counts"], ours::inv, l.clone().inv(), &ours, &text, report);
+    inverse(["inv_deep", "inv_deep: counts"], ours::inv_deep, l.clone().inv_deep(), &ours, &text, report);
     steps(r, l, &ours, &text, report);
     // Each call checks the whole tree: of a large one some 40 records are taken, else all.
     let large = nodes.len() > 60;
@@ -281,11 +322,12 @@ fn spelling(r: &mut Random, l: &NodeList, text: &str, records: usize, report: &m
 
 type Inverse = fn(&[u8], &[u8], &mut [u8]) -> ours::Answer;
 
-fn inverse(what: &'static str, call: Inverse, rust: Result<NodeList, InvertError>, ours: &Read, text: &str, report: &mut Report) {
+fn inverse(what: [&'static str; 2], call: Inverse, rust: Result<NodeList, InvertError>, ours: &Read, text: &str, report: &mut Report) {
+    let given = lent(ours.tree.len(), |b| call(ours.text, &ours.tree, b), 1);
+    report.same(what[1], text, &rust.as_ref().map(stored).map_err(|e| invert_refusal(e.clone())), &given.as_ref().map(|b| counts(b)).map_err(|e| *e));
     let rust = rust.map(|l| l.to_string()).map_err(invert_refusal);
     let size = rust.as_ref().map_or(0, |s| s.len());
-    let given = lent(ours.tree.len(), |b| call(ours.text, &ours.tree, b), 1).and_then(|b| ours.printed(&b, size));
-    report.same(what, text, &rust, &given);
+    report.same(what[0], text, &rust, &given.and_then(|b| ours.printed(&b, size)));
 }
 
 /// Unrolling and seeking against the Rust where it can; where the list is too long, counting and seeking against a plain count.
@@ -301,8 +343,9 @@ fn steps(r: &mut Random, l: &NodeList, ours: &Read, text: &str, report: &mut Rep
         for place in [0, n.saturating_sub(1), r.below(n.max(1)), r.below(n.max(1))] {
             if place < n {
                 let step = tally.step(l, false, place.into()).to_string();
-                let given = lent(RECORD, |b| ours::seek_step(ours.text, &ours.tree, place, b), 1).and_then(|b| ours.printed(&b, step.len()));
-                report.same("seek_step with a plain walk", text, &Ok(step), &given);
+                let given = lent(RECORD, |b| ours::seek_step(ours.text, &ours.tree, place, b), 1);
+                report.same("seek_step: counts", text, &Ok(vec![1]), &given.as_ref().map(|b| counts(b)).map_err(|e| *e));
+                report.same("seek_step with a plain walk", text, &Ok(step.clone()), &given.and_then(|b| ours.printed(&b, step.len())));
             }
         }
         let given = lent(RECORD, |b| ours::seek_step(ours.text, &ours.tree, n, b), 1);
@@ -331,6 +374,7 @@ fn unrolled(r: &mut Random, l: &NodeList, ours: &Read, text: &str, report: &mut 
     report.same("flatten", text, &shown, &list.as_ref().map_err(|e| *e).and_then(|b| ours.printed(b, size)));
     let Ok(list) = list else { return };
     let n = (list.len() / RECORD) as u64;
+    report.same("flatten: counts", text, &Ok(vec![1; n as usize]), &Ok(counts(&list)));
     for place in [0, n.saturating_sub(1), r.below(n.max(1)), r.below(n.max(1)), r.below(n.max(1)), n] {
         let want = if place < n { Ok(list[place as usize * RECORD..][..RECORD].to_vec()) } else { Err(10) };
         let given = lent(RECORD, |b| ours::seek_step(ours.text, &ours.tree, place, b), 1);

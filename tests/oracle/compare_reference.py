@@ -1,6 +1,6 @@
 #!/usr/bin/env python3
 """Holds the Python reference (tests/reference) against the Rust oracle on generated trees: Display, both inverses, unrolled lists and layer
-ranges must be the same.  compare_reference.py ORACLE [TREES] [SEED]"""
+ranges must be the same. The Rust has no counts; the reference's is held to the length of the list.  compare_reference.py ORACLE [TREES] [SEED]"""
 import os
 import random
 import subprocess
@@ -104,8 +104,7 @@ def attempt(f):
 
 
 def flattened(l):
-    steps = n.unroll(l)
-    return f"{len(steps)} {n.show_list(steps)}"
+    return f"{n.count(l)} {n.show_list(n.unroll(l))}"
 
 
 def expected(l, layers, negatives):

@@ -3,7 +3,8 @@
 
 damaged.py [CASES] [SEED]. The archive is loaded as a shared library. A case is a text and a tree over it, damaged or not; every function is
 called on it with a buffer of some size between two guards, and its answer and every byte of the buffer must be what the reference says.
-Prints how often each refusal was answered."""
+Nearly every change of a group makes a stored count wrong, so that refusal 6 would hide all others: most damaged trees get right counts again, and of
+some a count is changed afterwards, in any record. Prints how often each refusal was answered."""
 import collections
 import ctypes
 import os
@@ -15,6 +16,7 @@ HERE = os.path.dirname(os.path.abspath(__file__))
 ROOT = os.path.join(HERE, "..", "..")
 sys.path.insert(0, os.path.join(HERE, "..", "reference"))
 import notation as n
+import trees
 
 GUARD = 32
 MOST_STEPS = 3000
@@ -104,7 +106,7 @@ class Case:
     def written(self, what, extra, f, unit=1):
         """A function that writes what the reference gives; `unit` bytes are an entry, the value counts entries."""
         refusal, data = attempt(f)
-        size = random.choice((0, 25, 60)) if data is None else len(data)
+        size = random.choice((0, n.RECORD, 60)) if data is None else len(data)
         room = rooms(size)
         if data is not None and len(data) // unit > room // unit:
             refusal, data = 5, None
@@ -123,7 +125,7 @@ class Case:
         self.written("seek_step", [place], lambda: n.seek_step(self.text, self.tree, place))
 
     def named(self):
-        records = len(self.tree) // 25
+        records = len(self.tree) // n.RECORD
         for _ in range(2):
             record = random.choice((random.randrange(records + 1), random.randrange(records + 1), records, 2**16, 2**32, 2**64 - 1, 2**62))
             refusal, found = attempt(lambda: n.record_at(n.opened(self.text, self.tree), record, (n.MOVE, n.ROTATION)).family)
@@ -143,27 +145,13 @@ class Case:
 def reading(run, text):
     bits = random.choice((127, 127, random.randrange(128), random.randrange(128), random.randrange(2**32)))
     refusal, data = attempt(lambda: n.pack(n.read(text, n.features_of(bits))))
-    room = rooms(30 if data is None else len(data))
+    room = rooms(n.RECORD if data is None else len(data))
     if data is not None and len(data) > room:
         refusal, data = 5, None
     want = (refusal, 0, b"") if data is None else (0, len(data), data)
     t = lent(text)
     if not run.call("parse_notation", [ctypes.addressof(t), len(text), bits], room, want):
         run.wrong.append((len(text), "parse_notation", text, bits, room, want))
-
-
-BITS, POSITION = 0, {}
-for field, width in n.FIELDS:
-    POSITION[field] = (BITS, width)
-    BITS += width
-
-
-def set_field(record, name, value):
-    at, width = POSITION[name]
-    shift = 200 - at - width
-    whole = int.from_bytes(record, "big")
-    whole = whole & ~((1 << width) - 1 << shift) | (value & (1 << width) - 1) << shift
-    return whole.to_bytes(25, "big")
 
 
 def edge(text, records, old, width):
@@ -174,7 +162,7 @@ def edge(text, records, old, width):
 def damage(text, tree, other):
     """One change to a tree."""
     k = random.randrange(11)
-    records = [tree[i:i + 25] for i in range(0, len(tree), 25)]
+    records = trees.records(tree)
     i = random.randrange(len(records)) if records else 0
     if k == 0 and tree:
         at = random.randrange(len(tree))
@@ -182,9 +170,9 @@ def damage(text, tree, other):
     if k == 1 and tree:
         at = random.randrange(len(tree))
         return tree[:at] + bytes([random.choice((0, 1, 0x7F, 0x80, 0xFF))]) + tree[at + 1:]
-    if k in (2, 3, 4) and records and len(records[i]) == 25:
+    if k in (2, 3, 4) and records and len(records[i]) == n.RECORD:
         name, width = random.choice(n.FIELDS)
-        records[i] = set_field(records[i], name, edge(text, len(records), n.unpack(records[i])[name], width))
+        records[i] = trees.set_field(records[i], name, edge(text, len(records), n.unpack(records[i])[name], width))
     elif k == 5 and records:
         del records[i]
     elif k == 6 and records:
@@ -195,7 +183,9 @@ def damage(text, tree, other):
     elif k == 8:
         return tree[:random.randrange(len(tree) + 1)]
     elif k == 9:
-        return tree + (random.randbytes(random.choice((1, 24, 25, 26, 50))) if random.random() < 0.5 else other[:25 * random.randrange(1, 5)])
+        if random.random() < 0.5:
+            return tree + random.randbytes(random.choice((1, n.RECORD - 1, n.RECORD, n.RECORD + 1, 2 * n.RECORD)))
+        return tree + other[:n.RECORD * random.randrange(1, 5)]
     elif k == 10:
         return nested(tree, random.choice((1, 2, 62, 63, 64, 65)))
     return b"".join(records)
@@ -204,16 +194,25 @@ def damage(text, tree, other):
 def nested(tree, levels):
     """The tree inside so many groups."""
     for _ in range(levels):
-        if len(tree) % 25 or len(tree) // 25 > 60000:
+        if len(tree) % n.RECORD or len(tree) // n.RECORD > 60000:
             return tree
         kind = random.choice((0, 1, 2, 4, 5))
         second = kind > 3 and random.random() < 0.5
-        fields = {"kind": kind, "second" if second else "first": len(tree) // 25, "number": random.choice((1, 1, 1, -1, -1, 0, 2))}
-        head = bytes(25)
-        for name, value in fields.items():
-            head = set_field(head, name, value)
-        tree = head + tree
+        fields = {"second" if second else "first": len(tree) // n.RECORD, "number": random.choice((1, 1, 1, -1, -1, 0, 2))}
+        tree = trees.rec(kind, **fields) + tree
     return tree
+
+
+def miscounted(tree):
+    """One count changed: one off, none, held, not held, the sum without repeats, or anything."""
+    counts = trees.true_counts(tree)
+    if not counts:
+        return tree
+    i = random.randrange(len(counts))
+    right = min(counts[i], n.HELD)
+    number = abs(n.unpack(trees.records(tree)[i])["number"])
+    value = random.choice((right + 1, right - 1, 0, 1, 2, n.HELD, n.HELD - 1, n.HELD + 1, counts[i], right + n.HELD, counts[i] // max(number, 1), random.randrange(1 << 40)))
+    return trees.set_in(tree, i, "count", value)
 
 
 def damaged_text(text):
@@ -251,21 +250,27 @@ def main():
     random.seed(seed)
     known = bases()
     run = Run()
-    sound = 0
+    sound = by_count = 0
     for _ in range(cases):
         text, tree = random.choice(known)
         for _ in range(random.choice((0, 1, 1, 1, 2, 3))):
             tree = damage(text, tree, random.choice(known)[1])
+        if random.random() < 0.8:
+            tree = trees.with_counts(tree)
+        if random.random() < 0.15:
+            tree = miscounted(tree)
         if random.random() < 0.15:
             text = damaged_text(text)
         if random.random() < 0.02:
             text = random.choice(known)[0]
-        sound += n.well_formed(text, tree)
+        fine = n.well_formed(text, tree)
+        sound += fine
+        by_count += not fine and n.well_formed(text, trees.with_counts(tree))
         Case(run, text, tree).all()
         for _ in range(random.randrange(3)):
             text = damaged_text(text)
         reading(run, text)
-    print(f"{cases} cases, {sound} trees well formed; seed {seed}")
+    print(f"{cases} cases, {sound} trees well formed, {by_count} but for a count; seed {seed}")
     print("calls:", ", ".join(f"{k} {v}" for k, v in sorted(run.calls.items())))
     print("answers:", ", ".join(f"{'accepted' if k == 0 else 'refused ' + str(k)} {v}" for k, v in sorted(run.answers.items())))
     print(f"{sum(run.calls.values())} calls, {len(run.wrong)} differ")

@@ -9,11 +9,12 @@ import random
 import notation as n
 from lines import ROOM, refused, spelled, value
 from reading_vectors import well_made
+from trees import move, rec, with_counts
 
 INV, DEEP, PRINT, COUNT, FLATTEN, SEEK, LAYERS, NAME = "idpcfsln"
 WRITERS = (INV, DEEP, PRINT, FLATTEN)
 LEAST = n.LEAST
-TOP = 4294967295
+TOP = n.MOST_STEPS
 
 
 def tree_of(text):
@@ -50,20 +51,6 @@ def line_of(entry, text, tree=None, number=0, layers=0, negatives=False, room=RO
         room = 40 if room is None else room
         answer = refused(r.number)
     return f"{entry}{room:06x}{number:016x}{layers:08x}{negatives:d}{spelled(text)}|{spelled(tree)}", answer
-
-
-def rec(kind, **fields):
-    """A record by its fields, whatever they are."""
-    fields = {"kind": kind, **fields}
-    bits = 0
-    for name, size in n.FIELDS:
-        bits = bits << size | fields.pop(name, 0) & (1 << size) - 1
-    assert not fields, fields
-    return bits.to_bytes(25, "big")
-
-
-def move(**fields):
-    return rec(n.MOVE, **{"number": 1, "family_size": 1, **fields})
 
 
 def layers(form, low, high, **fields):
@@ -114,11 +101,15 @@ def towers():
 
 
 def broken():
-    """Trees that break one rule of well-formedness each: text and tree."""
+    """Trees that break one rule of well-formedness each: text and tree. Counts are put in by `with_counts`; wrong ones are count_vectors.py's."""
     r = move()
     # length
-    for tree in (r[:24], r + b"\0", r[:1], r + r[:24], b"\0" * 24, r * 3 + b"\x70"):
+    for tree in (r[:-1], r + b"\0", r[:1], r + r[:-1], bytes(n.RECORD - 1), r * 3 + b"\x70"):
         yield "R", tree
+    # records without a count, as they were before request 2: one, and so many that the length is right
+    old = r[:-5]
+    yield "R", old
+    yield "R", old * n.RECORD
     # kind
     yield "R", rec(15)
     yield "R", r + rec(15, number=1)
@@ -221,16 +212,14 @@ def odd():
 
 def shared(entry, **more):
     """Texts and trees that every entry is asked: refusals 1, 2 and 6, their order, and limits."""
-    for text, tree in broken():
-        yield line_of(entry, text, tree, **more)
-    for text, tree in odd():
-        yield line_of(entry, text, tree, **more)
+    for text, tree in (*broken(), *odd()):
+        yield line_of(entry, text, with_counts(tree), **more)
     r = move()
     for text, tree in ((b" " * 65536, b""), (b"R" * 65536, r), (b"\xff" * 65536, r), (b" " * 65536, rec(15)), (b"\xff", b""), (b"R\xff", r), (b"\xff", rec(15)),
-                       (b"R\xce", r), (b"R\xed\xa0\x80", r[:24]),
+                       (b"R\xce", r), (b"R\xed\xa0\x80", r[:-1]),
                        (b"\xf4\x90\x80\x80", r), (b" " * 65535, b""), (b" " * 65534 + b"R", move(family=65534)), (b"R" * 65535, move(family_size=65535)),
                        (b" " * 65533 + "β".encode(), move(family=65533, family_size=2)), (b" " * 65534 + b"R", move(family=65534, family_size=2)),
-                       (b"R", r[:24] + b"\1"), (b"R", r * 20000 + rec(15)), (b"R", r * 20001 + r[:5])):
+                       (b"R", move(set_size=1)), (b"R", r * 20000 + rec(15)), (b"R", r * 20001 + r[:5])):
         yield line_of(entry, text, tree, **more)
 
 
@@ -239,6 +228,12 @@ def rooms(entry, text, number=0, layers=0):
     size = len(call(entry, text.encode(), tree_of(text.encode()), number, layers, False, None)[1])
     for room in sorted({0, 1, size - 1, size, size + 1, size + 60} - {-1}):
         yield line_of(entry, text, number=number, layers=layers, room=room)
+
+
+def numbers(text):
+    """Records of a text: each, some past the end, and those whose offset in bytes does not fit 64 bits."""
+    size = len(tree_of(text.encode())) // n.RECORD
+    return (*range(size + 2), (1 << 16) + 1, 1 << 32, (1 << 64) // n.RECORD + 1, 1 << 63, (1 << 64) - 1)
 
 
 def random_texts(count):
@@ -267,9 +262,10 @@ def writers(entry):
     for text in ("^(R)", "(-2147483648,0)", "(R ^(U))'", "R (0,-2147483648)"):
         yield line_of(entry, text, room=0)
     yield line_of(entry, "R", rec(15), room=0)
-    yield line_of(entry, "R", move() * 30000, room=750000)
-    yield line_of(entry, "R", move() * 30000, room=29999)
-    yield line_of(entry, "R", rec(n.SIMPLE, number=-1, first=30000) + move() * 30000, room=760000)
+    many = 30000
+    yield line_of(entry, "R", move() * many, room=many * n.RECORD)
+    yield line_of(entry, "R", move() * many, room=many - 1)
+    yield line_of(entry, "R", with_counts(rec(n.SIMPLE, number=-1, first=many) + move() * many), room=(many + 400) * n.RECORD)
     if entry == FLATTEN:
         yield from flattened()
 
@@ -277,9 +273,9 @@ def writers(entry):
 def flattened():
     for text in ("(R U F)100", "((R)100 [U2, F (1,-2) R++]50)'", "[[[R, U]2', F]3, [D: L]']2'", "((R U)3' F)7'", "(R)1000'", "[(R U)20: (F . D--)30]'"):
         yield line_of(FLATTEN, text)
-        yield line_of(FLATTEN, text, room=25 * n.count(n.read(text.encode(), n.MAXIMAL)) - 1)
+        yield line_of(FLATTEN, text, room=n.RECORD * n.count(n.read(text.encode(), n.MAXIMAL)) - 1)
     for text in LARGE:
-        yield line_of(FLATTEN, text, room=50)
+        yield line_of(FLATTEN, text, room=2 * n.RECORD)
 
 
 def counted():
@@ -287,10 +283,10 @@ def counted():
     for text in LARGE:
         yield line_of(COUNT, text)
     for text, tree in unused():
-        yield line_of(COUNT, text, tree)
+        yield line_of(COUNT, text, with_counts(tree))
     yield line_of(COUNT, "R", move() * 60000)
-    yield line_of(COUNT, "R", rec(n.COMMUTATOR, number=9, first=20000, second=10000) + move() * 30001)
-    yield line_of(COUNT, "R", rec(n.SIMPLE, number=2147483647, first=3) + move() * 4)
+    yield line_of(COUNT, "R", with_counts(rec(n.COMMUTATOR, number=9, first=20000, second=10000) + move() * 30001))
+    yield line_of(COUNT, "R", with_counts(rec(n.SIMPLE, number=2147483647, first=3) + move() * 4))
     yield line_of(COUNT, "R", room=7)
     yield line_of(COUNT, "R", rec(15), room=7)
 
@@ -320,7 +316,7 @@ def seeking():
     for place in (0, 1):
         yield from rooms(SEEK, "R U2'", number=place)
     yield line_of(SEEK, "R", number=1, room=0)
-    yield line_of(SEEK, "R", number=0, room=24)
+    yield line_of(SEEK, "R", number=0, room=n.RECORD - 1)
     yield line_of(SEEK, "^(R)", number=9, room=0)
     yield line_of(SEEK, "((R)65536)65536", number=1 << 63, room=0)
     yield line_of(SEEK, "R", move() * 30000, number=29999)
@@ -339,8 +335,7 @@ def simplified():
             yield line_of(LAYERS, text, layers=layers_, negatives=True)
     # records
     text = "(R {1,-1}U) . @F (1,2) [2-3L, ^(5D)]' / R++ {2..-2}B"
-    size = len(tree_of(text.encode())) // 25
-    for number in (*range(size + 2), (1 << 16) + 1, 1 << 32, (1 << 64) // 25 + 1, 1 << 63, (1 << 64) - 1):
+    for number in numbers(text):
         yield line_of(LAYERS, text, number=number, layers=5, negatives=True)
     yield line_of(LAYERS, "", layers=5)
     # order: 6, 11, 12, 5
@@ -369,8 +364,7 @@ def named():
     for text in TEXTS + NISS[:6] + PAIRS[:3]:
         yield line_of(NAME, text)
     text = "(Rw {1,-1}U) . @F @ (1,2) [2-3βΩ{A}, ^(5D)]' / R++ _ @ω2 ΓΔΘΛΞΠΣΦΨΩβδζθλξεηκμπτφψω"
-    size = len(tree_of(text.encode())) // 25
-    for number in (*range(size + 2), (1 << 16) + 1, 1 << 32, (1 << 64) // 25 + 1, 1 << 63, (1 << 64) - 1):
+    for number in numbers(text):
         yield line_of(NAME, text, number=number)
     yield line_of(NAME, "R" * 300)
     yield line_of(NAME, "R" * 700)

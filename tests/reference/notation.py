@@ -1,6 +1,7 @@
-"""Document 01 once more, in plain Python: a reader, packed trees, inverses, printing, unrolling and layer ranges.
+"""Document 01 once more, in plain Python: a reader, packed trees, inverses, printing, unrolling and layer ranges; of document 02 request 2, the
+counts that records store.
 
-Written from the paper alone, as ordinary recursive descent over decoded characters, to make the expected output of the stored vectors.
+Written from the papers alone, as ordinary recursive descent over decoded characters, to make the expected output of the stored vectors.
 Nothing in it is shared with the Rattle code or with the definitions in crates/notation/specs.
 """
 
@@ -13,6 +14,14 @@ GREEK = {0x300 + n for n in (0x93, 0x94, 0x98, 0x9B, 0x9E, 0xA0, 0xA3, 0xA6, 0xA
                              0xBE, 0xC0, 0xC4, 0xC6, 0xC8, 0xC9)}
 WHITE = set([*range(0x9, 0xE), 0x20, 0x85, 0xA0, 0x1680, *range(0x2000, 0x200B), 0x2028, 0x2029, 0x202F, 0x205F, 0x3000])
 LEAST = -2147483648
+MOST_STEPS = 4294967295  # a longer list is refused 9
+HELD = 4294967296  # what a record stores for every count above
+
+# The packed record: its fields in order with their bits, most significant bit first.
+FIELDS = (("kind", 4), ("tilde", 1), ("form", 2), ("constrained", 1), ("first", 16), ("second", 16), ("number", 32), ("d", 32),
+          ("family", 16), ("family_size", 16), ("constraints", 16), ("constraints_size", 16), ("set", 16), ("set_size", 16), ("count", 40))
+RECORD = sum(bits for _, bits in FIELDS) // 8
+DEEPEST = 64
 
 
 class Refused(Exception):
@@ -299,39 +308,61 @@ def count_records(nodes):
     return sum(1 + sum(count_records(l) for l in n.lists) for n in nodes)
 
 
-def record(n):
-    """The 25 bytes of one record."""
-    bits = 0
-    width = 0
+def count(nodes):
+    """How many steps a list unrolls into. A NISS group counts 0, whatever it holds, and so does a group of multiplier 0; a leaf is one step, with
+    multiplier 0 too. Where no NISS group is reached this is the length of the unrolled list."""
+    total = 0
+    for n in nodes:
+        if not n.lists:
+            total += 1
+        elif n.kind != NISS and n.number:
+            c = [count(l) for l in n.lists]
+            total += abs(n.number) * {COMMUTATOR: 2 * sum(c), CONJUGATE: 2 * c[0] + c[-1]}.get(n.kind, c[0])
+    return total
 
-    def put(value, size):
-        nonlocal bits, width
-        bits = bits << size | value & (1 << size) - 1
-        width += size
 
-    form = {None: 0, "single": 1, "range": 2, "set": 3}[n.layers and n.layers[0]]
-    low, high = {0: (0, 0), 1: n.layers and (n.layers[1], n.layers[1]), 2: n.layers and n.layers[1:3], 3: (0, 0)}[form]
-    put(n.kind, 4), put(int(n.tilde), 1), put(form, 2), put(int(n.constraints is not None), 1)
-    for i in (0, 1):
-        put(count_records(n.lists[i]) if len(n.lists) > i else 0, 16)
-    put(0 if n.kind in (PAUSE, SLASH, RPP, RMM, DPP, DMM) else n.number, 32)
+def stored_count(n):
+    """The count field of a record: its own steps, repeats included, held at 4,294,967,296."""
+    return min(count([n]), HELD)
+
+
+def fields_of(n):
+    """The fields of one record; those that it does not use are left out."""
+    fields = {"kind": n.kind, "tilde": int(n.tilde), "constrained": int(n.constraints is not None), "count": stored_count(n)}
+    for name, nodes in zip(("first", "second"), n.lists):
+        fields[name] = count_records(nodes)
+    if n.kind not in (PAUSE, SLASH, RPP, RMM, DPP, DMM):
+        fields["number"] = n.number
+    fields["family"], fields["family_size"] = n.family
+    if n.constraints:
+        fields["constraints"], fields["constraints_size"] = n.constraints[0]
     if n.kind == PAIR:
-        put(n.d, 32)
-    else:
-        put(low, 16), put(high, 16)
-    for a, b in (n.family, n.constraints[0] if n.constraints else (0, 0), n.layers[1] if form == 3 else (0, 0)):
-        put(a, 16), put(b, 16)
-    return bits.to_bytes(25, "big")
+        fields["d"] = n.d
+    elif n.layers:
+        fields["form"] = {"single": 1, "range": 2, "set": 3}[n.layers[0]]
+        if n.layers[0] == "set":
+            fields["set"], fields["set_size"] = n.layers[1]
+        else:
+            fields["d"] = n.layers[1] << 16 | n.layers[-1]
+    return fields
+
+
+def packed(fields):
+    """The bytes of a record with these fields, whatever they are; all others are 0."""
+    assert fields.keys() <= dict(FIELDS).keys(), fields
+    bits = 0
+    for name, size in FIELDS:
+        bits = bits << size | fields.get(name, 0) & (1 << size) - 1
+    return bits.to_bytes(RECORD, "big")
+
+
+def record(n):
+    """The bytes of one record."""
+    return packed(fields_of(n))
 
 
 def pack(nodes):
     return b"".join(record(n) + b"".join(pack(l) for l in n.lists) for n in nodes)
-
-
-FIELDS = (("kind", 4), ("tilde", 1), ("form", 2), ("constrained", 1), ("first", 16), ("second", 16), ("number", 32), ("d", 32),
-          ("family", 16), ("family_size", 16), ("constraints", 16), ("constraints_size", 16), ("set", 16), ("set_size", 16))
-RECORD = 25
-DEEPEST = 64
 
 
 def unpack(data):
@@ -349,15 +380,16 @@ def unpack(data):
 def used_fields(f):
     """The fields that a record of its kind and forms uses; all others are to be 0."""
     kind = f["kind"]
+    every = {"kind", "count"}
     if kind < COMMUTATOR:
-        return {"kind", "first", "number"}
+        return every | {"first", "number"}
     if kind < ROTATION:
-        return {"kind", "first", "second", "number"}
+        return every | {"first", "second", "number"}
     if kind == PAIR:
-        return {"kind", "number", "d"}
+        return every | {"number", "d"}
     if kind not in (ROTATION, MOVE):
-        return {"kind"}
-    used = {"kind", "constrained", "number", "family_size"}
+        return every
+    used = every | {"constrained", "number", "family_size"}
     if f["family_size"]:
         used.add("family")
     if f["constrained"]:
@@ -403,7 +435,7 @@ class Tree:
             used = used_fields(f)
             self.need(all(not f[name] for name, _ in FIELDS if name not in used))
             if f["kind"] >= ROTATION:
-                nodes.append(self.leaf(f))
+                nodes.append(self.counted(self.leaf(f), f))
                 at += 1
                 continue
             middle = at + 1 + f["first"]
@@ -412,9 +444,14 @@ class Tree:
             lists = [self.list(at + 1, middle, depth + 1)]
             if f["kind"] >= COMMUTATOR:
                 lists.append(self.list(middle, last, depth + 1))
-            nodes.append(Node(f["kind"], lists=lists, number=f["number"]))
+            nodes.append(self.counted(Node(f["kind"], lists=lists, number=f["number"]), f))
             at = last
         return nodes
+
+    def counted(self, n, f):
+        """A node whose record stores its count, wherever it stands: inside NISS groups and groups of multiplier 0 too."""
+        self.need(f["count"] == stored_count(n))
+        return n
 
     def leaf(self, f):
         kind = f["kind"]
@@ -567,18 +604,6 @@ def unroll_check(nodes, inverted=False, known=None):
     known[id(nodes), inverted] = True
 
 
-def count(nodes):
-    """The length of the unrolled list."""
-    total = 0
-    for n in nodes:
-        if not n.lists:
-            total += 1
-        elif n.number:
-            c = [count(l) for l in n.lists]
-            total += abs(n.number) * {COMMUTATOR: 2 * sum(c), CONJUGATE: 2 * c[0] + c[-1]}.get(n.kind, c[0])
-    return total
-
-
 def step_at(nodes, k, inverted=False):
     """Entry k of the unrolled list, found by counts; k is below them."""
     for n in reversed(nodes) if inverted else nodes:
@@ -663,7 +688,7 @@ def count_steps(text, tree):
     nodes = opened(text, tree)
     unroll_check(nodes)
     n = count(nodes)
-    if n > 4294967295:
+    if n > MOST_STEPS:
         raise Refused(9)
     return n
 

@@ -5,6 +5,7 @@ import os
 import sys
 
 import agree_vectors
+import count_vectors
 import entry_vectors
 import listing_vectors
 import oracle_vectors
@@ -15,7 +16,8 @@ MOST = 64 * 262144  # what the program reads at most: so many pieces
 
 
 def main():
-    both = [*reading_vectors.lines(), *entry_vectors.lines(), *listing_vectors.lines(), *oracle_vectors.lines(), *agree_vectors.lines()]
+    groups = (reading_vectors, entry_vectors, count_vectors, listing_vectors, oracle_vectors, agree_vectors)
+    both = [line for group in groups for line in group.lines()]
     home = sys.argv[1] if len(sys.argv) > 1 else HOME
     for name, column in (("stdin", 0), ("stdout", 1)):
         with open(os.path.join(home, name), "w") as f:

@@ -1,0 +1,155 @@
+"""Stored vectors for the count that every record stores (document 02, request 2): what reading and both inverses write, and that a wrong one, in any record
+at any depth, is refused 6 by every entry that takes a tree, before all other refusals of trees.
+
+The lines are those of reading_vectors.py and entry_vectors.py.
+"""
+import notation as n
+import trees
+from entry_vectors import COUNT, DEEP, FLATTEN, INV, LAYERS, NAME, PRINT, SEEK, line_of, tree_of
+from lines import spelled
+from reading_vectors import MAX, answer
+
+ENTRIES = (PRINT, INV, DEEP, COUNT, FLATTEN, SEEK, LAYERS, NAME)
+HELD = n.HELD
+WIDTH = 40
+DEEP_TEXTS = tuple(
+    start * 64 + inner + end * 64
+    for start, inner, end in (("(", "R", ")"), ("(", "R", ")'"), ("(", "R", ")2"), ("(", "R U", ")2147483647"), ("(", "R", ")0"), ("^(", "R", ")"), ("[R: ", "U", "]"), ("[", "R", ": U]'"),
+                              ("[", "R", ":]"), ("[", "R", ", U]"), ("[, ", "R", "]2'"), ("[:", "", "]"), ("[", "", ",]3"))
+)
+# Every kind of leaf counts 1, whatever its numbers are.
+LEAVES = ("R", "R0", "R2147483647'", "~{1-3}Rw{A->B}5", "@", "@0", "@U{}2'", ".", "/", "(0,0)", "(3,-2)", "(-2147483648,7)", "R++", "R--", "D++", "D--", "R U2 F' . /")
+GROUPS = (
+    "()", "()5", "(R)", "(R)'", "(R)0", "(R)0'", "(R U)3", "(R U)3'", "!(R U)3'", "&(R U)3", "(R0 U0)2", "[,]", "[,]5'", "[:]", "[:]7", "[R,]", "[, R]", "[R:]", "[: R]", "[R, U F]", "[R, U F]2'",
+    "[R: U F]", "[R: U F]'", "[R U: F]3'", "[R U: F]0", "[R, U]0", "((R U)3 F)2", "((R U)3' (F)0 ()9 D)2'", "((R)3)0", "((R)0)3", "([(R)3, U]0 F)2", "[U: (R)3]0", "[(R)3: (U F)2]2", "[(R)3, (U F)2']2'",
+    "[[R, U]: [F: D]]'", "(R)3 [U, F]2 ()5 (D)0 (L)2' B", "((-2147483648,0) R)0'",
+)
+# A NISS group counts 0 and adds 0 to what holds it. What it holds has counts of its own.
+NISS = (
+    "^()", "^(R)", "^(R)0", "^(R U)3", "^(R U)3'", "^((R)3)", "^((R)0)", "^(^(R))", "^([R, U]2)", "^([R: U F]')", "(^(R))", "(^(R) U)", "(^(R) U)3", "!(^(R U)2 F)3'", "&(^((R)3))", "(^(R))0", "(^((R)3) U)0", "[^(R), U]",
+    "[U, ^(R)]2", "[^(R): U]", "[^(R U)2: (F)3]", "[U: ^(R)]", "[(^(R))0: U]", "[^(R), ^(U)]", "R ^(U) F", "^((R (^(U))2)3)",
+)
+# Sums and products about 4,294,967,296, and those that 32, 40 and 64 bits would lose.
+LARGE = (
+    "(R)2147483647", "(R)2147483647'", "((R)2147483647)2", "(((R)2147483647)2 R)", "(((R)2147483647)2 R)'", "(((R)2147483647)2 R R)", "((R)2147483647)3", "((R)65535)65537", "((R)65536)65536", "((R)65536)65537'", "((R)65537)65537",
+    "((R)2147483647 (R)2147483647 R)", "((R)2147483647 (R)2147483647 (R)2)", "((R)2147483647 (R)2147483647 (R)3)", "(R)2147483647 (R)2147483647 (R)2", "((R)2147483647 (U)2147483647 (F)2147483647)", "((R)2147483647)2147483647",
+    "[(R)1073741823, R]", "[(R)2147483647,]", "[(R)2147483647, R]", "[(R)2147483646, R]2", "[, (R)2147483647 (U)2147483647]", "[(R)2147483647: R]", "[(R)2147483647: R R]'", "[R: (U)2147483647 (U)2147483646]", "[R: (U)2147483647 (U)2147483647]",
+    "[((R)65536)65536, U]", "[U, ((R)65536)65536]'", "[((R)65536)65536, ((U)65536)65536]2'", "[((R)65536)65536:]", "[: ((R)65536)65536]", "[: ((R)65535)65537]", "[((R)65536)65536: ((U)65536)65536]'",
+    "(((R)65536)65536)0", "((((R)65536)65536)0 U)3", "[((R)65536)65536, U]0", "[U: ((R)65536)65536]0'", "^(((R)65536)65536)", "(^(((R)65536)65536) U)2", "^([((R)65536)65536: U])",
+    "(((R)65536)65536 ((U)65536)65536)", "(((R)65536)65536)2147483647", "((R)1048576)1048576", "((R)2147483647 ((R)1048576)1048576)", "((((R)65536)65536)65536)65536", "(((((R)65536)65536)65536)65536)65536", "(((R)2097152)2097152)4194304",
+    "((((R)2147483647)2147483647)2147483647)2147483647", "(()2147483647)2147483647", "((R)0)2147483647", "[((()2147483647)2147483647)2147483647, (R)0]2147483647",
+)
+# Counts that are wrong in a plausible way: a text, and of some of its records the count stored instead.
+CHOSEN = (
+    # a leaf
+    ("R", {0: 0}), ("R", {0: 2}), ("R", {0: 1 + HELD}), ("R", {0: 1 << 39}), ("R0", {0: 0}), ("R2", {0: 2}), ("R'", {0: -1}), ("(3,2)", {0: 3}), (".", {0: 0}), ("/", {0: 0}), ("@", {0: 0}), ("R++", {0: 2}), ("R U F", {2: 0}), ("R U F", {0: 3}),
+    # a group: one off, without its repeats, its multiplier, its records, what its sign would make of it
+    ("(R U)3", {0: 5}), ("(R U)3", {0: 7}), ("(R U)3", {0: 2}), ("(R U)3", {0: 3}), ("(R U)3", {0: 0}), ("(R U)3", {0: 1}), ("(R U)3", {0: 6 + HELD}), ("(R U)3'", {0: -6}), ("(R U)3", {0: HELD}), ("()", {0: 1}), ("()5", {0: 5}),
+    ("(R)0", {0: 1}), ("(R)0", {1: 0}), ("!(R U)3", {0: 2}), ("&(R U)3", {0: 1}),
+    # commutators and conjugates: one list, both once, the other's rule
+    ("[R, U F]", {0: 3}), ("[R, U F]", {0: 4}), ("[R, U F]", {0: 5}), ("[R, U F]", {0: 7}), ("[R: U F]", {0: 3}), ("[R: U F]", {0: 5}), ("[R: U F]", {0: 6}), ("[R: U F]2'", {0: 4}), ("[,]", {0: 1}), ("[:]3", {0: 3}), ("[R, U]0", {0: 4}), ("[R: U]0", {2: 0}),
+    # an inner record alone, an outer one alone, and both, the outer by what the inner one says
+    ("((R U)3 F)2", {1: 5}), ("((R U)3 F)2", {1: 7}), ("((R U)3 F)2", {1: 2}), ("((R U)3 F)2", {3: 0}), ("((R U)3 F)2", {4: 2}), ("((R U)3 F)2", {0: 13}), ("((R U)3 F)2", {0: 15}), ("((R U)3 F)2", {1: 7, 0: 16}), ("(R)2", {1: 2, 0: 4}),
+    ("[(R)2, U]", {1: 1, 0: 4}), ("[U: (R)2]", {2: 3, 0: 5}),
+    # a NISS group: 1, what it holds, and so what holds it; its contents
+    ("^(R)", {0: 1}), ("^(R U)3", {0: 6}), ("^(R U)3", {0: 2}), ("^()", {0: 1}), ("^(R)0", {0: 1}), ("^(R)", {1: 0}), ("^((R)3)", {1: 0}), ("^((R)3)", {1: 2}), ("^((R)3)", {2: 0}), ("^(^(R))", {1: 1}), ("^([R, U]2)", {1: 0}),
+    ("(^(R) U)", {0: 2}), ("(^(R) U)", {0: 2, 1: 1}), ("(^(R) U)3", {0: 0}), ("[^(R), U]", {0: 4}), ("[^(R): U]", {0: 3}), ("(^(R))0", {1: 1}), ("(^(R))0", {2: 0}),
+    # inside multiplier 0
+    ("((R)3)0", {1: 0}), ("((R)3)0", {1: 1}), ("((R)3)0", {1: 4}), ("((R)3)0", {2: 0}), ("((R)3)0", {0: 3}), ("[(R)3, U]0", {1: 0}), ("[U: (R)3]0", {2: 2}), ("((R)0)3", {1: 1}),
+    # held or not
+    ("((R)65536)65536", {0: HELD - 1}), ("((R)65536)65536", {0: HELD + 1}), ("((R)65536)65536", {0: 0}), ("((R)65536)65536", {1: HELD}), ("((R)65536)65537", {0: HELD + 65536}), ("((R)65537)65537", {0: 131073}), ("((R)65535)65537", {0: HELD}),
+    ("((R)65535)65537", {0: HELD - 2}), ("((R)1048576)1048576", {0: 0}), ("((R)1048576)1048576", {0: (1 << 40) - 1}), ("(((R)65536)65536)2", {0: 2 * HELD}), ("(((R)65536)65536)2", {1: HELD + 1}), ("(((R)65536)65536)2", {1: HELD - 1}),
+    ("((R)2147483647 (R)2147483647 R)", {0: HELD}), ("((R)2147483647 (R)2147483647 (R)2)", {0: HELD - 1}), ("((R)2147483647 (R)2147483647 (R)2)", {0: 0}), ("((R)2147483647 (R)2147483647 (R)3)", {0: HELD + 1}),
+    ("[(R)2147483647, R]", {0: HELD - 1}), ("[(R)2147483647: R]", {0: HELD}), ("[((R)65536)65536, U]", {0: 2 * HELD + 2}), ("[((R)65536)65536: U]", {0: 2 * HELD + 1}), ("[((R)65536)65536: U]", {1: 2 * HELD}),
+    ("(((R)65536)65536)0", {0: HELD}), ("(((R)65536)65536)0", {1: 0}), ("(((R)65536)65536)0", {1: HELD + 1}), ("^(((R)65536)65536)", {0: HELD}), ("^(((R)65536)65536)", {1: HELD - 1}), ("^(((R)65536)65536)", {1: HELD + 1}), ("((((R)65536)65536)0 U)3", {0: HELD}),
+    # 64 deep: the innermost group, its leaf, one in the middle, the outermost
+    (DEEP_TEXTS[0], {63: 0}), (DEEP_TEXTS[0], {64: 2}), (DEEP_TEXTS[0], {31: 2}), (DEEP_TEXTS[0], {0: 2}), (DEEP_TEXTS[2], {32: HELD + 1}), (DEEP_TEXTS[2], {33: HELD}), (DEEP_TEXTS[4], {63: 1}), (DEEP_TEXTS[5], {63: 1}), (DEEP_TEXTS[11], {63: 1}),
+)
+
+
+def wrong_tree(text, counts):
+    """The tree of a text with other counts stored."""
+    tree = tree_of(text.encode())
+    for number, count in counts.items():
+        tree = trees.set_in(tree, number, "count", count)
+    return tree
+
+
+def refused_6(*args, **more):
+    line, said = line_of(*args, **more)
+    assert said == "refused 6", (line, said)
+    return line, said
+
+
+def written():
+    """What reading and both inverses write, and what counting, unrolling and seeking make of it."""
+    for text in (*LEAVES, *GROUPS, *NISS, *LARGE, *DEEP_TEXTS):
+        data = text.encode()
+        said, room = answer(MAX, data, None)
+        yield f"r{MAX:02x}{room:06x}{spelled(data)}", said
+        for entry in (INV, DEEP, COUNT):
+            yield line_of(entry, text)
+        total = n.count(n.read(data, n.MAXIMAL))
+        yield line_of(FLATTEN, text, room=n.RECORD * min(total, 100))
+        for place in sorted({0, max(total - 1, 0), total // 2}):
+            if place <= n.MOST_STEPS:
+                yield line_of(SEEK, text, number=place)
+
+
+def sought():
+    """Every place where groups are passed over by their counts, 0 among them, and about the borders of large ones."""
+    for text in ("(R)3 [U, F]2 ()5 (D)0 (L)2' B", "((()5 R (U)0)3 [(F)2, (L)0])2'", "[(R)2: (U F)2' ()]3'", "(^(R)5)0 U ([^(F), D]0 L)2", "(((R)65536)65536)0 U [(((F)65536)65536)0: D]"):
+        for place in range(n.count(n.read(text.encode(), n.MAXIMAL)) + 1):
+            yield line_of(SEEK, text, number=place)
+    half = 2147483647
+    for text in ("(R)2147483647 (U)2147483647 F", "[(R)2147483647: U]", "[(R)2147483647: U]'", "((R)2147483647 U)", "F (R U)2147483647"):
+        for place in (half - 1, half, half + 1, 2 * half - 1, 2 * half, 2 * half + 1):
+            yield line_of(SEEK, text, number=place)
+
+
+def chosen():
+    """Every entry is asked every one of these, with a buffer to spare and without any."""
+    for entry in ENTRIES:
+        for i, (text, counts) in enumerate(CHOSEN):
+            yield refused_6(entry, text, wrong_tree(text, counts), layers=5, room=0 if i % 3 == 0 else None)
+
+
+def other_values(true):
+    """Wrong counts for a group of so many steps: one off, held or not, wrapped, and the usual suspects."""
+    right = min(true, HELD)
+    found = {right + 1, right - 1, 0, 1, HELD, HELD - 1, HELD + right, true, true % HELD}
+    return sorted({value % (1 << WIDTH) for value in found} - {right})
+
+
+def every_record():
+    """Each record of each text with a wrong count, and single bits of the field: counting is asked all of them."""
+    for text in (*LEAVES, *GROUPS, *NISS, *LARGE):
+        tree = tree_of(text.encode())
+        for number, true in enumerate(trees.true_counts(tree)):
+            leaf = n.unpack(trees.records(tree)[number])["kind"] >= n.ROTATION
+            for value in (0, 2) if leaf else other_values(true):
+                yield refused_6(COUNT, text, trees.set_in(tree, number, "count", value))
+    for text, number, right in (("R", 0, 1), ("((R U)3 F)2", 1, 6), ("((R)65536)65536", 0, HELD), ("^(R)", 0, 0)):
+        for bit in range(WIDTH):
+            yield refused_6(COUNT, text, wrong_tree(text, {number: right ^ 1 << bit}))
+
+
+def order():
+    """1 and 2 come before a wrong count, and it comes before 7, 8, 9, 10, 11, 12 and 5."""
+    leaf = trees.move(count=2)
+    for entry in ENTRIES:
+        for text in (b"R" * 65536, b"R\xff"):
+            yield line_of(entry, text, leaf, layers=0, number=9, room=0)
+        for text, counts in (("R ^(U)", {0: 2}), ("^(U)0 R", {2: 0}), ("((-2147483648,0))'", {0: 2}), ("(-2147483648,0)", {0: 0}), ("((R)65536)65536 U", {3: 0}), ("((R)65536)65536 ^(U)", {0: HELD + 1})):
+            tree = wrong_tree(text, counts)
+            for number, layers, room in ((0, 0, 0), (0, 5, None), (99, 5, 0), (1 << 63, 32768, None)):
+                yield refused_6(entry, text, tree, number=number, layers=layers, room=room)
+        # the wrong one is the last of many
+        yield refused_6(entry, "R", trees.move() * 30000 + leaf, layers=5)
+        yield refused_6(entry, "R", trees.set_in(trees.with_counts(trees.rec(n.SIMPLE, number=3, first=30000) + trees.move() * 30000), 0, "count", 30000), layers=5)
+
+
+def lines():
+    """Each case with its answer."""
+    for group in (written, sought, chosen, every_record, order):
+        yield from group()
