@@ -1,4 +1,4 @@
-// How many steps a list has, by what its nodes store: what stands inside a group is not looked at.
+// How many steps a list has, a group by what it stores: what stands inside it is not looked at.
 ghost use mathlib.Core.Path.{_≡_};
 ghost use Rattle.notation.specs.Packed.{unpack};
 ghost use Rattle.notation.specs.Counts as rule;

@@ -1,5 +1,5 @@
-// The step at a place of the unrolled list, found by passing over whole nodes by the counts that they store, and over whole repeats:
-// the time depends neither on the number of steps nor on what is passed.
+// The step at a place of the unrolled list, found by passing over whole nodes, groups by the counts that they store, and over whole repeats:
+// the time depends neither on the number of steps nor on what stands inside a group that is passed.
 ghost use mathlib.Core.Path.{_≡_};
 ghost use mathlib.Core.Bool.{false};
 ghost use mathlib.Core.List.{_++_};

@@ -1,5 +1,6 @@
 -- `count::count` meets its contract. Assumes nothing.
 use borrow.Author.Needs.{needs}
+use native.Mathlib.Omega.{arith}
 use lib.Dec.{lit≤}
 use lib.ListN.{length}
 use Rattle.notation.specs.Packed.{RECORD}
@@ -51,7 +52,7 @@ sum-requires-2 : tie.Need-sum-requires-2 Inv-loop μ-loop
 sum-requires-2 c κs =
     let tested = c .before .before .before in
     let at-loop = tested .before in
-    (at-loop .loop .inv .held, stored-most (first-of _ (at-loop .loop .inv .packed) (tested .loop-test .taken)) (c .count .ensures))
+    (omega (arith, at-loop .loop .inv .held), stored-most (first-of _ (at-loop .loop .inv .packed) (tested .loop-test .taken)) (c .count .ensures))
 
 node-end-requires : tie.Need-node-end-requires Inv-loop μ-loop
 node-end-requires c κs = search needs
