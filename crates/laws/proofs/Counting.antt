@@ -90,11 +90,3 @@ stored-none n d e = go (flatNode undo d n) (sym (stored-is n d) ∙ e)
     go : (l : List Leaf) → hold (length l) ≡ 0 → l ≡ []
     go [] h = refl
     go (x ∷ l) h = absurd (omega arith)
-
--- and a list's count is the sum of what its nodes store, held again
-pub hold-cons : (n : Node Leaf) (l : Tree) → hold (stored n + hold (count l)) ≡ hold (count (cons n l))
-unfolding count
-hold-cons n l = hold-plus (countNode n) (count l)
-
-pub hold-most : (n : ℕ) → hold n ≤ HELD
-hold-most n = omega arith

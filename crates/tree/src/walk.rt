@@ -102,7 +102,8 @@ fn group_ok(text: &[u8], t: &[u8], depth: usize) -> bool
     }
 }
 
-// Whether the first record, that of a group, is what packing writes with this step count, and its multiplier is in bounds.
+// Whether the first record, that of a group, is what packing writes of a group with that step count, and its multiplier is in bounds. Whether the
+// count is right, only its lists tell.
 fn group_record_ok(t: &[u8]) -> bool
     requires { ⌜ RECORD ≤ length (now t) ⌝ }
     requires { ⌜ field 0 (now t) / 16 < 6 ⌝ }
