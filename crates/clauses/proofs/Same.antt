@@ -16,7 +16,7 @@ use Rattle.notation.specs.Clauses.{
   Fields, fieldsOf, kindOk, unusedOk, partsInside, groupsDeep, layersInRange, multiplierInRange, familyReads, partsRead, clauseByClause, clauses
 }
 use Rattle.numbers.proofs.Positional.{Below, below-nil, below-cons, below-append, below-tail}
-use Rattle.record.proofs.RoundTrip.{record25-below}
+use Rattle.record.proofs.RoundTrip.{headRecord-below}
 use Rattle.laws.proofs.Bools.{and-left, and-right}
 use Rattle.laws.proofs.Packing.{length-pack}
 use Rattle.tree.specs.Formed.{formed}
@@ -29,8 +29,8 @@ use Rattle.clauses.proofs.Lists.{RecordOk, AllOk, ListOk, agree}
 mutual
   unfolding packNode packBody pack
   node-below : (n : Node Leaf) → Below 256 (packNode n)
-  node-below (leaf x) = record25-below (leafHead x)
-  node-below (block b m) = below-append 256 _ (packBody b) (record25-below (bodyHead b m)) (body-below b)
+  node-below (leaf x) = headRecord-below (leafHead x)
+  node-below (block b m) = below-append 256 _ (packBody b) (headRecord-below (bodyHead b m)) (body-below b)
 
   body-below : (b : Body Leaf) → Below 256 (packBody b)
   body-below (group k a) = pack-below a
@@ -104,22 +104,23 @@ unfolding wellFormed formed clauseByClause every
 from-clauses text tree h =
     let n = length tree / RECORD in
     let rs = fieldsOf n tree in
-    let size : length tree ≡ RECORD * n = omega (arith, eqb-true (length tree % RECORD) 0 (search (and-left, and-right) depth 12)) in
+    let size : length tree ≡ RECORD * n = omega (arith, eqb-true (length tree % RECORD) 0 (search (and-left, and-right) depth 13)) in
     let e : Each text rs = record {
-      kinds = search (and-left, and-right) depth 12;
-      unused = search (and-left, and-right) depth 12;
-      inside = search (and-left, and-right) depth 12;
-      layers = search (and-left, and-right) depth 12;
-      multipliers = search (and-left, and-right) depth 12;
-      families = search (and-left, and-right) depth 12;
-      parts = search (and-left, and-right) depth 12;
+      kinds = search (and-left, and-right) depth 13;
+      unused = search (and-left, and-right) depth 13;
+      inside = search (and-left, and-right) depth 13;
+      layers = search (and-left, and-right) depth 13;
+      multipliers = search (and-left, and-right) depth 13;
+      families = search (and-left, and-right) depth 13;
+      parts = search (and-left, and-right) depth 13;
     } in
     fact-formed text MAX-NESTING tree
     (agree text (length rs) n MAX-NESTING tree (omega (arith, fields-length n tree)) size (bytes-below tree (and-left _ _ h)) .0
     (record {
       records = each-all text rs e;
-      ends = search (and-left, and-right) depth 12;
-      deep = leb-true (groupsDeep (length rs) rs) MAX-NESTING (search (and-left, and-right) depth 12);
+      ends = search (and-left, and-right) depth 13;
+      deep = leb-true (groupsDeep (length rs) rs) MAX-NESTING (search (and-left, and-right) depth 13);
+      counted = search (and-left, and-right) depth 13;
     }))
 
 from-packing : (text tree : List ℕ) → wellFormed text tree ≡ true → clauses text tree ≡ true
@@ -146,7 +147,8 @@ from-packing text tree h =
     and (each multiplierInRange (λ r q. q .bounds .multiplier-ok)
     and (each (familyReads text) (λ r q. q .bounds .family-ok)
     and (each (partsRead text) (λ r q. q .bounds .parts-ok)
-    and refl))))))))))
+    and (o .counted
+    and refl)))))))))))
 
 -- two tests that pass together are equal
 together : (a b : Bool) → (a ≡ true → b ≡ true) → (b ≡ true → a ≡ true) → a ≡ b

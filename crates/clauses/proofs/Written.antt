@@ -1,5 +1,5 @@
 -- One record: packing writes its fields again, those that its kind does not use as 0. So it writes the record as it stands exactly if
--- the unused fields are 0 and a single layer's two numbers are equal. Assumes nothing.
+-- the unused fields are 0, a single layer's two numbers are equal and a leaf's step count is 1. Assumes nothing.
 use Prim.Native.Nat.{ℕ, zero, suc, _+_, _*_, _/_, _≤_, _<_}
 use mathlib.Core.Path.{_≡_, refl, sym, ap, ap₂, subst}
 use mathlib.Core.Bool.{Bool, true, false, not, _&&_, _||_}
@@ -17,7 +17,7 @@ use Rattle.notation.specs.Packed.{
 }
 use Rattle.notation.specs.Packed as packed
 use Rattle.notation.specs.Clauses.{
-  Fields, kind, tilde, form, present, first, second, number, other, low, high, family, constraints, set,
+  Fields, kind, tilde, form, present, first, second, number, other, low, high, family, constraints, set, count,
   isGroup, isBinary, isMove, isPair, hasMultiplier, hasFamily, hasConstraints, isSingle, hasLayers, hasSet, kindOk, zeroUnless, nowhereUnless, unusedOk
 }
 use Rattle.numbers.proofs.Positional.{Below}
@@ -36,13 +36,13 @@ _and_ {a} {b} p q = and-both a b p q
 abbrev pub listed : Fields → List ℕ
 listed r =
     getD r 0 0 ∷ getD r 1 0 ∷ getD r 2 0 ∷ getD r 3 0 ∷ getD r 4 0
-    ∷ getD r 5 0 ∷ getD r 6 0 ∷ getD r 7 0 ∷ getD r 8 0 ∷ getD r 9 0 ∷ getD r 10 0 ∷ []
+    ∷ getD r 5 0 ∷ getD r 6 0 ∷ getD r 7 0 ∷ getD r 8 0 ∷ getD r 9 0 ∷ getD r 10 0 ∷ getD r 11 0 ∷ []
 
 -- what packing writes of the layers, by the form
 abbrev pub layerNumbers : Fields → List ℕ
 layerNumbers r = 0 ∷ (low r * 65536 + low r) ∷ (low r * 65536 + high r) ∷ 0 ∷ []
 
--- the fields with those that a record of kind k does not use as 0
+-- the fields with those that a record of kind k does not use as 0, and a leaf's step count as 1
 abbrev pub cleaned : ℕ → Fields → List ℕ
 cleaned k r =
     let t = pick (eqb k 7) (tilde r) 0 in
@@ -56,6 +56,7 @@ cleaned k r =
     (pick (eqb k 6 || eqb k 7) (familyAt (family r .offset) (family r .size)) nowhere)
     (pick (eqb p 1) (constraints r) nowhere)
     (pick (eqb f 3) (set r) nowhere)
+    (pick (leb k 5) (count r) 1)
 
 -- Each part of a head as packing writes it.
 bit-of : (t : ℕ) → t < 2 → bit (eqb t 1) ≡ t
@@ -132,6 +133,10 @@ module _ (bs : List ℕ) (below : Below 256 bs) where
       (λ e. refl, (λ e. refl, (λ e. refl, (λ e. refl, (λ e. refl, tt)))))))))))))))
       (λ j l e. absurd (omega (arith, leb-true j 14 e)))
 
+-- a leaf's step count is 1
+abbrev pub LeafIsOne : Fields → Type 0
+LeafIsOne r = pick (isGroup r) (count r) 1 ≡ count r
+
 -- The fields that are as packing writes them.
 pub record Clean (r : Fields) : Type 0 where
   pub tilde-used : pick (isMove r) (tilde r) 0 ≡ tilde r
@@ -144,6 +149,7 @@ pub record Clean (r : Fields) : Type 0 where
   pub family-used : pick (hasFamily r) (familyAt (family r .offset) (family r .size)) nowhere ≡ family r
   pub constraints-used : pick (hasConstraints r) (constraints r) nowhere ≡ constraints r
   pub set-used : pick (hasSet r) (set r) nowhere ≡ set r
+  pub count-used : LeafIsOne r
 
 pub clean-same : (r : Fields) → Clean r → cleaned (kind r) r ≡ listed r
 clean-same r c = rw (c .tilde-used, c .form-used, c .present-used) go
@@ -158,12 +164,12 @@ clean-same r c = rw (c .tilde-used, c .form-used, c .present-used) go
         (pick (isGroup r) (first r) 0) (pick (isBinary r) (second r) 0) (pick (hasMultiplier r || isPair r) (number r) 0)
         (pick (isPair r) (other r) (getD (layerNumbers r) (form r) 0))
         (pick (hasFamily r) (familyAt (family r .offset) (family r .size)) nowhere)
-        (pick (hasConstraints r) (constraints r) nowhere) (pick (hasSet r) (set r) nowhere)
+        (pick (hasConstraints r) (constraints r) nowhere) (pick (hasSet r) (set r) nowhere) (pick (isGroup r) (count r) 1)
         ≡ listed r
     go = λ i.
         small i ∷ c .first-used i ∷ c .second-used i ∷ c .number-used i ∷ c .other-used i
         ∷ c .family-used i .offset ∷ c .family-used i .size ∷ c .constraints-used i .offset ∷ c .constraints-used i .size
-        ∷ c .set-used i .offset ∷ c .set-used i .size ∷ []
+        ∷ c .set-used i .offset ∷ c .set-used i .size ∷ c .count-used i ∷ []
 
 small-least : (u : Bool) (x : ℕ) → pick u x 0 ≤ x
 small-least true x = omega arith
@@ -182,6 +188,7 @@ same-clean r e =
       family-used = ap₂ span (at 5) (at 6);
       constraints-used = subst (λ (n : ℕ). pick (eqb n 1) (constraints r) nowhere ≡ constraints r) present-same (ap₂ span (at 7) (at 8));
       set-used = subst (λ (n : ℕ). pick (eqb n 3) (set r) nowhere ≡ set r) form-same (ap₂ span (at 9) (at 10));
+      count-used = at 11;
     }
   where
     at : (i : ℕ) → getD (cleaned (kind r) r) i 0 ≡ getD (listed r) i 0
@@ -276,8 +283,8 @@ clean-single r c h =
     in
     omega arith
 
-pub unused-clean : (r : Fields) → unusedOk r ≡ true → Single r → Clean r
-unused-clean r h s =
+pub unused-clean : (r : Fields) → unusedOk r ≡ true → Single r → LeafIsOne r → Clean r
+unused-clean r h s one =
     record {
       tilde-used = kept (isMove r) (tilde r) (search (and-left, and-right) depth 12);
       form-used = kept (isMove r) (form r) (search (and-left, and-right) depth 12);
@@ -289,6 +296,7 @@ unused-clean r h s =
       family-used = rw (family-kept (family r) (search (and-left, and-right))) (kept-part (hasFamily r) (family r) (search (and-left, and-right)));
       constraints-used = kept-part (hasConstraints r) (constraints r) (search (and-left, and-right));
       set-used = kept-part (hasSet r) (set r) (search (and-left, and-right));
+      count-used = one;
     }
 
 pub clean-unused : (r : Fields) → Clean r → unusedOk r ≡ true

@@ -14,9 +14,10 @@ use Rattle.notation.specs.Basics.{pick}
 use Rattle.notation.specs.Chars.{whiteSpace}
 use Rattle.notation.specs.Utf8.{afterFirst, widthIf}
 use Rattle.notation.specs.Numbers.{showFrom, show, showSigned, toBits}
+use Rattle.notation.specs.Counts.{stored}
 use Rattle.notation.specs.Tree.{
   Span, partOf, Layers, noLayers, singleLayer, layerRange, layerSet, Leaf, rotation, move, pause, pair, slash, megaminx,
-  Body, group, binaryGroup
+  block, Body, group, binaryGroup
 }
 use Rattle.notation.specs.Packed.{
   Head, leafHead, headFields, inOrder, nowhere, bit, present, orNowhere, layerForm, lowAndHigh, setPart, groupNumber, binaryNumber, bodyHead, size
@@ -105,9 +106,9 @@ layers-size text (layerRange i j) rest f h =
 layers-size text (layerSet p) rest f h = absurd (h refl)
 
 -- what is allowed for a record with a number that fits its field
-allowed-is : (kind t f p n n′ : ℕ) (m : ℤ) (o : ℕ) (family constraints set : Span) → t < 2 → f < 4 → p < 2 → FitsNumber m →
-    allowed (inOrder kind t f p n n′ (toBits 32 m) o family constraints set) ≡ allowedFor kind (natAbs m) (family .size) (constraints .size) f
-allowed-is kind t f p n n′ m o family constraints set t-fits f-fits p-fits h =
+allowed-is : (kind t f p n n′ : ℕ) (m : ℤ) (o : ℕ) (family constraints set : Span) (c : ℕ) → t < 2 → f < 4 → p < 2 → FitsNumber m →
+    allowed (inOrder kind t f p n n′ (toBits 32 m) o family constraints set c) ≡ allowedFor kind (natAbs m) (family .size) (constraints .size) f
+allowed-is kind t f p n n′ m o family constraints set c t-fits f-fits p-fits h =
     let k : (kind * 16 + t * 8 + f * 2 + p) / 16 ≡ kind = omega arith in
     let l : (kind * 16 + t * 8 + f * 2 + p) / 2 % 4 ≡ f = omega arith in
     rw (k, l, fromBits-toBits 32 m (lit< tt) h)
@@ -128,7 +129,7 @@ leaf-size text (rotation f c m) rest h e s =
     let p = rotation-parts text f c m h in
     let after = putMultiplier m rest in
     let behind = putConstraints (constraintMeaning text c) after in
-    omega (arith, allowed-is 6 0 0 (present c) 0 0 m 0 f (orNowhere c) nowhere (lit< tt) (lit< tt) (present-lt c) (e .2),
+    omega (arith, allowed-is 6 0 0 (present c) 0 0 m 0 f (orNowhere c) nowhere 1 (lit< tt) (lit< tt) (present-lt c) (e .2),
     family-size text f behind, constraints-size text c after (p .constraints), multiplier-size m rest (e .2))
 leaf-size text (move t l f c m) rest h e s =
     let p = move-parts text t l f c m h in
@@ -139,12 +140,12 @@ leaf-size text (move t l f c m) rest h e s =
     let l-fits = layerForm-lt l in
     let p-fits = present-lt c in
     let no-set : layerForm l ≡ 3 → ⊥ = λ i. s (omega arith) in
-    omega (arith, allowed-is 7 (bit t) (layerForm l) (present c) 0 0 m (lowAndHigh l) f (orNowhere c) (setPart l) t-fits l-fits p-fits (e .3),
+    omega (arith, allowed-is 7 (bit t) (layerForm l) (present c) 0 0 m (lowAndHigh l) f (orNowhere c) (setPart l) 1 t-fits l-fits p-fits (e .3),
     tilde-size t (putLayers (layerMeaning text l) family), layers-size text l family (e .0) no-set,
     family-size text f behind, constraints-size text c after (p .constraints), multiplier-size m rest (e .3))
 leaf-size text pause rest h e s = omega arith
 leaf-size text (pair u d) rest h e s =
-    omega (arith, allowed-is 9 0 0 0 0 0 u (toBits 32 d) nowhere nowhere nowhere (lit< tt) (lit< tt) (lit< tt) (e .0),
+    omega (arith, allowed-is 9 0 0 0 0 0 u (toBits 32 d) nowhere nowhere nowhere 1 (lit< tt) (lit< tt) (lit< tt) (e .0),
     signed-size u (44 ∷ 32 ∷ showSigned d (41 ∷ rest)) (e .0), signed-size d (41 ∷ rest) (e .1))
 leaf-size text slash rest h e s = omega arith
 leaf-size text (megaminx Rpp) rest h e s = omega arith
@@ -163,14 +164,14 @@ binary-low : (k : BinaryGroupKind) → binaryNumber k < 6
 binary-low Commutator = lit< tt
 binary-low Conjugate = lit< tt
 
-low-size : (kind n n′ : ℕ) (m : ℤ) (rest : List ℕ) → kind < 6 → FitsNumber m →
-    5 + length (putMultiplier m rest) ≤ allowed (inOrder kind 0 0 0 n n′ (toBits 32 m) 0 nowhere nowhere nowhere) + length rest
-low-size kind n n′ m rest h f =
-    let a = allowed-is kind 0 0 0 n n′ m 0 nowhere nowhere nowhere (lit< tt) (lit< tt) (lit< tt) f in
+low-size : (kind n n′ : ℕ) (m : ℤ) (c : ℕ) (rest : List ℕ) → kind < 6 → FitsNumber m →
+    5 + length (putMultiplier m rest) ≤ allowed (inOrder kind 0 0 0 n n′ (toBits 32 m) 0 nowhere nowhere nowhere c) + length rest
+low-size kind n n′ m c rest h f =
+    let a = allowed-is kind 0 0 0 n n′ m 0 nowhere nowhere nowhere c (lit< tt) (lit< tt) (lit< tt) f in
     let signs : _≡_ {A = ℕ} (pick (ltb kind 6) 3 0) 3 = rw (lt-ltb kind 6 h) in
     omega (arith, a, signs, multiplier-size m rest f)
 
 pub body-size : (b : Body Leaf) (m : ℤ) (rest : List ℕ) → FitsHead (bodyHead b m) →
     5 + length (putMultiplier m rest) ≤ allowed (headFields (bodyHead b m)) + length rest
-body-size (group k a) m rest f = low-size (groupNumber k) (size a) 0 m rest (group-low k) (f .1)
-body-size (binaryGroup k a b) m rest f = low-size (binaryNumber k) (size a) (size b) m rest (binary-low k) (f .2)
+body-size (group k a) m rest f = low-size (groupNumber k) (size a) 0 m (stored (block (group k a) m)) rest (group-low k) (f .1)
+body-size (binaryGroup k a b) m rest f = low-size (binaryNumber k) (size a) (size b) m (stored (block (binaryGroup k a b) m)) rest (binary-low k) (f .2)

@@ -8,7 +8,7 @@ use lib.ListN.{length, getD, take, length-append, length-drop}
 use lib.Seq.{drop-at}
 use Rattle.notation.specs.Tree.{Leaf, Step, Node, leaf, block, Body, group, binaryGroup, NodeList, nil, cons, Tree, mapNode, mapBody, mapNodes}
 use Rattle.notation.specs.Packed.{
-  RECORD, widths, cut, Head, leafHead, headFields, record25, bodyHead, packNode, packBody, pack, unpack
+  RECORD, widths, cut, Head, leafHead, headFields, headRecord, bodyHead, packNode, packBody, pack, unpack
 }
 use Rattle.notation.specs.Meaning.{stepOf, unspanned}
 use Rattle.notation.specs.WellFormed.{multiplierOk, nodeOk, bodyOk, treeOk}
@@ -19,7 +19,7 @@ use Rattle.notation.specs.declared.common.BinaryGroupKind.{BinaryGroupKind}
 use Rattle.notation.specs.declared.common.BinaryGroupKind.the-variants.{Commutator, Conjugate}
 use Rattle.record.specs.Range.{FitsHead}
 use Rattle.record.specs.Meaning.{field}
-use Rattle.record.proofs.RoundTrip.{length-record25, cut-record25}
+use Rattle.record.proofs.RoundTrip.{length-headRecord, cut-headRecord}
 use Rattle.laws.proofs.Bools.{and-left, and-right}
 use Rattle.laws.proofs.Packing.{FitsNode, FitsBody, FitsTree}
 use Rattle.laws.proofs.Walking.{Packed}
@@ -45,14 +45,14 @@ unfoldable mutual
 -- bytes that are these records
 data Run : List Head → List ℕ → Type 0 where
   ended : Run [] []
-  record-then : {h : Head} {hs : List Head} {bs : List ℕ} → FitsHead h → Run hs bs → Run (h ∷ hs) (record25 h ++ bs)
+  record-then : {h : Head} {hs : List Head} {bs : List ℕ} → FitsHead h → Run hs bs → Run (h ∷ hs) (headRecord h ++ bs)
 
 mutual
   unfolding nodeHeads bodyHeads heads packNode packBody pack FitsNode FitsBody FitsTree
   node-run : (n : Node Leaf) {hs : List Head} {bs : List ℕ} → FitsNode n → Run hs bs → Run (nodeHeads n hs) (packNode n ++ bs)
   node-run (leaf x) f r = record-then f r
   node-run (block b m) {hs} {bs} f r =
-      subst (Run (bodyHead b m ∷ bodyHeads b hs)) (sym (append-assoc (record25 (bodyHead b m)) (packBody b) bs)) (record-then (f .0) (body-run b (f .1) r))
+      subst (Run (bodyHead b m ∷ bodyHeads b hs)) (sym (append-assoc (headRecord (bodyHead b m)) (packBody b) bs)) (record-then (f .0) (body-run b (f .1) r))
 
   body-run : (b : Body Leaf) {hs : List Head} {bs : List ℕ} → FitsBody b → Run hs bs → Run (bodyHeads b hs) (packBody b ++ bs)
   body-run (group k a) f r = list-run a f r
@@ -151,7 +151,7 @@ going-starts tree room p =
 
 run-room : {hs : List Head} {bs : List ℕ} → Run hs bs → 0 < length bs → RECORD ≤ length bs
 run-room ended h = absurd (omega arith)
-run-room (record-then {h} {hs} {bs} f r) l = omega (arith, length-append (record25 h) bs, length-record25 h)
+run-room (record-then {h} {hs} {bs} f r) l = omega (arith, length-append (headRecord h) bs, length-headRecord h)
 
 module _ {tree t : List ℕ} {room left : ℕ} (g : Going tree t room left) where
   pub going-room : 0 < length t → RECORD ≤ length t
@@ -169,10 +169,10 @@ module _ {tree t : List ℕ} {room left : ℕ} (g : Going tree t room left) wher
           0 < length bs → form ≡ field 0 bs / 2 % 4 → size ≡ allowed (cut widths (take RECORD bs)) → Going tree (part RECORD (length bs) bs) room (left - size)
       go ended on l e i = absurd (omega arith)
       go (record-then {h = h′} {hs} {bs} f r) on l e i =
-          let fields = cut-record25 h′ bs f in
+          let fields = cut-headRecord h′ bs f in
           let e′ : form ≡ formOf h′ = e ∙ ap (λ (fs : List ℕ). getD fs 0 0 / 2 % 4) fields in
           let i′ : size ≡ allowed (headFields h′) = i ∙ ap allowed fields in
-          let back = part-rest RECORD (record25 h′ ++ bs) ∙ drop-at (record25 h′) bs RECORD (length-record25 h′) in
+          let back = part-rest RECORD (headRecord h′ ++ bs) ∙ drop-at (headRecord h′) bs RECORD (length-headRecord h′) in
           record {
             rest = hs;
             run = subst (Run hs) (sym back) r;
@@ -187,4 +187,4 @@ module _ {tree t : List ℕ} {room left : ℕ} (g : Going tree t room left) wher
     where
       go : {hs : List Head} {bs : List ℕ} → Run hs bs → (Sure hs left → Sure (heads (unpack tree) []) room) → length bs ≡ 0 → Sure (heads (unpack tree) []) room
       go ended on e = on tt
-      go (record-then {h} {hs} {bs} f r) on e = absurd (omega (arith, length-append (record25 h) bs, length-record25 h))
+      go (record-then {h} {hs} {bs} f r) on e = absurd (omega (arith, length-append (headRecord h) bs, length-headRecord h))

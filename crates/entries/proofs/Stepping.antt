@@ -1,5 +1,5 @@
 -- What counting, unrolling and seeking come to, case by case. Assumes nothing.
-use Prim.Native.Nat.{ℕ, zero, suc, _*_, _≤_, _<_, min}
+use Prim.Native.Nat.{ℕ, zero, suc, _*_, _≤_, _<_}
 use mathlib.Core.Path.{_≡_, refl, sym, ap, _∙_}
 use mathlib.Core.Bool.{Bool, true, false}
 use mathlib.Core.List.{List, [], _∷_, _++_}
@@ -12,14 +12,15 @@ use Rattle.notation.specs.Tree.{Leaf, Tree}
 use Rattle.notation.specs.Packed.{RECORD, leafHead, leafRecord, unpack}
 use Rattle.notation.specs.Invert.{undo}
 use Rattle.notation.specs.Unroll.{flatten}
+use Rattle.notation.specs.Counts.{hold, count}
 use Rattle.notation.specs.Entries.{Lent, lend, steps, records, unrolled, flattenEntry, countSteps, stepAt, seekStep, refusalNumber, value, MAX-STEPS}
-use Rattle.record.proofs.RoundTrip.{length-record25}
+use Rattle.record.proofs.RoundTrip.{length-headRecord}
 use Rattle.laws.proofs.ListEntries.{get-past}
 use Rattle.laws.proofs.Unrolling.{flat, firstRefusal, flatten-is}
-use Rattle.laws.proofs.Counting.{count, count-is, visit, visit-is}
+use Rattle.laws.proofs.Counting.{count-is}
 use Rattle.laws.proofs.Seeking.{seek, seek-is}
-use Rattle.expand.specs.declared.visit.Summary.{Summary}
-use Rattle.expand.specs.Meaning.{told, summary}
+use Rattle.expand.specs.declared.visit.Refusals.{Refusals}
+use Rattle.expand.specs.Meaning.{told, refuses}
 use Rattle.expand.specs.Places.{found}
 use Rattle.expand.specs.Steps.{Wrote}
 use Rattle.expand.proofs.Steps.{length-records}
@@ -32,19 +33,16 @@ pub record Counts (text tree : List ℕ) (o : Outcome ℕ) : Type 0 where
   pub answer : o ≡ countSteps text tree
   pub counted : (n : ℕ) → o ≡ result n → Counted text tree n
 
-refuses : (text tree : List ℕ) {o : Outcome ℕ} (r : ℕ) → o ≡ refusal r → steps text tree ≡ refusal r → Counts text tree o
-refuses text tree r q e = record { answer = rw (q, e); counted = λ n p. no-refusal (sym q ∙ p) }
+refused-as : (text tree : List ℕ) {o : Outcome ℕ} (r : ℕ) → o ≡ refusal r → steps text tree ≡ refusal r → Counts text tree o
+refused-as text tree r q e = record { answer = rw (q, e); counted = λ n p. no-refusal (sym q ∙ p) }
 
 pub count-unsound : {text tree : List ℕ} {o : Outcome ℕ} {r : ℕ} → Checks text tree o → o ≡ refusal r → Counts text tree o
 unfolding steps
-count-unsound {text} {tree} {o} {r} c q = refuses text tree r q (rw (refused c q))
+count-unsound {text} {tree} {o} {r} c q = refused-as text tree r q (rw (refused c q))
 
-module _ (text tree : List ℕ) (sound : Sound text tree) (s : Summary) (e : summary s ≡ visit (unpack tree)) where
+module _ (text tree : List ℕ) (sound : Sound text tree) (s : Refusals) (e : refuses s ≡ (λ (d : Bool). firstRefusal d (unpack tree))) where
   met : told (s .forward) ≡ firstRefusal false (unpack tree)
-  met = ap (λ x. x .refuses false) (e ∙ visit-is (unpack tree))
-
-  held : s .steps ≡ min (count (unpack tree)) 4294967296
-  held = ap (λ x. x .steps) (e ∙ visit-is (unpack tree))
+  met = ap (λ (f : Bool → Option ℕ). f false) e
 
   unmet : s .forward ≡ 0 → firstRefusal false (unpack tree) ≡ none
   unmet z = sym met ∙ ap told z
@@ -58,23 +56,24 @@ module _ (text tree : List ℕ) (sound : Sound text tree) (s : Summary) (e : sum
 
   pub count-refused : (s .forward ≡ 0 → ⊥) → Counts text tree (refusal (s .forward))
   unfolding steps
-  count-refused h = refuses text tree (s .forward) refl (rw (sound .is, flatten-is (unpack tree) false, met-some h))
+  count-refused h = refused-as text tree (s .forward) refl (rw (sound .is, flatten-is (unpack tree) false, met-some h))
 
-  pub count-many : s .forward ≡ 0 → MAX-STEPS < s .steps → Counts text tree (refusal TOO-MANY-STEPS)
-  unfolding steps
-  count-many z h =
-      refuses text tree TOO-MANY-STEPS refl
-      (rw (sound .is, flatten-is (unpack tree) false, unmet z, count-is (unpack tree) false, lt-leb (count (unpack tree)) MAX-STEPS (omega (arith, held))))
+  module _ (n : ℕ) (held : n ≡ hold (count (unpack tree))) (z : s .forward ≡ 0) where
+    pub count-many : MAX-STEPS < n → Counts text tree (refusal TOO-MANY-STEPS)
+    unfolding steps
+    count-many h =
+        refused-as text tree TOO-MANY-STEPS refl
+        (rw (sound .is, flatten-is (unpack tree) false, unmet z, count-is (unpack tree) false, lt-leb (count (unpack tree)) MAX-STEPS (omega arith)))
 
-  pub count-done : s .forward ≡ 0 → s .steps ≤ MAX-STEPS → Counts text tree (result (s .steps))
-  unfolding steps
-  count-done z h =
-      let most : count (unpack tree) ≤ MAX-STEPS = omega (arith, held) in
-      let is : s .steps ≡ count (unpack tree) = omega (arith, held) in
-      record {
-        answer = rw (sound .is, flatten-is (unpack tree) false, unmet z, count-is (unpack tree) false, le-leb (count (unpack tree)) MAX-STEPS most, is) (ap result (sym (count-is (unpack tree) false)));
-        counted = λ n q. record { sound = sound; unrefused = unmet z; steps = sym (ap value q) ∙ is; most = let v : s .steps ≡ n = ap value q in omega arith };
-      }
+    pub count-done : n ≤ MAX-STEPS → Counts text tree (result n)
+    unfolding steps
+    count-done h =
+        let most : count (unpack tree) ≤ MAX-STEPS = omega arith in
+        let is : n ≡ count (unpack tree) = omega arith in
+        record {
+          answer = rw (sound .is, flatten-is (unpack tree) false, unmet z, count-is (unpack tree) false, le-leb (count (unpack tree)) MAX-STEPS most, is) (ap result (sym (count-is (unpack tree) false)));
+          counted = λ m q. record { sound = sound; unrefused = unmet z; steps = sym (ap value q) ∙ is; most = let v : n ≡ m = ap value q in omega arith };
+        }
 
 -- Where the count is refused, unrolling and seeking are; the answer is handed on as it is.
 module _ (text tree : List ℕ) (o : Outcome ℕ) (e : o ≡ countSteps text tree) (r : ℕ) (q : o ≡ refusal r) (buffer : List ℕ) where
@@ -133,14 +132,14 @@ module _ (text tree : List ℕ) (n : ℕ) (c : Counted text tree n) (buffer : Li
   pub seek-short : (k : ℕ) → k < n → length buffer < RECORD → record { answer = refusal NO-ROOM; buffer = buffer } ≡ seekStep text tree k buffer
   seek-short k h s =
       let f = there k h in
-      lend-short (stepAt text tree k) buffer (leafRecord (f .0)) (rw (these, f .1)) (omega (arith, length-record25 (leafHead (f .0))))
+      lend-short (stepAt text tree k) buffer (leafRecord (f .0)) (rw (these, f .1)) (omega (arith, length-headRecord (leafHead (f .0))))
 
   pub seek-written : (k : ℕ) → k < n → RECORD ≤ length buffer → (after : List ℕ) →
       after ≡ found (seek false (unpack tree) k) ++ drop RECORD buffer →
       record { answer = result RECORD; buffer = after } ≡ seekStep text tree k buffer
   seek-written k h s after w =
       let f = there k h in
-      let long : length (leafRecord (f .0)) ≡ RECORD = length-record25 (leafHead (f .0)) in
+      let long : length (leafRecord (f .0)) ≡ RECORD = length-headRecord (leafHead (f .0)) in
       let bytes : after ≡ leafRecord (f .0) ++ drop RECORD buffer = w ∙ ap (λ (o : Option Leaf). found o ++ drop RECORD buffer) (seek-is (unpack tree) false k ∙ f .1) in
       ap (λ (b : List ℕ). record { answer = result RECORD; buffer = b }) bytes
       ∙ ap (λ (m : ℕ). record { answer = result m; buffer = leafRecord (f .0) ++ drop m buffer }) (sym long)

@@ -4,6 +4,7 @@ ghost use Prim.Native.Nat.{ℕ};
 ghost use Rattle.notation.specs.Refusals.{result};
 ghost use Rattle.notation.specs.Entries as rule;
 ghost use Rattle.sound.specs.Sound.{Counted};
+use expand::count::count;
 use expand::visit::visit;
 use notation::answer::Answer;
 use notation::limits::MAX_STEPS;
@@ -22,14 +23,15 @@ pub fn count_steps(text: &[u8], tree: &[u8]) -> Answer
     let Answer::Value(_) = checked else {
         return checked;
     };
-    let summary = visit(tree);
-    if summary.forward != 0 {
-        return Answer::Refused(summary.forward);
+    let refusals = visit(tree);
+    if refusals.forward != 0 {
+        return Answer::Refused(refusals.forward);
     }
-    if MAX_STEPS < summary.steps {
+    let steps = count(tree);
+    if MAX_STEPS < steps {
         return Answer::Refused(TOO_MANY_STEPS);
     }
-    Answer::Value(summary.steps)
+    Answer::Value(steps)
 }
 
 // The unrolled list, a record for each step: refusals 1, 2, 6, 7 or 8, 9, 5.

@@ -16,7 +16,7 @@ use Rattle.notation.specs.Unroll.{copies, turned}
 use Rattle.notation.proofs.Marked.{length-copies}
 use Rattle.numbers.specs.Sign.{isNegative}
 use Rattle.laws.proofs.Unrolling.{backwards, long-backwards}
-use Rattle.laws.proofs.Counting.{countBinary}
+use Rattle.notation.specs.Counts.{countBinary}
 use Rattle.notation.specs.declared.common.BinaryGroupKind.the-variants.{Commutator}
 use Rattle.expand.specs.Meaning.{binaryKind}
 use Rattle.nodes.specs.Nodes.{part}

@@ -1,22 +1,22 @@
 -- Unrolling into a buffer: a leaf, a group and a list of nodes. Assumes nothing.
-use Prim.Native.Nat.{ℕ, zero, suc, _+_, _-_, _*_, _/_, _^_, _≤_, _<_}
+use Prim.Native.Nat.{ℕ, zero, suc, _+_, _-_, _*_, _/_, _≤_, _<_}
 use mathlib.Core.Path.{_≡_, refl, sym, ap, ap₂, _∙_, subst, fun-ext}
 use mathlib.Core.Bool.{Bool, true, false}
 use mathlib.Core.List.{List, [], _++_, append-assoc, append-nil}
 use native.Mathlib.Nat.{mul-assoc, mul-comm}
 use native.Mathlib.Omega.{arith}
 use borrow.Rule.Slice.PartMut.{putMid, midOf, same-len-mid}
-use lib.Dec.{eqb, ltb}
-use lib.IntN.{ℤ, pos, negsuc, natAbs}
+use lib.Dec.{eqb}
+use lib.IntN.{ℤ, natAbs}
 use lib.ListN.{length, take, drop, length-append, length-drop}
 use lib.Seq.{take-at, drop-at, drop-length, drop-drop}
-use Rattle.notation.specs.Basics.{pick}
 use Rattle.notation.specs.Numbers.{fromBits}
 use Rattle.notation.specs.Tree.{Leaf, Node, leaf, block, Body, group, binaryGroup, nil, Tree}
 use Rattle.notation.specs.Packed.{RECORD, leafRecord, packNode, unpack}
 use Rattle.notation.specs.Entries.{records}
 use Rattle.notation.specs.Invert.{undo}
 use Rattle.notation.specs.Unroll.{copies, turned}
+use Rattle.notation.specs.Counts.{countBinary, countNode, countBody, count}
 use Rattle.notation.specs.declared.common.GroupKind.the-variants.{Simple}
 use Rattle.notation.specs.declared.common.BinaryGroupKind.{BinaryGroupKind}
 use Rattle.notation.specs.declared.common.BinaryGroupKind.the-variants.{Commutator, Conjugate}
@@ -24,12 +24,12 @@ use Rattle.record.specs.Meaning.{field}
 use Rattle.laws.proofs.Packing.{FitsNode, FitsBody, FitsTree}
 use Rattle.laws.proofs.Walking.{Packed, no-node}
 use Rattle.laws.proofs.Unrolling.{flatBinary, flatNode, flatBody, flat, flatBody-backwards, flat-backwards}
-use Rattle.laws.proofs.Counting.{countBinary, countNode, countBody, count, countNode-is, countBody-is, count-is}
+use Rattle.laws.proofs.Counting.{countNode-is, countBody-is, count-is, stored-none}
 use Rattle.expand.specs.Meaning.{binaryKind}
 use Rattle.nodes.specs.Nodes.{IsNode, part, FirstNode, firstList, secondList, Lists}
 use Rattle.expand.specs.Steps.{Undoable, All, held, Wrote, IsGroup, either, completed, repeats, Pair, Room}
-use Rattle.nodes.proofs.Nodes.{part-rest, part-length, alone, first-low, FirstLeaf, leaf-node}
-use Rattle.expand.proofs.Shapes.{Shape, isLeaf, isGroup, isBinary, shape-of}
+use Rattle.nodes.proofs.Nodes.{part-rest, part-length, alone, FirstLeaf, leaf-node}
+use Rattle.expand.proofs.Shapes.{Shape, isLeaf, isGroup, isBinary, shape-of, bodyOf, at-least, block-is, times-are, steps-are, repeats-some, first-stored, one-count}
 use Rattle.expand.proofs.Steps.{length-records, records-append, all-flat, all-flatBody}
 use Rattle.expand.proofs.Held.{holds, same-repeats, same-completed}
 
@@ -84,26 +84,6 @@ either-body : (b : Body Leaf) (d : Bool) → either (flatBody undo false b) d �
 either-body b true = sym (flatBody-backwards b false)
 either-body b false = refl
 
--- A group is its body repeated; a leaf has none.
-abbrev pub bodyOf : Node Leaf → Body Leaf
-bodyOf (leaf x) = group Simple nil
-bodyOf (block b m) = b
-
-nonzero : (m : ℕ) → m < 2 ^ 32 → ((m ≡ 0) → ⊥) → 1 ≤ natAbs (fromBits 32 m)
-nonzero m h z = go (ltb m 2147483648) refl
-  where
-    some : (n : ℕ) → ((n ≡ 0) → ⊥) → 1 ≤ n
-    some zero z = absurd (z refl)
-    some (suc n) z = omega arith
-
-    go : (t : Bool) → ltb m 2147483648 ≡ t → 1 ≤ natAbs (pick t (pos m) (negsuc (2 ^ 32 - suc m)))
-    go true e = some m z
-    go false e = omega arith
-
-pub at-least : (n c : ℕ) → 1 ≤ n → c ≤ n * c
-at-least zero c h = absurd (omega arith)
-at-least (suc n) c h = omega arith
-
 -- a leaf is copied
 pub leaf-room : {bs : List ℕ} {out : ℕ} (l : FirstLeaf bs) → RECORD * countNode (l .first .node) ≤ out → RECORD ≤ out
 unfolding countNode
@@ -122,44 +102,31 @@ one-flat : {bs : List ℕ} {n : Node Leaf} → IsNode bs n → flat undo false (
 unfolding flat
 one-flat {bs} {n} s = ap (flat undo false) (alone s) ∙ append-nil (flatNode undo false n)
 
-one-count : {bs : List ℕ} {n : Node Leaf} → IsNode bs n → count (unpack bs) ≡ countNode n
-unfolding count
-one-count s = omega (arith, ap count (alone s))
-
 pub node-written : {bs s s₁ : List ℕ} {n : Node Leaf} {r : ℕ} → IsNode bs n → Wrote s s₁ (flat undo false (unpack bs)) r → Wrote s s₁ (flatNode undo false n) r
 node-written {bs} {s} {s₁} {n} {r} i w = subst (λ (l : List Leaf). Wrote s s₁ l r) (one-flat i) w
 
-pub group-of : {bs : List ℕ} {e k : ℕ} → FirstNode bs e → k ≡ field 0 bs / 16 → k ≤ 5 → IsGroup (part 0 e bs)
-group-of f q h = record { node = f .node; isNode = f .isNode; low = first-low f q h }
-
--- A group.
-module _ {bs : List ℕ} (g : IsGroup bs) {k m : ℕ} (e : k ≡ field 0 bs / 16) (f : m ≡ field 3 bs) where
+-- A group that has steps: it is repeated at least once.
+module _ {bs : List ℕ} (g : IsGroup bs) (some : 0 < count (unpack bs)) {k m : ℕ} (e : k ≡ field 0 bs / 16) (f : m ≡ field 3 bs) where
   shape : Shape k (fromBits 32 m) (g .node)
   shape = rw (e, f) (shape-of (g .isNode))
 
+  low : k ≤ 5
+  low = omega (arith, g .low)
+
+  node-some : 0 < countNode (g .node)
+  node-some = omega (arith, one-count (g .isNode))
+
+  repeated : 1 ≤ natAbs (fromBits 32 m)
+  repeated = repeats-some shape low node-some
+
   block-flat : flat undo false (unpack bs) ≡ copies (natAbs (fromBits 32 m)) (flatBody undo (turned (fromBits 32 m) false) (bodyOf (g .node)))
   unfolding flatNode
-  block-flat = one-flat (g .isNode) ∙ go (g .node) shape
-    where
-      go : {z : ℤ} (n : Node Leaf) → Shape k z n → flatNode undo false n ≡ copies (natAbs z) (flatBody undo (turned z false) (bodyOf n))
-      go (leaf x) (isLeaf l) = absurd (omega (arith, g .low))
-      go (block (group g a) m) (isGroup l q) = refl
-      go (block (binaryGroup g a b) m) (isBinary l l′ q) = refl
+  block-flat =
+      one-flat (g .isNode) ∙ ap (flatNode undo false) (block-is shape low)
+      ∙ ap (λ (j : ℕ). copies j (flatBody undo (turned (fromBits 32 m) false) (bodyOf (g .node)))) (times-are shape low node-some)
 
   block-count : count (unpack bs) ≡ natAbs (fromBits 32 m) * countBody (bodyOf (g .node))
-  unfolding countNode
-  block-count = one-count (g .isNode) ∙ go (g .node) shape
-    where
-      go : {z : ℤ} (n : Node Leaf) → Shape k z n → countNode n ≡ natAbs z * countBody (bodyOf n)
-      go (leaf x) (isLeaf l) = absurd (omega (arith, g .low))
-      go (block (group g a) m) (isGroup l q) = refl
-      go (block (binaryGroup g a b) m) (isBinary l l′ q) = refl
-
-  pub none-written : {out : List ℕ} → m ≡ 0 → Wrote out out (flat undo false (unpack bs)) 0
-  unfolding copies records
-  none-written {out} z =
-      let c : flat undo false (unpack bs) ≡ [] = block-flat ∙ ap (λ (j : ℕ). copies (natAbs (fromBits 32 j)) (flatBody undo (turned (fromBits 32 j) false) (bodyOf (g .node)))) z in
-      subst (λ (l : List Leaf). Wrote out out l 0) (sym c) (record { size = refl; bytes = refl })
+  block-count = one-count (g .isNode) ∙ steps-are shape low node-some
 
   body-undoable : All Undoable (flatBody undo false (bodyOf (g .node)))
   unfolding FitsNode FitsBody FitsTree
@@ -182,147 +149,149 @@ module _ {bs : List ℕ} (g : IsGroup bs) {k m : ℕ} (e : k ≡ field 0 bs / 16
       go (block (group g a) m) = omega arith
       go (block (binaryGroup g a b) m) = both g (count a) (count b)
 
-  -- that is repeated at least once
-  module _ (v : m < 2 ^ 32) (z : (m ≡ 0) → ⊥) where
-    body-room : {out : ℕ} → RECORD * count (unpack bs) ≤ out → RECORD * countBody (bodyOf (g .node)) ≤ out
-    body-room r = omega (arith, block-count, at-least (natAbs (fromBits 32 m)) (countBody (bodyOf (g .node))) (nonzero m v z))
+  body-room : {out : ℕ} → RECORD * count (unpack bs) ≤ out → RECORD * countBody (bodyOf (g .node)) ≤ out
+  body-room r = omega (arith, block-count, at-least (natAbs (fromBits 32 m)) (countBody (bodyOf (g .node))) repeated)
 
-    -- its contents, written once, and their repeats
-    module _ {out s₁ : List ℕ} {l : List Leaf} {a : ℕ} (w : Wrote out s₁ l a) (q : l ≡ flatBody undo false (bodyOf (g .node))) (r : RECORD * count (unpack bs) ≤ length out) where
-      l-undoable : All Undoable l
-      l-undoable = subst (All Undoable) (sym q) body-undoable
+  -- its contents, written once, and their repeats
+  module _ {out s₁ : List ℕ} {l : List Leaf} {a : ℕ} (w : Wrote out s₁ l a) (q : l ≡ flatBody undo false (bodyOf (g .node))) (r : RECORD * count (unpack bs) ≤ length out) where
+    l-undoable : All Undoable l
+    l-undoable = subst (All Undoable) (sym q) body-undoable
 
-      l-count : length l ≡ countBody (bodyOf (g .node))
-      l-count = ap length q ∙ countBody-is (bodyOf (g .node)) false
+    l-count : length l ≡ countBody (bodyOf (g .node))
+    l-count = ap length q ∙ countBody-is (bodyOf (g .node)) false
 
-      block-room : Room s₁ a (natAbs (fromBits 32 m))
-      block-room =
-          record {
-            contents = holds (written-front w) l-undoable;
-            some = nonzero m v z;
-            room = omega (arith, wrote-longer w, block-count, total);
-          }
-        where
-          total : a * natAbs (fromBits 32 m) ≡ RECORD * (natAbs (fromBits 32 m) * countBody (bodyOf (g .node)))
-          total = ap (λ (j : ℕ). j * natAbs (fromBits 32 m)) (w .size ∙ ap (λ (j : ℕ). RECORD * j) l-count) ∙ mul-assoc RECORD (countBody (bodyOf (g .node))) (natAbs (fromBits 32 m))
-              ∙ ap (λ (j : ℕ). RECORD * j) (mul-comm (countBody (bodyOf (g .node))) (natAbs (fromBits 32 m)))
+    block-room : Room s₁ a (natAbs (fromBits 32 m))
+    block-room =
+        record {
+          contents = holds (written-front w) l-undoable;
+          some = repeated;
+          room = omega (arith, wrote-longer w, block-count, total);
+        }
+      where
+        total : a * natAbs (fromBits 32 m) ≡ RECORD * (natAbs (fromBits 32 m) * countBody (bodyOf (g .node)))
+        total = ap (λ (j : ℕ). j * natAbs (fromBits 32 m)) (w .size ∙ ap (λ (j : ℕ). RECORD * j) l-count) ∙ mul-assoc RECORD (countBody (bodyOf (g .node))) (natAbs (fromBits 32 m))
+            ∙ ap (λ (j : ℕ). RECORD * j) (mul-comm (countBody (bodyOf (g .node))) (natAbs (fromBits 32 m)))
 
-      block-done : {s₂ : List ℕ} {r₂ : ℕ} → Wrote s₁ s₂ (repeats (fromBits 32 m) (held (take a s₁))) r₂ → Wrote out s₂ (flat undo false (unpack bs)) r₂
-      block-done {s₂} {r₂} w′ =
-          let c = ap (copies (natAbs (fromBits 32 m))) (ap (λ (x : List Leaf). either x (turned (fromBits 32 m) false)) q ∙ either-body (bodyOf (g .node)) (turned (fromBits 32 m) false)) ∙ sym block-flat in
-          let w″ = subst (λ (x : List Leaf). Wrote s₁ s₂ x r₂) c (wrote-same (same-repeats (written-front w) l-undoable (fromBits 32 m)) w′) in
-          over w w″ (omega (arith, w .size, w″ .size, l-count, count-is (unpack bs) false, block-count, at-least (natAbs (fromBits 32 m)) (countBody (bodyOf (g .node))) (nonzero m v z)))
+    block-done : {s₂ : List ℕ} {r₂ : ℕ} → Wrote s₁ s₂ (repeats (fromBits 32 m) (held (take a s₁))) r₂ → Wrote out s₂ (flat undo false (unpack bs)) r₂
+    block-done {s₂} {r₂} w′ =
+        let c = ap (copies (natAbs (fromBits 32 m))) (ap (λ (x : List Leaf). either x (turned (fromBits 32 m) false)) q ∙ either-body (bodyOf (g .node)) (turned (fromBits 32 m) false)) ∙ sym block-flat in
+        let w″ = subst (λ (x : List Leaf). Wrote s₁ s₂ x r₂) c (wrote-same (same-repeats (written-front w) l-undoable (fromBits 32 m)) w′) in
+        over w w″ (omega (arith, w .size, w″ .size, l-count, count-is (unpack bs) false, block-count, at-least (natAbs (fromBits 32 m)) (countBody (bodyOf (g .node))) repeated))
 
-    -- given where its lists lie
-    module _ {mid : ℕ} (p : Lists bs mid) where
-      abbrev t : Tree
-      t = unpack (part RECORD mid bs)
+  -- given where its lists lie
+  module _ {mid : ℕ} (p : Lists bs mid) where
+    abbrev t : Tree
+    t = unpack (part RECORD mid bs)
 
-      abbrev t′ : Tree
-      t′ = unpack (part mid (length bs) bs)
+    abbrev t′ : Tree
+    t′ = unpack (part mid (length bs) bs)
 
-      first-is : t ≡ firstList (g .node)
-      first-is = p .unpacksFirst (g .node) (g .isNode)
+    first-is : t ≡ firstList (g .node)
+    first-is = p .unpacksFirst (g .node) (g .isNode)
 
-      second-is : t′ ≡ secondList (g .node)
-      second-is = p .unpacksSecond (g .node) (g .isNode)
+    second-is : t′ ≡ secondList (g .node)
+    second-is = p .unpacksSecond (g .node) (g .isNode)
 
-      counts : count t + count t′ ≤ countBody (bodyOf (g .node))
-      counts = omega (arith, lists-count, ap count first-is, ap count second-is)
+    counts : count t + count t′ ≤ countBody (bodyOf (g .node))
+    counts = omega (arith, lists-count, ap count first-is, ap count second-is)
 
-      pub first-room : {out : ℕ} → RECORD * count (unpack bs) ≤ out → RECORD * count t ≤ out
-      first-room r = omega (arith, body-room r, counts)
+    pub first-room : {out : ℕ} → RECORD * count (unpack bs) ≤ out → RECORD * count t ≤ out
+    first-room r = omega (arith, body-room r, counts)
 
-      module _ {out s₁ : List ℕ} {a : ℕ} (w : Wrote out s₁ (flat undo false t) a) (r : RECORD * count (unpack bs) ≤ length out) where
-        -- a plain group
-        module _ (l : k < 4) where
-          group-flat : flat undo false t ≡ flatBody undo false (bodyOf (g .node))
-          unfolding flatBody
-          group-flat = ap (flat undo false) first-is ∙ go (g .node) shape
-            where
-              go : {z : ℤ} (n : Node Leaf) → Shape k z n → flat undo false (firstList n) ≡ flatBody undo false (bodyOf n)
-              go (leaf x) (isLeaf l′) = absurd (omega (arith, g .low))
-              go (block (group g a) m) (isGroup l′ q) = refl
-              go (block (binaryGroup g a b) m) (isBinary l′ l″ q) = absurd (omega arith)
+    module _ {out s₁ : List ℕ} {a : ℕ} (w : Wrote out s₁ (flat undo false t) a) (r : RECORD * count (unpack bs) ≤ length out) where
+      -- a plain group
+      module _ (l : k < 4) where
+        group-flat : flat undo false t ≡ flatBody undo false (bodyOf (g .node))
+        unfolding flatBody
+        group-flat = ap (flat undo false) first-is ∙ go (g .node) shape
+          where
+            go : {z : ℤ} (n : Node Leaf) → Shape k z n → flat undo false (firstList n) ≡ flatBody undo false (bodyOf n)
+            go (leaf x) (isLeaf l′) = absurd (omega (arith, g .low))
+            go (block (group g a) m) (isGroup l′ q) = refl
+            go (block (binaryGroup g a b) m) (isBinary l′ l″ q) = absurd (omega arith)
 
-          pub group-room : Room s₁ a (natAbs (fromBits 32 m))
-          group-room = block-room w group-flat r
+        pub group-room : Room s₁ a (natAbs (fromBits 32 m))
+        group-room = block-room w group-flat r
 
-          pub group-written : {s₂ : List ℕ} {r₂ : ℕ} → Wrote s₁ s₂ (repeats (fromBits 32 m) (held (take a s₁))) r₂ → Wrote out s₂ (flat undo false (unpack bs)) r₂
-          group-written w′ = block-done w group-flat r w′
+        pub group-written : {s₂ : List ℕ} {r₂ : ℕ} → Wrote s₁ s₂ (repeats (fromBits 32 m) (held (take a s₁))) r₂ → Wrote out s₂ (flat undo false (unpack bs)) r₂
+        group-written w′ = block-done w group-flat r w′
 
-        -- a commutator or a conjugate
-        pub second-room : RECORD * count t′ ≤ length (part a (length s₁) s₁)
-        second-room = omega (arith, body-room r, counts, w .size, count-is t false, wrote-longer w, ap length (part-rest a s₁), length-drop a s₁)
+      -- a commutator or a conjugate
+      pub second-room : RECORD * count t′ ≤ length (part a (length s₁) s₁)
+      second-room = omega (arith, body-room r, counts, w .size, count-is t false, wrote-longer w, ap length (part-rest a s₁), length-drop a s₁)
 
-        module _ (l : 4 ≤ k) {y : List ℕ} {b : ℕ} (w′ : Wrote (part a (length s₁) s₁) y (flat undo false t′) b) where
-          abbrev s₂ : List ℕ
-          s₂ = putMid a (length s₁ - a) s₁ y
+      module _ (l : 4 ≤ k) {y : List ℕ} {b : ℕ} (w′ : Wrote (part a (length s₁) s₁) y (flat undo false t′) b) where
+        abbrev s₂ : List ℕ
+        s₂ = putMid a (length s₁ - a) s₁ y
 
-          both-wrote : Wrote out s₂ (flat undo false t ++ flat undo false t′) (a + b)
-          both-wrote = behind (wrote-fits w) w w′
+        both-wrote : Wrote out s₂ (flat undo false t ++ flat undo false t′) (a + b)
+        both-wrote = behind (wrote-fits w) w w′
 
-          binary-count : countBody (bodyOf (g .node)) ≡ countBinary (binaryKind (eqb k 4)) (count t) (count t′)
-          unfolding countBody
-          binary-count = go (g .node) shape ∙ sym (ap₂ (countBinary (binaryKind (eqb k 4))) (ap count first-is) (ap count second-is))
-            where
-              go : {z : ℤ} (n : Node Leaf) → Shape k z n → countBody (bodyOf n) ≡ countBinary (binaryKind (eqb k 4)) (count (firstList n)) (count (secondList n))
-              go (leaf x) (isLeaf l′) = absurd (omega (arith, g .low))
-              go (block (group g a) m) (isGroup l′ q) = absurd (omega arith)
-              go (block (binaryGroup g a b) m) (isBinary l′ l″ q) = rw q
+        binary-count : countBody (bodyOf (g .node)) ≡ countBinary (binaryKind (eqb k 4)) (count t) (count t′)
+        unfolding countBody
+        binary-count = go (g .node) shape ∙ sym (ap₂ (countBinary (binaryKind (eqb k 4))) (ap count first-is) (ap count second-is))
+          where
+            go : {z : ℤ} (n : Node Leaf) → Shape k z n → countBody (bodyOf n) ≡ countBinary (binaryKind (eqb k 4)) (count (firstList n)) (count (secondList n))
+            go (leaf x) (isLeaf l′) = absurd (omega (arith, g .low))
+            go (block (group g a) m) (isGroup l′ q) = absurd (omega arith)
+            go (block (binaryGroup g a b) m) (isBinary l′ l″ q) = rw q
 
-          binary-flat : completed (eqb k 4) (flat undo false t) (flat undo false t′) ≡ flatBody undo false (bodyOf (g .node))
-          unfolding flatBody
-          binary-flat = ap₂ (λ (x x′ : Tree). completed (eqb k 4) (flat undo false x) (flat undo false x′)) first-is second-is ∙ go (g .node) shape
-            where
-              go : {z : ℤ} (n : Node Leaf) → Shape k z n → completed (eqb k 4) (flat undo false (firstList n)) (flat undo false (secondList n)) ≡ flatBody undo false (bodyOf n)
-              go (leaf x) (isLeaf l′) = absurd (omega (arith, g .low))
-              go (block (group g a) m) (isGroup l′ q) = absurd (omega arith)
-              go (block (binaryGroup g a b) m) (isBinary l′ l″ q) =
-                  rw q (ap₂ (λ (x x′ : Bool → List Leaf). flatBinary g false x x′) (fun-ext λ d. either-flat a d) (fun-ext λ d. either-flat b d))
+        binary-flat : completed (eqb k 4) (flat undo false t) (flat undo false t′) ≡ flatBody undo false (bodyOf (g .node))
+        unfolding flatBody
+        binary-flat = ap₂ (λ (x x′ : Tree). completed (eqb k 4) (flat undo false x) (flat undo false x′)) first-is second-is ∙ go (g .node) shape
+          where
+            go : {z : ℤ} (n : Node Leaf) → Shape k z n → completed (eqb k 4) (flat undo false (firstList n)) (flat undo false (secondList n)) ≡ flatBody undo false (bodyOf n)
+            go (leaf x) (isLeaf l′) = absurd (omega (arith, g .low))
+            go (block (group g a) m) (isGroup l′ q) = absurd (omega arith)
+            go (block (binaryGroup g a b) m) (isBinary l′ l″ q) =
+                rw q (ap₂ (λ (x x′ : Bool → List Leaf). flatBinary g false x x′) (fun-ext λ d. either-flat a d) (fun-ext λ d. either-flat b d))
 
-          both-bytes : s₂ ≡ records (flat undo false t) ++ (records (flat undo false t′) ++ drop (a + b) out)
-          both-bytes =
-              both-wrote .bytes ∙ ap (λ (x : List ℕ). x ++ drop (a + b) out) (records-append (flat undo false t) (flat undo false t′))
-              ∙ append-assoc (records (flat undo false t)) (records (flat undo false t′)) (drop (a + b) out)
+        both-bytes : s₂ ≡ records (flat undo false t) ++ (records (flat undo false t′) ++ drop (a + b) out)
+        both-bytes =
+            both-wrote .bytes ∙ ap (λ (x : List ℕ). x ++ drop (a + b) out) (records-append (flat undo false t) (flat undo false t′))
+            ∙ append-assoc (records (flat undo false t)) (records (flat undo false t′)) (drop (a + b) out)
 
-          first-bytes : take a s₂ ≡ records (flat undo false t)
-          first-bytes = ap (take a) both-bytes ∙ take-at (records (flat undo false t)) _ a (length-records (flat undo false t) ∙ sym (w .size))
+        first-bytes : take a s₂ ≡ records (flat undo false t)
+        first-bytes = ap (take a) both-bytes ∙ take-at (records (flat undo false t)) _ a (length-records (flat undo false t) ∙ sym (w .size))
 
-          second-bytes : take b (drop a s₂) ≡ records (flat undo false t′)
-          second-bytes =
-              ap (λ (x : List ℕ). take b (drop a x)) both-bytes ∙ ap (take b) (drop-at (records (flat undo false t)) _ a (length-records (flat undo false t) ∙ sym (w .size)))
-              ∙ take-at (records (flat undo false t′)) (drop (a + b) out) b (length-records (flat undo false t′) ∙ sym (w′ .size))
+        second-bytes : take b (drop a s₂) ≡ records (flat undo false t′)
+        second-bytes =
+            ap (λ (x : List ℕ). take b (drop a x)) both-bytes ∙ ap (take b) (drop-at (records (flat undo false t)) _ a (length-records (flat undo false t) ∙ sym (w .size)))
+            ∙ take-at (records (flat undo false t′)) (drop (a + b) out) b (length-records (flat undo false t′) ∙ sym (w′ .size))
 
-          first-undoable : All Undoable (flat undo false t)
-          first-undoable = all-flat t false (p .packedFirst .fits)
+        first-undoable : All Undoable (flat undo false t)
+        first-undoable = all-flat t false (p .packedFirst .fits)
 
-          second-undoable : All Undoable (flat undo false t′)
-          second-undoable = all-flat t′ false (p .packedSecond .fits)
+        second-undoable : All Undoable (flat undo false t′)
+        second-undoable = all-flat t′ false (p .packedSecond .fits)
 
-          pub binary-pair : Pair s₂ (eqb k 4) a b
-          binary-pair =
-              record {
-                first = holds first-bytes first-undoable;
-                second = holds second-bytes second-undoable;
-                room = omega (arith, body-room r, binary-count, wrote-longer both-wrote, in-bytes (eqb k 4), w .size, w′ .size, count-is t false, count-is t′ false);
-              }
-            where
-              in-bytes : (h : Bool) → countBinary (binaryKind h) a b ≡ RECORD * countBinary (binaryKind h) (count t) (count t′)
-              in-bytes true = omega (arith, w .size, w′ .size, count-is t false, count-is t′ false)
-              in-bytes false = omega (arith, w .size, w′ .size, count-is t false, count-is t′ false)
+        pub binary-pair : Pair s₂ (eqb k 4) a b
+        binary-pair =
+            record {
+              first = holds first-bytes first-undoable;
+              second = holds second-bytes second-undoable;
+              room = omega (arith, body-room r, binary-count, wrote-longer both-wrote, in-bytes (eqb k 4), w .size, w′ .size, count-is t false, count-is t′ false);
+            }
+          where
+            in-bytes : (h : Bool) → countBinary (binaryKind h) a b ≡ RECORD * countBinary (binaryKind h) (count t) (count t′)
+            in-bytes true = omega (arith, w .size, w′ .size, count-is t false, count-is t′ false)
+            in-bytes false = omega (arith, w .size, w′ .size, count-is t false, count-is t′ false)
 
-          module _ {s₃ : List ℕ} {size : ℕ} (c : Wrote s₂ s₃ (completed (eqb k 4) (held (take a s₂)) (held (take b (drop a s₂)))) size) where
-            body-wrote : Wrote out s₃ (flatBody undo false (bodyOf (g .node))) size
-            body-wrote =
-                let d = subst (λ (x : List Leaf). Wrote s₂ s₃ x size) binary-flat (wrote-same (same-completed (eqb k 4) first-bytes first-undoable second-bytes second-undoable) c) in
-                over both-wrote d (omega (arith, w .size, w′ .size, d .size, count-is t false, count-is t′ false, countBody-is (bodyOf (g .node)) false, counts))
+        module _ {s₃ : List ℕ} {size : ℕ} (c : Wrote s₂ s₃ (completed (eqb k 4) (held (take a s₂)) (held (take b (drop a s₂)))) size) where
+          body-wrote : Wrote out s₃ (flatBody undo false (bodyOf (g .node))) size
+          body-wrote =
+              let d = subst (λ (x : List Leaf). Wrote s₂ s₃ x size) binary-flat (wrote-same (same-completed (eqb k 4) first-bytes first-undoable second-bytes second-undoable) c) in
+              over both-wrote d (omega (arith, w .size, w′ .size, d .size, count-is t false, count-is t′ false, countBody-is (bodyOf (g .node)) false, counts))
 
-            pub binary-room : Room s₃ size (natAbs (fromBits 32 m))
-            binary-room = block-room body-wrote refl r
+          pub binary-room : Room s₃ size (natAbs (fromBits 32 m))
+          binary-room = block-room body-wrote refl r
 
-            pub binary-written : {s₄ : List ℕ} {r₄ : ℕ} → Wrote s₃ s₄ (repeats (fromBits 32 m) (held (take size s₃))) r₄ → Wrote out s₄ (flat undo false (unpack bs)) r₄
-            binary-written c′ = block-done body-wrote refl r c′
+          pub binary-written : {s₄ : List ℕ} {r₄ : ℕ} → Wrote s₃ s₄ (repeats (fromBits 32 m) (held (take size s₃))) r₄ → Wrote out s₄ (flat undo false (unpack bs)) r₄
+          binary-written c′ = block-done body-wrote refl r c′
+
+none-or-some : (n : ℕ) → ((n ≡ 0) → ⊥) → 0 < n
+none-or-some zero h = absurd (h refl)
+none-or-some (suc n) h = omega arith
 
 -- The loop over a list: what is done, followed by what is left, is the whole.
 pub record Flattening (tree before t out : List ℕ) (at : ℕ) : Type 0 where
@@ -368,6 +337,29 @@ module _ {tree before t out : List ℕ} {at e : ℕ} (w : Flattening tree before
             ∙ sym (append-assoc (w .done) (flatNode undo false (f .node)) (flat undo false (unpack (part e (length t) t))));
         room = omega (arith, w .room, counted, v .size, countNode-is (f .node) false, long);
       }
+
+  -- by what the node stores: steps to write, or none
+  module _ {steps : ℕ} (p : steps ≡ field 11 t) where
+    pub node-steps : ((steps ≡ 0) → ⊥) → 0 < count (unpack (part 0 e t))
+    node-steps h = omega (arith, none-or-some steps h, first-stored f, one-count (f .isNode))
+
+    pub flattening-passes : steps ≡ 0 → Flattening tree before (part e (length t) t) out at
+    unfolding flat
+    flattening-passes h =
+        record {
+          packed = f .packedRest;
+          shorter = omega (arith, part-length e (length t) t, w .shorter);
+          long = w .long;
+          done = w .done;
+          wrote = w .wrote;
+          rest = w .rest ∙ ap (λ (x : Tree). w .done ++ flat undo false x) (f .unpacks)
+              ∙ ap (λ (l : List Leaf). w .done ++ (l ++ flat undo false (unpack (part e (length t) t)))) (stored-none (f .node) false (sym (first-stored f) ∙ sym p ∙ h));
+          room = omega (arith, w .room, counted);
+        }
+
+-- where the ways meet
+pub flattening-carried : {tree before t out out′ : List ℕ} {at at′ : ℕ} → out′ ≡ out → at′ ≡ at → Flattening tree before t out at → Flattening tree before t out′ at′
+flattening-carried e q w = rw (e, q) w
 
 pub flattened : {tree before t out : List ℕ} {at : ℕ} → Flattening tree before t out at → length t ≤ 0 → Wrote before out (flat undo false (unpack tree)) at
 unfolding flat

@@ -1,7 +1,7 @@
 -- What the proofs of several functions use.
 pub mod Shapes
-pub mod Summaries
 pub mod Visiting
+pub mod Counting
 pub mod Steps
 pub mod Undoing
 pub mod Held

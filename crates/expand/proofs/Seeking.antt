@@ -4,7 +4,7 @@ use mathlib.Core.Path.{_≡_, refl, sym, ap, ap₂, _∙_, subst}
 use mathlib.Core.Bool.{Bool, true, false, not}
 use mathlib.Core.List.{List, [], _∷_, _++_, map, reverse-cons}
 use mathlib.Core.Option.{Option, none, some}
-use native.Mathlib.Nat.{mod-lt, mul-div-cancel-left, zero-mul, mul-comm}
+use native.Mathlib.Nat.{mod-lt, mul-div-cancel-left}
 use native.Mathlib.Omega.{arith}
 use borrow.Author.Tests.{lt-ltb, le-ltb, ltb-true, ltb-false}
 use lib.Dec.{ltb, eqb}
@@ -16,33 +16,31 @@ use Rattle.notation.specs.Tree.{Leaf, Node, leaf, block, group, binaryGroup, co
 use Rattle.notation.specs.Packed.{RECORD, leafHead, leafRecord, packNode, unpack}
 use Rattle.notation.specs.Invert.{undo}
 use Rattle.notation.specs.Unroll.{turned}
+use Rattle.notation.specs.Counts.{hold, times, countBinary, countNode, countBody, count}
 use Rattle.notation.specs.declared.common.BinaryGroupKind.{BinaryGroupKind}
 use Rattle.notation.specs.declared.common.BinaryGroupKind.the-variants.{Commutator, Conjugate}
 use Rattle.numbers.specs.Sign.{isNegative}
 use Rattle.record.specs.Meaning.{field}
 use Rattle.record.specs.Undone.{StartsRecord}
 use Rattle.record.proofs.Copying.{copied-front}
-use Rattle.record.proofs.RoundTrip.{length-record25}
+use Rattle.record.proofs.RoundTrip.{length-headRecord}
 use Rattle.record.proofs.Undoing.{Undone}
 use Rattle.laws.proofs.Packing.{FitsNode}
 use Rattle.laws.proofs.Walking.{Packed, no-node}
 use Rattle.laws.proofs.ListEntries.{get-append-left}
 use Rattle.laws.proofs.Unrolling.{undo-undo, backwards, long-backwards, flat, flat-backwards}
-use Rattle.laws.proofs.Counting as counting
-use Rattle.laws.proofs.Counting.{countBinary, countNode, countBody, count, count-is, visitNode, visitNode-is, visit, visit-is}
+use Rattle.laws.proofs.Counting.{count-is}
 use Rattle.laws.proofs.Seeking.{seekBinary, seekNode, seekBody, seek, seek-is}
-use Rattle.expand.specs.Meaning.{summary, binaryKind}
+use Rattle.expand.specs.Meaning.{binaryKind}
 use Rattle.nodes.specs.Nodes.{part, FirstNode, firstList, secondList, Lists}
 use Rattle.expand.specs.Steps.{Undoable}
 use Rattle.expand.specs.Places.{undoIf, found, Within, Goes, Leads, intoFirst, intoSecond, Onward}
-use Rattle.expand.specs.declared.visit.Summary.{Summary}
 use Rattle.expand.specs.declared.seek.Way.{Way}
 use Rattle.expand.specs.declared.seek.List.{List as ListAt}
 use Rattle.nodes.proofs.Nodes.{part-length, first-low, FirstLeaf, leaf-node}
-use Rattle.expand.proofs.Shapes.{Shape, isLeaf, isGroup, isBinary, shape-of}
+use Rattle.expand.proofs.Shapes.{Shape, isLeaf, isGroup, isBinary, shape-of, bodyOf, at-least, positive-right, block-is, times-are, steps-are, repeats-some, first-stored}
 use Rattle.expand.proofs.Steps.{fits-undoable}
 use Rattle.expand.proofs.Undoing.{step-starts, step-undone}
-use Rattle.expand.proofs.Flattening.{bodyOf, at-least}
 
 -- The other direction, place by place.
 get-last : (a : List Leaf) (x : Leaf) → getElem? (a ++ (x ∷ [])) (length a) ≡ some x
@@ -126,13 +124,6 @@ module _ (l m : Tree) (place : ℕ) {a b : ℕ} (p : count l ≡ a) (q : count m
   pub around-A′ : (d : Bool) → a ≤ place → b ≤ place - a → seekBinary Conjugate d (count l) (count m) (λ e k. seek e l k) (λ e k. seek e m k) place ≡ seek true l (place - a - b)
   around-A′ d h i = rw (p, q, le-ltb place a h, le-ltb (place - a) b i)
 
--- Steps of a summary that is not held.
-pub steps-exact : (s : Summary) (n : Node Leaf) → countNode n ≤ 4294967295 → summary s ≡ visitNode n → s .steps ≡ countNode n
-steps-exact s n h e = let z : s .steps ≡ counting.hold (countNode n) = ap (λ (y : counting.Summary). y .steps) (e ∙ visitNode-is n) in omega arith
-
-pub list-exact : (s : Summary) (t : Tree) → count t ≤ 4294967295 → summary s ≡ visit t → s .steps ≡ count t
-list-exact s t h e = let z : s .steps ≡ counting.hold (count t) = ap (λ (y : counting.Summary). y .steps) (e ∙ visit-is t) in omega arith
-
 -- The way into a group's list.
 onward : {bs : List ℕ} {n : Node Leaf} {at : ℕ} {w : Way} (a e : ℕ) (t : Tree) → w .from ≡ a → w .to ≡ e → RECORD ≤ a → a ≤ e → e ≤ length bs → Packed (part a e bs) →
     unpack (part a e bs) ≡ t → w .place < count t → count t ≤ 4294967295 → seekNode false n at ≡ undoIf (w .inverted) (seek false t (w .place)) → Onward bs n at w
@@ -165,68 +156,56 @@ swapped : {x y : ListAt} {l m : Tree} {o : Option Leaf} {w : Way} → Leads x y 
 swapped (intoFirst i j p s) = intoSecond i j p s
 swapped (intoSecond i j p s) = intoFirst i j p s
 
-positive-left : (n c k : ℕ) → k < n * c → 0 < n
-positive-left zero c k h = absurd (omega (arith, zero-mul c))
-positive-left (suc n) c k h = omega arith
-
-positive-right : (n c k : ℕ) → k < n * c → 0 < c
-positive-right n c k h = positive-left c n k (omega (arith, mul-comm n c))
-
-module _ {n : Node Leaf} {bs : List ℕ} {steps at : ℕ} (v : Within bs steps at n) {m times : ℕ} (f : m ≡ field 3 bs) (t : times ≡ natAbs (fromBits 32 m)) where
+module _ {n : Node Leaf} {bs : List ℕ} {steps at : ℕ} (v : Within bs steps at n) {m repeats : ℕ} (f : m ≡ field 3 bs) (t : repeats ≡ natAbs (fromBits 32 m)) where
   shape : {k : ℕ} → k ≡ field 0 bs / 16 → Shape k (fromBits 32 m) n
   shape e = rw (e, f) (shape-of (v .isNode))
 
-  steps-are : steps ≡ times * countBody (bodyOf n)
-  unfolding countNode
-  steps-are = v .counts ∙ go n (shape refl) ∙ ap (λ (z : ℕ). z * countBody (bodyOf n)) (sym t)
-    where
-      go : {z : ℤ} (n : Node Leaf) → Shape (field 0 bs / 16) z n → countNode n ≡ natAbs z * countBody (bodyOf n)
-      go (leaf x) (isLeaf l) = absurd (omega (arith, v .low))
-      go (block (group g a) m) (isGroup l q) = refl
-      go (block (binaryGroup g a b) m) (isBinary l l′ q) = refl
+  node-some : 0 < countNode n
+  node-some = omega (arith, v .counts, v .below)
 
-  pub times-some : 0 < times
-  times-some = positive-left times (countBody (bodyOf n)) at (omega (arith, steps-are, v .below))
+  steps-repeat : steps ≡ repeats * countBody (bodyOf n)
+  steps-repeat = v .counts ∙ steps-are (shape refl) (v .low) node-some ∙ ap (λ (z : ℕ). z * countBody (bodyOf n)) (sym t)
 
-  body-count : steps / times ≡ countBody (bodyOf n)
-  body-count = ap (λ (z : ℕ). z / times) steps-are ∙ mul-div-cancel-left (countBody (bodyOf n)) times-some
+  pub times-some : 0 < repeats
+  times-some = omega (arith, repeats-some (shape refl) (v .low) node-some)
 
-  pub body-some : 0 < steps / times
-  body-some = omega (arith, body-count, positive-right times (countBody (bodyOf n)) at (omega (arith, steps-are, v .below)))
+  body-count : steps / repeats ≡ countBody (bodyOf n)
+  body-count = ap (λ (z : ℕ). z / repeats) steps-repeat ∙ mul-div-cancel-left (countBody (bodyOf n)) times-some
 
-  pub place-below : at % (steps / times) < steps / times
+  pub body-some : 0 < steps / repeats
+  body-some = omega (arith, body-count, positive-right repeats (countBody (bodyOf n)) at (omega (arith, steps-repeat, v .below)))
+
+  pub place-below : at % (steps / repeats) < steps / repeats
   place-below = mod-lt at body-some
 
   body-few : countBody (bodyOf n) ≤ 4294967295
-  body-few = omega (arith, at-least times (countBody (bodyOf n)) times-some, steps-are, v .few)
+  body-few = omega (arith, at-least repeats (countBody (bodyOf n)) times-some, steps-repeat, v .few)
 
-  block-sought : seekNode false n at ≡ seekBody (isNegative (fromBits 32 m)) (bodyOf n) (at % (steps / times))
+  block-sought : seekNode false n at ≡ seekBody (isNegative (fromBits 32 m)) (bodyOf n) (at % (steps / repeats))
   unfolding seekNode
   block-sought =
-      go n (shape refl) (lt-ltb at (natAbs (fromBits 32 m) * countBody (bodyOf n)) (omega (arith, v .below, steps-are, ap (λ (z : ℕ). z * countBody (bodyOf n)) t)))
+      ap (λ (z : Node Leaf). seekNode false z at) (block-is (shape refl) (v .low))
+      ∙ ap (λ (below : Bool). pick below (seekBody (turned (fromBits 32 m) false) (bodyOf n) (at % countBody (bodyOf n))) none) (lt-ltb at (times (bodyOf n) (fromBits 32 m) * countBody (bodyOf n)) inside)
       ∙ ap₂ (λ (d : Bool) (c : ℕ). seekBody d (bodyOf n) (at % c)) (sym (negative-turns (fromBits 32 m))) (sym body-count)
     where
-      go : {z : ℤ} (n : Node Leaf) → Shape (field 0 bs / 16) z n → ltb at (natAbs z * countBody (bodyOf n)) ≡ true →
-          seekNode false n at ≡ seekBody (turned z false) (bodyOf n) (at % countBody (bodyOf n))
-      go (leaf x) (isLeaf l) h = absurd (omega (arith, v .low))
-      go (block (group g a) m) (isGroup l q) h = rw h
-      go (block (binaryGroup g a b) m) (isBinary l l′ q) h = rw h
+      inside : at < times (bodyOf n) (fromBits 32 m) * countBody (bodyOf n)
+      inside = omega (arith, v .below, steps-repeat, ap (λ (z : ℕ). z * countBody (bodyOf n)) (times-are (shape refl) (v .low) node-some ∙ sym t))
 
   -- a plain group
   pub group-onward : {k middle : ℕ} {w : Way} {d : Bool} → k ≡ field 0 bs / 16 → k < 4 → d ≡ isNegative (fromBits 32 m) → Lists bs middle →
-      Goes (record { from = RECORD; to = middle; count = steps / times }) (at % (steps / times)) d w → Onward bs n at w
+      Goes (record { from = RECORD; to = middle; count = steps / repeats }) (at % (steps / repeats)) d w → Onward bs n at w
   unfolding seekBody countBody
   group-onward {k} {middle} {w} {d} e h r l g =
       onward RECORD middle (firstList n) (g .from) (g .to) (omega arith) (l .least) (l .most) (l .packedFirst) (l .unpacksFirst n (v .isNode))
       (omega (arith, counted n (shape e), body-count, g .below)) (omega (arith, counted n (shape e), body-few))
-      (block-sought ∙ sought n (shape e) ∙ ap (λ (z : Bool). seek z (firstList n) (at % (steps / times))) (sym r) ∙ g .same (firstList n) (counted n (shape e) ∙ sym body-count))
+      (block-sought ∙ sought n (shape e) ∙ ap (λ (z : Bool). seek z (firstList n) (at % (steps / repeats))) (sym r) ∙ g .same (firstList n) (counted n (shape e) ∙ sym body-count))
     where
       counted : {z : ℤ} (n : Node Leaf) → Shape k z n → count (firstList n) ≡ countBody (bodyOf n)
       counted (leaf x) (isLeaf l) = absurd (omega arith)
       counted (block (group g a) m) (isGroup l q) = refl
       counted (block (binaryGroup g a b) m) (isBinary l l′ q) = absurd (omega arith)
 
-      sought : {z : ℤ} (n : Node Leaf) → Shape k z n → seekBody (isNegative (fromBits 32 m)) (bodyOf n) (at % (steps / times)) ≡ seek (isNegative (fromBits 32 m)) (firstList n) (at % (steps / times))
+      sought : {z : ℤ} (n : Node Leaf) → Shape k z n → seekBody (isNegative (fromBits 32 m)) (bodyOf n) (at % (steps / repeats)) ≡ seek (isNegative (fromBits 32 m)) (firstList n) (at % (steps / repeats))
       sought (leaf x) (isLeaf l) = absurd (omega arith)
       sought (block (group g a) m) (isGroup l q) = refl
       sought (block (binaryGroup g a b) m) (isBinary l l′ q) = absurd (omega arith)
@@ -242,13 +221,13 @@ module _ {n : Node Leaf} {bs : List ℕ} {steps at : ℕ} (v : Within bs steps a
         go (block (group g a) m) (isGroup l q) = absurd (omega arith)
         go (block (binaryGroup g a b) m) (isBinary l l′ q) = rw q
 
-    binary-sought : seekBody (isNegative (fromBits 32 m)) (bodyOf n) (at % (steps / times))
-        ≡ seekBinary (binaryKind (eqb k 4)) (isNegative (fromBits 32 m)) (count (firstList n)) (count (secondList n)) (λ d j. seek d (firstList n) j) (λ d j. seek d (secondList n) j) (at % (steps / times))
+    binary-sought : seekBody (isNegative (fromBits 32 m)) (bodyOf n) (at % (steps / repeats))
+        ≡ seekBinary (binaryKind (eqb k 4)) (isNegative (fromBits 32 m)) (count (firstList n)) (count (secondList n)) (λ d j. seek d (firstList n) j) (λ d j. seek d (secondList n) j) (at % (steps / repeats))
     unfolding seekBody
     binary-sought = go n (shape e)
       where
-        go : {z : ℤ} (n : Node Leaf) → Shape k z n → seekBody (isNegative (fromBits 32 m)) (bodyOf n) (at % (steps / times))
-            ≡ seekBinary (binaryKind (eqb k 4)) (isNegative (fromBits 32 m)) (count (firstList n)) (count (secondList n)) (λ d j. seek d (firstList n) j) (λ d j. seek d (secondList n) j) (at % (steps / times))
+        go : {z : ℤ} (n : Node Leaf) → Shape k z n → seekBody (isNegative (fromBits 32 m)) (bodyOf n) (at % (steps / repeats))
+            ≡ seekBinary (binaryKind (eqb k 4)) (isNegative (fromBits 32 m)) (count (firstList n)) (count (secondList n)) (λ d j. seek d (firstList n) j) (λ d j. seek d (secondList n) j) (at % (steps / repeats))
         go (leaf x) (isLeaf l) = absurd (omega (arith, v .low))
         go (block (group g a) m) (isGroup l q) = absurd (omega arith)
         go (block (binaryGroup g a b) m) (isBinary l l′ q) = rw q
@@ -256,20 +235,20 @@ module _ {n : Node Leaf} {bs : List ℕ} {steps at : ℕ} (v : Within bs steps a
     both-few : count (firstList n) + count (secondList n) ≤ 4294967295
     both-few = omega (arith, binary-count, binary-more (binaryKind (eqb k 4)) (count (firstList n)) (count (secondList n)), body-few)
 
-    pub first-count : {middle : ℕ} (s : Summary) → Lists bs middle → summary s ≡ visit (unpack (part RECORD middle bs)) → s .steps ≡ count (firstList n)
-    first-count s l p = list-exact s (firstList n) (omega (arith, both-few)) (p ∙ ap visit (l .unpacksFirst n (v .isNode)))
+    pub first-count : {middle a : ℕ} → Lists bs middle → a ≡ hold (count (unpack (part RECORD middle bs))) → a ≡ count (firstList n)
+    first-count l p = omega (arith, ap count (l .unpacksFirst n (v .isNode)), both-few)
 
     -- a is the count of the first list
     module _ {a : ℕ} (c : a ≡ count (firstList n)) where
       pub first-few : a ≤ 4294967295
       first-few = omega (arith, both-few)
 
-      pub conjugate-count : k ≡ 5 → steps / times ≡ 2 * a + count (secondList n)
+      pub conjugate-count : k ≡ 5 → steps / repeats ≡ 2 * a + count (secondList n)
       conjugate-count q =
           let z : binaryKind (eqb k 4) ≡ Conjugate = rw q in
           body-count ∙ binary-count ∙ ap₂ (λ (g : BinaryGroupKind) (x : ℕ). countBinary g x (count (secondList n))) z (sym c)
 
-      pub commutator-count : ((k ≡ 5) → ⊥) → k ≤ 5 → steps / times ≡ 2 * (a + count (secondList n))
+      pub commutator-count : ((k ≡ 5) → ⊥) → k ≤ 5 → steps / repeats ≡ 2 * (a + count (secondList n))
       commutator-count q r =
           let y : k ≡ 4 = omega arith in
           let z : binaryKind (eqb k 4) ≡ Commutator = rw y in
@@ -277,44 +256,44 @@ module _ {n : Node Leaf} {bs : List ℕ} {steps at : ℕ} (v : Within bs steps a
 
       leads-onward : {b middle : ℕ} {w : Way} → b ≡ count (secondList n) → Lists bs middle → {g : BinaryGroupKind} → binaryKind (eqb k 4) ≡ g →
           Leads (record { from = RECORD; to = middle; count = a }) (record { from = middle; to = length bs; count = b }) (firstList n) (secondList n)
-          (seekBinary g (isNegative (fromBits 32 m)) (count (firstList n)) (count (secondList n)) (λ d j. seek d (firstList n) j) (λ d j. seek d (secondList n) j) (at % (steps / times))) w →
+          (seekBinary g (isNegative (fromBits 32 m)) (count (firstList n)) (count (secondList n)) (λ d j. seek d (firstList n) j) (λ d j. seek d (secondList n) j) (at % (steps / repeats))) w →
           Onward bs n at w
       leads-onward {b} {middle} {w} p l {g} q (intoFirst i j o s) =
           onward RECORD middle (firstList n) i j (omega arith) (l .least) (l .most) (l .packedFirst) (l .unpacksFirst n (v .isNode)) (omega arith) (omega (arith, both-few))
-          (block-sought ∙ binary-sought ∙ ap (λ (z : BinaryGroupKind). seekBinary z (isNegative (fromBits 32 m)) (count (firstList n)) (count (secondList n)) (λ d j. seek d (firstList n) j) (λ d j. seek d (secondList n) j) (at % (steps / times))) q ∙ s)
+          (block-sought ∙ binary-sought ∙ ap (λ (z : BinaryGroupKind). seekBinary z (isNegative (fromBits 32 m)) (count (firstList n)) (count (secondList n)) (λ d j. seek d (firstList n) j) (λ d j. seek d (secondList n) j) (at % (steps / repeats))) q ∙ s)
       leads-onward {b} {middle} {w} p l {g} q (intoSecond i j o s) =
           onward middle (length bs) (secondList n) i j (l .least) (l .most) (omega arith) (l .packedSecond) (l .unpacksSecond n (v .isNode)) (omega arith) (omega (arith, both-few))
-          (block-sought ∙ binary-sought ∙ ap (λ (z : BinaryGroupKind). seekBinary z (isNegative (fromBits 32 m)) (count (firstList n)) (count (secondList n)) (λ d j. seek d (firstList n) j) (λ d j. seek d (secondList n) j) (at % (steps / times))) q ∙ s)
+          (block-sought ∙ binary-sought ∙ ap (λ (z : BinaryGroupKind). seekBinary z (isNegative (fromBits 32 m)) (count (firstList n)) (count (secondList n)) (λ d j. seek d (firstList n) j) (λ d j. seek d (secondList n) j) (at % (steps / repeats))) q ∙ s)
 
       -- what the three calls give
       pub conjugate-onward : {middle : ℕ} {w : Way} {r : Bool} → k ≡ 5 → r ≡ isNegative (fromBits 32 m) → Lists bs middle →
-          ((x y : Tree) → count x ≡ a → count y ≡ steps / times - 2 * a →
-          Leads (record { from = RECORD; to = middle; count = a }) (record { from = middle; to = length bs; count = steps / times - 2 * a }) x y
-          (seekBinary Conjugate r (count x) (count y) (λ d j. seek d x j) (λ d j. seek d y j) (at % (steps / times))) w) →
+          ((x y : Tree) → count x ≡ a → count y ≡ steps / repeats - 2 * a →
+          Leads (record { from = RECORD; to = middle; count = a }) (record { from = middle; to = length bs; count = steps / repeats - 2 * a }) x y
+          (seekBinary Conjugate r (count x) (count y) (λ d j. seek d x j) (λ d j. seek d y j) (at % (steps / repeats))) w) →
           Onward bs n at w
       conjugate-onward {middle} {w} {r} q i l d =
-          let b : steps / times - 2 * a ≡ count (secondList n) = omega (arith, conjugate-count q) in
+          let b : steps / repeats - 2 * a ≡ count (secondList n) = omega (arith, conjugate-count q) in
           let z : binaryKind (eqb k 4) ≡ Conjugate = rw q in
           leads-onward b l z (rw (← i) (d (firstList n) (secondList n) (sym c) (sym b)))
 
       pub commutator-onward : {middle : ℕ} {w : Way} → ((k ≡ 5) → ⊥) → k ≤ 5 → isNegative (fromBits 32 m) ≡ false → Lists bs middle →
-          ((x y : Tree) → count x ≡ a → count y ≡ steps / times / 2 - a →
-          Leads (record { from = RECORD; to = middle; count = a }) (record { from = middle; to = length bs; count = steps / times / 2 - a }) x y
-          (seekBinary Commutator false (count x) (count y) (λ d j. seek d x j) (λ d j. seek d y j) (at % (steps / times))) w) →
+          ((x y : Tree) → count x ≡ a → count y ≡ steps / repeats / 2 - a →
+          Leads (record { from = RECORD; to = middle; count = a }) (record { from = middle; to = length bs; count = steps / repeats / 2 - a }) x y
+          (seekBinary Commutator false (count x) (count y) (λ d j. seek d x j) (λ d j. seek d y j) (at % (steps / repeats))) w) →
           Onward bs n at w
       commutator-onward q r s l d =
-          let b : steps / times / 2 - a ≡ count (secondList n) = omega (arith, commutator-count q r) in
+          let b : steps / repeats / 2 - a ≡ count (secondList n) = omega (arith, commutator-count q r) in
           let y : k ≡ 4 = omega arith in
           let z : binaryKind (eqb k 4) ≡ Commutator = rw y in
           leads-onward b l z (rw s (d (firstList n) (secondList n) (sym c) (sym b)))
 
       pub inverted-onward : {middle : ℕ} {w : Way} → ((k ≡ 5) → ⊥) → k ≤ 5 → isNegative (fromBits 32 m) ≡ true → Lists bs middle →
-          ((x y : Tree) → count x ≡ steps / times / 2 - a → count y ≡ a →
-          Leads (record { from = middle; to = length bs; count = steps / times / 2 - a }) (record { from = RECORD; to = middle; count = a }) x y
-          (seekBinary Commutator false (count x) (count y) (λ d j. seek d x j) (λ d j. seek d y j) (at % (steps / times))) w) →
+          ((x y : Tree) → count x ≡ steps / repeats / 2 - a → count y ≡ a →
+          Leads (record { from = middle; to = length bs; count = steps / repeats / 2 - a }) (record { from = RECORD; to = middle; count = a }) x y
+          (seekBinary Commutator false (count x) (count y) (λ d j. seek d x j) (λ d j. seek d y j) (at % (steps / repeats))) w) →
           Onward bs n at w
       inverted-onward q r s l d =
-          let b : steps / times / 2 - a ≡ count (secondList n) = omega (arith, commutator-count q r) in
+          let b : steps / repeats / 2 - a ≡ count (secondList n) = omega (arith, commutator-count q r) in
           let y : k ≡ 4 = omega arith in
           let z : binaryKind (eqb k 4) ≡ Commutator = rw y in
           leads-onward b l z (rw s (swapped (d (secondList n) (firstList n) (sym b) (sym c))))
@@ -342,8 +321,9 @@ module _ {tree t : List ℕ} {place at e : ℕ} {inverted : Bool} (s : Sought tr
   unfolding count
   counted = ap count (f .unpacks)
 
-  pub steps-of : (one : Summary) → summary one ≡ visitNode (f .node) → one .steps ≡ countNode (f .node)
-  steps-of one p = steps-exact one (f .node) (omega (arith, counted, s .few)) p
+  -- what a node of so few steps stores is their number
+  pub steps-of : {steps : ℕ} → steps ≡ field 11 t → steps ≡ countNode (f .node)
+  steps-of p = omega (arith, first-stored f, counted, s .few)
 
   -- passing over the node's steps or going into it
   module _ {steps : ℕ} (exact : steps ≡ countNode (f .node)) where
@@ -379,7 +359,7 @@ module _ {tree t : List ℕ} {place at e : ℕ} {inverted : Bool} (s : Sought tr
         record { packed = o .packed; below = o .below; few = o .few; same = in-node h ∙ ap (undoIf inverted) (o .same) ∙ c (seek false (unpack (part (w .from) (w .to) (part 0 e t))) (w .place)) }
 
 -- a leaf is one step
-pub leaf-steps : {t : List ℕ} (l : FirstLeaf t) → 1 ≡ countNode (l .first .node)
+leaf-steps : {t : List ℕ} (l : FirstLeaf t) → 1 ≡ countNode (l .first .node)
 unfolding countNode
 leaf-steps l = sym (ap countNode (l .isStep))
 
@@ -388,17 +368,20 @@ pub leaf-step : {t : List ℕ} (l : FirstLeaf t) → Undoable (l .step) × (part
 unfolding packNode FitsNode
 leaf-step l = (fits-undoable (l .step) (leaf-node l .fits), sym (leaf-node l .bytes))
 
-pub found-leaf : {tree t : List ℕ} {place at : ℕ} {inverted : Bool} → Sought tree place t at inverted → (l : FirstLeaf t) → at ≡ 0 → (step : List ℕ) {now step′ : List ℕ} → now ≡ step →
+pub found-leaf : {tree t : List ℕ} {place at : ℕ} {inverted : Bool} → Sought tree place t at inverted → (l : FirstLeaf t) → {steps : ℕ} → steps ≡ field 11 t → at < steps → (step : List ℕ) {now step′ : List ℕ} → now ≡ step →
     ((x : Leaf) → Undoable x → part 0 RECORD t ≡ leafRecord x → step′ ≡ leafRecord (pick inverted (undo x) x) ++ drop RECORD now) →
     step′ ≡ found (seek false (unpack tree) place) ++ drop RECORD step
 unfolding seekNode
-found-leaf {tree} {t} {place} {at} {inverted} s l z step w c =
+found-leaf {tree} {t} {place} {at} {inverted} s l {steps} p h step w c =
     c x (leaf-step l .0) (leaf-step l .1)
     ∙ ap (λ (y : List ℕ). leafRecord (pick inverted (undo x) x) ++ drop RECORD y) w
-    ∙ ap (λ (o : Option Leaf). found o ++ drop RECORD step) (sym (in-node s (l .first) (leaf-steps l) (omega arith) ∙ ap (undoIf inverted) here))
+    ∙ ap (λ (o : Option Leaf). found o ++ drop RECORD step) (sym (in-node s (l .first) (leaf-steps l) (omega (arith, z)) ∙ ap (undoIf inverted) here))
   where
     x : Leaf
     x = l .step
+
+    z : at ≡ 0
+    z = omega (arith, steps-of s (l .first) p, leaf-steps l)
 
     here : seekNode false (l .first .node) at ≡ some x
     here = ap (λ (n : Node Leaf). seekNode false n at) (l .isStep) ∙ rw z
@@ -408,7 +391,7 @@ inside-less t e w o = omega (arith, part-length (w .from) (w .to) (part 0 e t), 
 
 -- The step's record, copied and undone where it is inverted.
 copied : (x : Leaf) (from step : List ℕ) {s : List ℕ} → from ≡ leafRecord x → s ≡ take (length from) from ++ drop (length from) step → s ≡ leafRecord x ++ drop RECORD step
-copied x from step e h = copied-front from step RECORD (ap length e ∙ length-record25 (leafHead x)) h ∙ ap (λ (a : List ℕ). a ++ drop RECORD step) e
+copied x from step e h = copied-front from step RECORD (ap length e ∙ length-headRecord (leafHead x)) h ∙ ap (λ (a : List ℕ). a ++ drop RECORD step) e
 
 pub step-copied : (d : Bool) (x : Leaf) (from step : List ℕ) {s : List ℕ} → d ≡ false → from ≡ leafRecord x → s ≡ take (length from) from ++ drop (length from) step →
     s ≡ leafRecord (pick d (undo x) x) ++ drop RECORD step

@@ -1,23 +1,29 @@
--- What a node is, by the fields of its record. Assumes nothing.
-use Prim.Native.Nat.{ℕ, _/_, _≤_, _<_}
-use mathlib.Core.Path.{_≡_, subst}
-use mathlib.Core.Bool.{true, false}
+-- What a node is, by the fields of its record, and how many steps it has. Assumes nothing.
+use Prim.Native.Nat.{ℕ, zero, suc, _*_, _/_, _≤_, _<_}
+use mathlib.Core.Path.{_≡_, refl, sym, ap, _∙_, subst}
+use mathlib.Core.Bool.{Bool, true, false}
 use mathlib.Core.List.{List}
+use native.Mathlib.Nat.{zero-mul, mul-comm}
 use native.Mathlib.Omega.{arith}
 use lib.Dec.{eqb}
-use lib.IntN.{ℤ}
+use lib.IntN.{ℤ, natAbs}
+use lib.ListN.{getD}
+use Rattle.notation.specs.Basics.{pick}
 use Rattle.notation.specs.Numbers.{fromBits}
 use Rattle.notation.specs.Unroll.{isNiss}
-use Rattle.notation.specs.Tree.{Leaf, Node, leaf, block, group, binaryGroup, Tree}
-use Rattle.notation.specs.Packed.{groupNumber, binaryNumber}
+use Rattle.notation.specs.Tree.{Leaf, rotation, move, pause, pair, slash, megaminx, Node, leaf, block, Body, group, binaryGroup, nil, Tree}
+use Rattle.notation.specs.Counts.{times, countNode, countBody, count, stored}
+use Rattle.notation.specs.Packed.{groupNumber, binaryNumber, leafHead, headFields, unpack}
 use Rattle.notation.specs.declared.common.GroupKind.{GroupKind}
 use Rattle.notation.specs.declared.common.GroupKind.the-variants.{Simple, Macro, Simultaneous, Niss}
 use Rattle.notation.specs.declared.common.BinaryGroupKind.{BinaryGroupKind}
 use Rattle.notation.specs.declared.common.BinaryGroupKind.the-variants.{Commutator, Conjugate}
 use Rattle.record.specs.Meaning.{field}
-use Rattle.nodes.specs.Nodes.{IsNode}
-use Rattle.nodes.proofs.Nodes.{kind-of, leaf-kind, multiplier-of}
+use Rattle.laws.proofs.Walking.{nodeHead}
+use Rattle.nodes.specs.Nodes.{IsNode, part, FirstNode}
+use Rattle.nodes.proofs.Nodes.{alone, fields-of, front-field, first-low, kind-of, leaf-kind, multiplier-of}
 use Rattle.expand.specs.Meaning.{binaryKind}
+use Rattle.expand.specs.Steps.{IsGroup}
 
 -- What a node is, by the kind and the multiplier in its record.
 pub data Shape : ℕ → ℤ → Node Leaf → Type 0 where
@@ -44,3 +50,71 @@ shapes (block (binaryGroup g a b) m) bs s =
 
 pub shape-of : {n : Node Leaf} {bs : List ℕ} → IsNode bs n → Shape (field 0 bs / 16) (fromBits 32 (field 3 bs)) n
 shape-of {n} {bs} s = shapes n bs s
+
+pub group-of : {bs : List ℕ} {e k : ℕ} → FirstNode bs e → k ≡ field 0 bs / 16 → k ≤ 5 → IsGroup (part 0 e bs)
+group-of f q h = record { node = f .node; isNode = f .isNode; low = first-low f q h }
+
+-- A group is its body repeated; a leaf has none.
+abbrev pub bodyOf : Node Leaf → Body Leaf
+bodyOf (leaf x) = group Simple nil
+bodyOf (block b m) = b
+
+pub at-least : (n c : ℕ) → 1 ≤ n → c ≤ n * c
+at-least zero c h = absurd (omega arith)
+at-least (suc n) c h = omega arith
+
+positive-left : (n c k : ℕ) → k < n * c → 0 < n
+positive-left zero c k h = absurd (omega (arith, zero-mul c))
+positive-left (suc n) c k h = omega arith
+
+pub positive-right : (n c k : ℕ) → k < n * c → 0 < c
+positive-right n c k h = positive-left c n k (omega (arith, mul-comm n c))
+
+module _ {k : ℕ} {m : ℤ} {n : Node Leaf} (s : Shape k m n) (low : k ≤ 5) where
+  pub block-is : n ≡ block (bodyOf n) m
+  block-is = go n s
+    where
+      go : (n : Node Leaf) → Shape k m n → n ≡ block (bodyOf n) m
+      go (leaf x) (isLeaf l) = absurd (omega arith)
+      go (block (group g a) m) (isGroup l q) = refl
+      go (block (binaryGroup g a b) m) (isBinary l l′ q) = refl
+
+  -- one that has steps is no NISS group, and its multiplier is not 0
+  module _ (some : 0 < countNode n) where
+    pub times-are : times (bodyOf n) m ≡ natAbs m
+    unfolding countNode
+    times-are = go (isNiss (bodyOf n)) (subst (λ (z : Node Leaf). 0 < countNode z) block-is some)
+      where
+        go : (niss : Bool) → 0 < pick niss 0 (natAbs m) * countBody (bodyOf n) → pick niss 0 (natAbs m) ≡ natAbs m
+        go true h = absurd (omega (arith, zero-mul (countBody (bodyOf n))))
+        go false h = refl
+
+    pub steps-are : countNode n ≡ natAbs m * countBody (bodyOf n)
+    unfolding countNode
+    steps-are = ap countNode block-is ∙ ap (λ (j : ℕ). j * countBody (bodyOf n)) times-are
+
+    pub repeats-some : 1 ≤ natAbs m
+    repeats-some = positive-left (natAbs m) (countBody (bodyOf n)) 0 (omega (arith, steps-are))
+
+-- The record stores the count of the node, held.
+leaf-stored : (x : Leaf) → getD (headFields (leafHead x)) 11 0 ≡ 1
+leaf-stored (rotation f c m) = refl
+leaf-stored (move t l f c m) = refl
+leaf-stored pause = refl
+leaf-stored (pair u d) = refl
+leaf-stored slash = refl
+leaf-stored (megaminx k) = refl
+
+head-stored : (n : Node Leaf) → getD (headFields (nodeHead n)) 11 0 ≡ stored n
+unfolding countNode
+head-stored (leaf x) = leaf-stored x
+head-stored (block (group g a) m) = refl
+head-stored (block (binaryGroup g a b) m) = refl
+
+pub first-stored : {bs : List ℕ} {e : ℕ} (f : FirstNode bs e) → field 11 bs ≡ stored (f .node)
+first-stored {bs} {e} f = sym (front-field bs e (f .least) 11) ∙ fields-of (f .isNode) 11 ∙ head-stored (f .node)
+
+-- a node's bytes have the steps of the node
+pub one-count : {bs : List ℕ} {n : Node Leaf} → IsNode bs n → count (unpack bs) ≡ countNode n
+unfolding count
+one-count s = omega (arith, ap count (alone s))

@@ -2,7 +2,7 @@
 use Prim.Native.Nat.{ℕ, zero, suc, _*_, _≤_, _<_}
 use mathlib.Core.Path.{_≡_, refl, sym, ap, _∙_}
 use mathlib.Core.Bool.{Bool, true, false}
-use mathlib.Core.List.{List, [], _∷_, _++_, map, append-assoc}
+use mathlib.Core.List.{List, [], _∷_, _++_, append-assoc}
 use native.Mathlib.Omega.{arith}
 use borrow.Author.Tests.{ltb-true}
 use lib.IntN.{ℤ, pos, negsuc, negℤ, natAbs}
@@ -13,18 +13,19 @@ use Rattle.notation.specs.Packed.{RECORD, leafHead, leafRecord}
 use Rattle.notation.specs.Entries.{records}
 use Rattle.notation.specs.Invert.{undo}
 use Rattle.notation.specs.Unroll.{copies, turned}
+use Rattle.notation.specs.Counts.{times}
 use Rattle.notation.specs.declared.common.BinaryGroupKind.{BinaryGroupKind}
 use Rattle.notation.specs.declared.common.BinaryGroupKind.the-variants.{Commutator, Conjugate}
 use Rattle.record.specs.Range.{FitsNumber, FitsLeaf}
-use Rattle.record.proofs.RoundTrip.{length-record25}
+use Rattle.record.proofs.RoundTrip.{length-headRecord}
 use Rattle.laws.proofs.Packing.{FitsNode, FitsBody, FitsTree}
-use Rattle.laws.proofs.Unrolling.{backwards, flatBinary, flatNode, flatBody, flat}
+use Rattle.laws.proofs.Unrolling.{flatBinary, flatNode, flatBody, flat}
 use Rattle.expand.specs.Steps.{Small, Undoable, All, none, one}
 
 pub length-records : (l : List Leaf) → length (records l) ≡ RECORD * length l
 unfolding records
 length-records [] = refl
-length-records (x ∷ l) = length-append (leafRecord x) (records l) ∙ omega (arith, length-record25 (leafHead x), length-records l)
+length-records (x ∷ l) = length-append (leafRecord x) (records l) ∙ omega (arith, length-headRecord (leafHead x), length-records l)
 
 pub records-append : (a b : List Leaf) → records (a ++ b) ≡ records a ++ records b
 unfolding records
@@ -103,7 +104,7 @@ mutual
 
   pub all-flatNode : (n : Node Leaf) (d : Bool) → FitsNode n → All Undoable (flatNode undo d n)
   all-flatNode (leaf x) d f = all-leaf d x f
-  all-flatNode (block b m) d f = all-copies (natAbs m) (all-flatBody b (turned m d) (f .1))
+  all-flatNode (block b m) d f = all-copies (times b m) (all-flatBody b (turned m d) (f .1))
 
   pub all-flatBody : (b : Body Leaf) (d : Bool) → FitsBody b → All Undoable (flatBody undo d b)
   all-flatBody (group k a) d f = all-flat a d f

@@ -8,11 +8,11 @@ use lib.ListN.{length, take, drop, length-append, length-drop, take-append-drop}
 use lib.Seq.{take-at, drop-at, drop-drop, drop-length}
 use Rattle.notation.specs.Tree.{Leaf}
 use Rattle.notation.specs.Invert.{undo}
-use Rattle.notation.specs.Packed.{RECORD, Head, leafHead, leafRecord, record25, headAt}
+use Rattle.notation.specs.Packed.{RECORD, Head, leafHead, leafRecord, headRecord, headAt}
 use Rattle.notation.specs.Entries.{records}
 use Rattle.record.specs.Range.{FitsLeaf}
 use Rattle.record.specs.Undone.{StartsRecord, undoneHead}
-use Rattle.record.proofs.RoundTrip.{length-record25}
+use Rattle.record.proofs.RoundTrip.{length-headRecord}
 use Rattle.record.proofs.Undoing.{Undone, head-with, starts-with, undone-with}
 use Rattle.laws.proofs.Unrolling.{backwards, backwards-append, long-backwards}
 use Rattle.nodes.specs.Nodes.{part}
@@ -82,13 +82,13 @@ module _ {s : List ℕ} (l : RECORD + RECORD ≤ length s) (b : StartsRecord s �
   to-last : to + RECORD ≡ length s
   to-last = omega arith
 
-  both-ends : Ends s (record25 first-head) between (record25 last-head)
+  both-ends : Ends s (headRecord first-head) between (headRecord last-head)
   both-ends =
       record {
-        bytes = sym (b .0 .whole) ∙ ap (λ (z : List ℕ). record25 first-head ++ z)
+        bytes = sym (b .0 .whole) ∙ ap (λ (z : List ℕ). headRecord first-head ++ z)
             (sym (take-append-drop (to - RECORD) (drop RECORD s)) ∙ ap (λ (z : List ℕ). between ++ z) (drop-drop (to - RECORD) RECORD s ∙ ap (λ (k : ℕ). drop k s) back ∙ alone));
-        first = length-record25 first-head;
-        last = length-record25 last-head;
+        first = length-headRecord first-head;
+        last = length-headRecord last-head;
       }
     where
       back : RECORD + (to - RECORD) ≡ to
@@ -97,57 +97,57 @@ module _ {s : List ℕ} (l : RECORD + RECORD ≤ length s) (b : StartsRecord s �
       long : length (lastOf s) ≡ RECORD
       long = length-drop to s ∙ omega (arith, to-last)
 
-      alone : lastOf s ≡ record25 last-head
+      alone : lastOf s ≡ headRecord last-head
       alone = over-all (lastOf s) long (sym (b .1 .whole))
 
   module _ {first last s₁ y : List ℕ} (e : first ≡ part 0 RECORD s ++ []) (e′ : last ≡ part to (length s) s ++ [])
       (c : s₁ ≡ last ++ drop RECORD s) (c′ : y ≡ first ++ drop RECORD (part to (length s₁) s₁)) where
-    first-copied : first ≡ record25 first-head
+    first-copied : first ≡ headRecord first-head
     first-copied = e ∙ append-nil (part 0 RECORD s) ∙ first-part both-ends
 
-    last-copied : last ≡ record25 last-head
+    last-copied : last ≡ headRecord last-head
     last-copied = e′ ∙ append-nil (part to (length s) s) ∙ last-part both-ends to to-last
 
-    one-copied : Ends s₁ (record25 last-head) between (record25 last-head)
-    one-copied = first-replaced both-ends (length-record25 last-head) (c ∙ ap (λ (d : List ℕ). d ++ drop RECORD s) last-copied)
+    one-copied : Ends s₁ (headRecord last-head) between (headRecord last-head)
+    one-copied = first-replaced both-ends (length-headRecord last-head) (c ∙ ap (λ (d : List ℕ). d ++ drop RECORD s) last-copied)
 
     to-last₁ : to + RECORD ≡ length s₁
     to-last₁ = to-last ∙ ends-long both-ends ∙ sym (ends-long one-copied)
 
-    y-is : y ≡ record25 first-head
-    y-is = over-all (part to (length s₁) s₁) (ap length (last-part one-copied to to-last₁) ∙ length-record25 last-head) c′ ∙ first-copied
+    y-is : y ≡ headRecord first-head
+    y-is = over-all (part to (length s₁) s₁) (ap length (last-part one-copied to to-last₁) ∙ length-headRecord last-head) c′ ∙ first-copied
 
-    exchanged : Ends (putMid to (length s₁ - to) s₁ y) (record25 last-head) between (record25 first-head)
+    exchanged : Ends (putMid to (length s₁ - to) s₁ y) (headRecord last-head) between (headRecord first-head)
     exchanged =
-        subst (Ends (putMid to (length s₁ - to) s₁ y) (record25 last-head) between) y-is
-        (last-replaced one-copied to to-last₁ (ap length y-is ∙ length-record25 first-head))
+        subst (Ends (putMid to (length s₁ - to) s₁ y) (headRecord last-head) between) y-is
+        (last-replaced one-copied to to-last₁ (ap length y-is ∙ length-headRecord first-head))
 
     pub front-starts : StartsRecord (putMid to (length s₁ - to) s₁ y)
-    front-starts = starts-with _ last-head (between ++ record25 first-head) (b .1 .fits) (exchanged .bytes)
+    front-starts = starts-with _ last-head (between ++ headRecord first-head) (b .1 .fits) (exchanged .bytes)
 
     module _ {s₃ : List ℕ} (u : Undone (putMid to (length s₁ - to) s₁ y) s₃) where
-      front-undone : Ends s₃ (record25 (undoneHead last-head)) between (record25 first-head)
+      front-undone : Ends s₃ (headRecord (undoneHead last-head)) between (headRecord first-head)
       front-undone =
           record {
-            bytes = undone-with _ last-head (between ++ record25 first-head) (b .1 .fits) (exchanged .bytes) u;
-            first = length-record25 (undoneHead last-head);
-            last = length-record25 first-head;
+            bytes = undone-with _ last-head (between ++ headRecord first-head) (b .1 .fits) (exchanged .bytes) u;
+            first = length-headRecord (undoneHead last-head);
+            last = length-headRecord first-head;
           }
 
       to-last₃ : to + RECORD ≡ length s₃
       to-last₃ = to-last ∙ ends-long both-ends ∙ sym (ends-long front-undone)
 
-      back-is : part to (length s₃) s₃ ≡ record25 first-head ++ []
-      back-is = last-part front-undone to to-last₃ ∙ sym (append-nil (record25 first-head))
+      back-is : part to (length s₃) s₃ ≡ headRecord first-head ++ []
+      back-is = last-part front-undone to to-last₃ ∙ sym (append-nil (headRecord first-head))
 
       pub back-starts : StartsRecord (part to (length s₃) s₃)
       back-starts = starts-with _ first-head [] (b .0 .fits) back-is
 
       pub ends-exchanged : {y₃ : List ℕ} → Undone (part to (length s₃) s₃) y₃ → putMid to (length s₃ - to) s₃ y₃ ≡ undoneRecord (lastOf s) ++ (between ++ undoneRecord s)
       ends-exchanged {y₃} v =
-          let p : y₃ ≡ record25 (undoneHead first-head) = undone-with _ first-head [] (b .0 .fits) back-is v ∙ append-nil (record25 (undoneHead first-head)) in
-          last-replaced front-undone to to-last₃ (ap length p ∙ length-record25 (undoneHead first-head)) .bytes
-          ∙ ap (λ (d : List ℕ). record25 (undoneHead last-head) ++ (between ++ d)) p
+          let p : y₃ ≡ headRecord (undoneHead first-head) = undone-with _ first-head [] (b .0 .fits) back-is v ∙ append-nil (headRecord (undoneHead first-head)) in
+          last-replaced front-undone to to-last₃ (ap length p ∙ length-headRecord (undoneHead first-head)) .bytes
+          ∙ ap (λ (d : List ℕ). headRecord (undoneHead last-head) ++ (between ++ d)) p
 
 -- A list of two or more, taken apart at both ends.
 record Parted (l : List Leaf) : Type 0 where
@@ -222,7 +222,7 @@ module _ {entry steps : List ℕ} {from to : ℕ} (h : Holds entry) (t : Turning
     two = parted (t .todo) (omega (arith, t .up))
 
     ends : Ends (part from to steps) (leafRecord (two .first)) (records (two .middle)) (leafRecord (two .last))
-    ends = record { bytes = the-part three ∙ parted-records two; first = length-record25 (leafHead (two .first)); last = length-record25 (leafHead (two .last)) }
+    ends = record { bytes = the-part three ∙ parted-records two; first = length-headRecord (leafHead (two .first)); last = length-headRecord (leafHead (two .last)) }
 
     pub two-long : RECORD + RECORD ≤ length (part from to steps)
     two-long = omega (arith, ends-long ends)
@@ -239,7 +239,7 @@ module _ {entry steps : List ℕ} {from to : ℕ} (h : Holds entry) (t : Turning
     module _ {y : List ℕ} (c : y ≡ undoneRecord (lastOf (part from to steps)) ++ (part RECORD (length (part from to steps) - RECORD) (part from to steps) ++ undoneRecord (part from to steps))) where
       ends-turned : y ≡ leafRecord (undo (two .last)) ++ (records (two .middle) ++ leafRecord (undo (two .first)))
       ends-turned =
-          c ∙ ap₂ (λ (g g′ : Head). record25 (undoneHead g) ++ (part RECORD (length (part from to steps) - RECORD) (part from to steps) ++ record25 (undoneHead g′)))
+          c ∙ ap₂ (λ (g g′ : Head). headRecord (undoneHead g) ++ (part RECORD (length (part from to steps) - RECORD) (part from to steps) ++ headRecord (undoneHead g′)))
           (head-with _ (leafHead (two .last)) [] (two-fit .1) last-is) (head-with _ (leafHead (two .first)) _ (two-fit .0) (ends .bytes))
           ∙ ap (λ (z : List ℕ). leafRecord (undo (two .last)) ++ (z ++ leafRecord (undo (two .first)))) (middle-part ends)
 

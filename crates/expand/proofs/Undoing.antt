@@ -10,7 +10,7 @@ use lib.IntN.{ℤ, pos, negsuc, negℤ}
 use Rattle.notation.specs.Basics.{pick}
 use Rattle.notation.specs.Numbers.{fromBits, toBits}
 use Rattle.notation.specs.Tree.{Leaf, rotation, move, pause, pair, slash, megaminx}
-use Rattle.notation.specs.Packed.{widths, layOut, leafHead, leafFields, record25, leafRecord}
+use Rattle.notation.specs.Packed.{widths, layOut, leafHead, leafFields, headRecord, leafRecord}
 use Rattle.notation.specs.Invert.{undo}
 use Rattle.numbers.proofs.TwosComplement.{toBits-fromBits}
 use Rattle.record.specs.Range.{FitsNumber, FitsLeaf}
@@ -80,11 +80,11 @@ wrapped-undone slash h = refl
 wrapped-undone (megaminx k) h = refl
 
 pub wrapped-record : (x : Leaf) → Undoable x → leafRecord (wrapped x) ≡ leafRecord x
-unfolding record25
+unfolding headRecord
 wrapped-record x u = ap (layOut widths) (wrapped-fields x u)
 
 pub wrapped-undone-record : (x : Leaf) → Undoable x → leafRecord (undo (wrapped x)) ≡ leafRecord (undo x)
-unfolding record25
+unfolding headRecord
 wrapped-undone-record x u = ap (layOut widths) (wrapped-undone x u)
 
 -- a step's record in front of other bytes

@@ -1,33 +1,69 @@
--- One visit: what it makes of a leaf, a group and a list of nodes. Assumes nothing.
-use Prim.Native.Nat.{ℕ, suc, _-_, _/_, _^_, _≤_, _<_}
-use mathlib.Core.Path.{_≡_, refl, sym, ap, ap₂, _∙_}
+-- One visit: the first refusals of a leaf, a group and a list of nodes. Assumes nothing.
+use Prim.Native.Nat.{ℕ, zero, suc, _-_, _/_, _^_, _≤_, _<_}
+use mathlib.Core.Path.{_≡_, refl, sym, ap, ap₂, _∙_, fun-ext}
 use mathlib.Core.Bool.{Bool, true, false}
 use mathlib.Core.List.{List}
 use mathlib.Core.Option.{Option, none, some}
 use native.Mathlib.Omega.{arith}
 use borrow.Author.Tests.{ne-eqb, eq-eqb, eqb-true, eqb-false, ltb-true}
-use lib.Dec.{lit≤, eqb}
-use lib.IntN.{ℤ, pos, negsuc}
+use lib.Dec.{lit≤, eqb, ltb}
+use lib.IntN.{ℤ, pos, negsuc, natAbs}
 use lib.ListN.{length}
+use Rattle.notation.specs.Basics.{pick}
 use Rattle.notation.specs.Numbers.{fromBits, toBits}
+use Rattle.notation.specs.Refusals.{NISS}
 use Rattle.notation.specs.Tree.{Leaf, rotation, move, pause, pair, slash, megaminx, Node, leaf, block, group, binaryGroup, Tree}
 use Rattle.notation.specs.Packed.{RECORD, leafHead, unpack}
 use Rattle.notation.specs.Invert.{isMin, overflows}
+use Rattle.notation.specs.Unroll.{turned, isNiss}
 use Rattle.notation.specs.declared.common.MegaminxScrambleMove.the-variants.{Rpp, Rmm, Dpp, Dmm}
+use Rattle.numbers.specs.Sign.{isNegative}
 use Rattle.record.specs.Meaning.{field}
 use Rattle.record.specs.Range.{FitsNumber}
+use Rattle.record.proofs.Numbered.{kindOf}
 use Rattle.laws.proofs.Packing.{FitsNode}
 use Rattle.laws.proofs.Walking.{Packed, no-node}
-use Rattle.laws.proofs.Unrolling.{first}
-use Rattle.laws.proofs.Counting as counting
-use Rattle.laws.proofs.Counting.{blockSummary, binarySummary, joinSummary, visitNode, visitBody, visit, visitNode-is, visit-is}
-use Rattle.expand.specs.Meaning.{summary, Held, leafSum, overflowsAt, binaryKind}
-use Rattle.nodes.specs.Nodes.{IsNode, part, FirstNode, firstList, secondList}
-use Rattle.expand.specs.declared.visit.Summary.{Summary}
-use Rattle.record.proofs.Numbered.{kindOf}
-use Rattle.nodes.proofs.Nodes.{part-length, fields-of, kind-of, front-field, FirstLeaf, leaf-node}
-use Rattle.expand.proofs.Shapes.{Shape, isLeaf, isGroup, isBinary, shape-of}
-use Rattle.expand.proofs.Summaries.{same}
+use Rattle.laws.proofs.Unrolling.{first, ifReached, firstInOrder, refusalBinary, refusalNode, refusalBody, firstRefusal}
+use Rattle.nodes.specs.Nodes.{IsNode, part, FirstNode, firstList, secondList, Lists}
+use Rattle.nodes.proofs.Nodes.{part-length, fields-of, kind-of, alone, front-field, FirstLeaf, leaf-node}
+use Rattle.expand.specs.Meaning.{told, refuses, leafRefuses, overflowsAt, binaryKind}
+use Rattle.expand.specs.Steps.{IsGroup}
+use Rattle.expand.specs.declared.visit.Refusals.{Refusals}
+use Rattle.expand.proofs.Shapes.{Shape, isLeaf, isGroup, isBinary, shape-of, bodyOf, block-is}
+
+-- the first refusals, by direction
+abbrev ofNode : Node Leaf → Bool → Option ℕ
+ofNode n d = refusalNode d n
+
+abbrev ofTree : Tree → Bool → Option ℕ
+ofTree t d = firstRefusal d t
+
+abbrev after : (met next : Bool → Option ℕ) → Bool → Option ℕ
+after met next d = firstInOrder d (met d) (next d)
+
+abbrev turnedBy : ℤ → (Bool → Option ℕ) → Bool → Option ℕ
+turnedBy m r d = r (turned m d)
+
+-- what is the same in both directions
+pub either-way : {f g : Bool → Option ℕ} → f false ≡ g false → f true ≡ g true → f ≡ g
+either-way {f} {g} p q = fun-ext at
+  where
+    at : (d : Bool) → f d ≡ g d
+    at false = p
+    at true = q
+
+pub first-taken : (a : ℕ) (q : Option ℕ) → ((a ≡ 0) → ⊥) → told a ≡ first (told a) q
+first-taken zero q h = absurd (h refl)
+first-taken (suc a) q h = refl
+
+-- contents turned round by a negative multiplier, or kept
+pub turned-round : (m : ℤ) (s : Refusals) → isNegative m ≡ true → refuses (record { forward = s .backward; backward = s .forward }) ≡ turnedBy m (refuses s)
+turned-round (pos n) s g = absurd (let z : _≡_ {A = Bool} false true = g in let y : _≡_ {A = ℕ} 0 1 = cc in omega arith)
+turned-round (negsuc n) s g = either-way refl refl
+
+pub turned-not : (m : ℤ) (s : Refusals) → isNegative m ≡ false → refuses s ≡ turnedBy m (refuses s)
+turned-not (pos n) s g = refl
+turned-not (negsuc n) s g = absurd (let y : _≡_ {A = ℕ} 0 1 = cc in omega arith)
 
 -- the three ways of the test of a pair
 module _ (bs : List ℕ) {k : ℕ} (e : k ≡ field 0 bs / 16) where
@@ -68,88 +104,150 @@ overflows-of (megaminx Dpp) bs s = overflows-other (megaminx Dpp) bs s refl
 overflows-of (megaminx Dmm) bs s = overflows-other (megaminx Dmm) bs s refl
 
 -- a leaf
-pub leaf-visited : {bs : List ℕ} (l : FirstLeaf bs) → leafSum (overflowsAt bs) ≡ visitNode (l .first .node)
-unfolding visitNode
-leaf-visited {bs} l = ap leafSum (front ∙ overflows-of (l .step) (part 0 RECORD bs) (leaf-node l)) ∙ ap visitNode (sym (l .isStep))
+pub leaf-refused : {bs : List ℕ} (l : FirstLeaf bs) → leafRefuses (overflowsAt bs) ≡ ofNode (l .first .node)
+unfolding refusalNode
+leaf-refused {bs} l =
+    ap leafRefuses (front ∙ overflows-of (l .step) (part 0 RECORD bs) (leaf-node l))
+    ∙ ap ofNode (sym (l .isStep))
   where
     front : overflowsAt bs ≡ overflowsAt (part 0 RECORD bs)
     front = rw (front-field bs RECORD (lit≤ tt) 0, front-field bs RECORD (lit≤ tt) 3, front-field bs RECORD (lit≤ tt) 4)
 
--- the answers of `visit_node`, by the kind k and the multiplier's bits m of the record
-module _ (n : Node Leaf) (bs : List ℕ) (s : IsNode bs n) {k : ℕ} (e : k ≡ field 0 bs / 16) where
-  kind-shape : Shape k (fromBits 32 (field 3 bs)) n
-  kind-shape = rw e (shape-of s)
-
-  pub group-visited : {m : ℕ} → m ≡ field 3 bs → k < 4 → (A : counting.Summary) → A ≡ visit (firstList n) →
-      blockSummary (eqb k 3) (fromBits 32 m) A ≡ visitNode n
-  unfolding visitNode visitBody
-  group-visited f h A p = rw f (go n kind-shape p)
-    where
-      go : {m : ℤ} (n : Node Leaf) → Shape k m n → A ≡ visit (firstList n) → blockSummary (eqb k 3) m A ≡ visitNode n
-      go (leaf x) (isLeaf l) p = absurd (omega arith)
-      go (block (group g a) m) (isGroup l q) p = ap₂ (λ (t : Bool) (s : counting.Summary). blockSummary t m s) q p
-      go (block (binaryGroup g a b) m) (isBinary l l′ q) p = absurd (omega arith)
-
-  pub binary-visited : {m : ℕ} → m ≡ field 3 bs → field 0 bs / 16 ≤ 5 → 4 ≤ k → (A B : counting.Summary) → A ≡ visit (firstList n) → B ≡ visit (secondList n) →
-      blockSummary false (fromBits 32 m) (binarySummary (binaryKind (eqb k 4)) A B) ≡ visitNode n
-  unfolding visitNode visitBody
-  binary-visited f h h′ A B p p′ = rw f (go n kind-shape p p′)
-    where
-      go : {m : ℤ} (n : Node Leaf) → Shape k m n → A ≡ visit (firstList n) → B ≡ visit (secondList n) →
-          blockSummary false m (binarySummary (binaryKind (eqb k 4)) A B) ≡ visitNode n
-      go (leaf x) (isLeaf l) p p′ = absurd (omega arith)
-      go (block (group g a) m) (isGroup l q) p p′ = absurd (omega arith)
-      go (block (binaryGroup g a b) m) (isBinary l l′ q) p p′ = rw (q, p, p′)
-
--- Held counts.
-pub held-tree : (s : Summary) (t : Tree) → summary s ≡ visit t → Held s
-held-tree s t e = let h = ap (λ (z : counting.Summary). z .steps) (e ∙ visit-is t) in record { most = omega arith }
-
-pub held-node : (s : Summary) (n : Node Leaf) → summary s ≡ visitNode n → Held s
-held-node s n e = let h = ap (λ (z : counting.Summary). z .steps) (e ∙ visitNode-is n) in record { most = omega arith }
-
-pub held-binary : (s : Summary) (k : Bool) (a b : counting.Summary) → summary s ≡ binarySummary (binaryKind k) a b → Held s
-held-binary s k a b e = let h = ap (λ (z : counting.Summary). z .steps) e in record { most = omega arith }
-
--- The loop: what is summed up, joined with what is left, is the whole.
 first-none : (p : Option ℕ) → first p none ≡ p
 first-none none = refl
 first-none (some r) = refl
 
+-- a node's bytes are refused as the node
+pub one-refused : {bs : List ℕ} {n : Node Leaf} → IsNode bs n → ofTree (unpack bs) ≡ ofNode n
+unfolding firstRefusal
+one-refused {bs} {n} s = ap ofTree (alone s) ∙ either-way (first-none (refusalNode false n)) refl
+
+nonzero : (m : ℕ) → m < 2 ^ 32 → ((m ≡ 0) → ⊥) → 1 ≤ natAbs (fromBits 32 m)
+nonzero m h z = go (ltb m 2147483648) refl
+  where
+    some-of : (n : ℕ) → ((n ≡ 0) → ⊥) → 1 ≤ n
+    some-of zero z = absurd (z refl)
+    some-of (suc n) z = omega arith
+
+    go : (t : Bool) → ltb m 2147483648 ≡ t → 1 ≤ natAbs (pick t (pos m) (negsuc (2 ^ 32 - suc m)))
+    go true e = some-of m z
+    go false e = omega arith
+
+reached : (n : ℕ) (q : Option ℕ) → 1 ≤ n → q ≡ ifReached n q
+reached zero q h = absurd (omega arith)
+reached (suc n) q h = refl
+
+-- The answers of `visit_node`, by the kind k and the multiplier's bits m of the record.
+module _ {bs : List ℕ} (g : IsGroup bs) {k : ℕ} (e : k ≡ field 0 bs / 16) where
+  abbrev n : Node Leaf
+  n = g .node
+
+  kind-shape : Shape k (fromBits 32 (field 3 bs)) n
+  kind-shape = rw e (shape-of (g .isNode))
+
+  low : k ≤ 5
+  low = omega (arith, g .low)
+
+  niss-is : isNiss (bodyOf n) ≡ eqb k 3
+  niss-is = go n kind-shape
+    where
+      go : {m : ℤ} (n : Node Leaf) → Shape k m n → isNiss (bodyOf n) ≡ eqb k 3
+      go (leaf x) (isLeaf l) = absurd (omega (arith, low))
+      go (block (group g a) m) (isGroup l q) = sym q
+      go (block (binaryGroup g a b) m) (isBinary l l′ q) = sym (ne-eqb k 3 (λ h. omega arith))
+
+  abbrev ofBlock : Bool → ℕ → Bool → Option ℕ
+  ofBlock niss m d = pick niss (some NISS) (ifReached (natAbs (fromBits 32 m)) (refusalBody (turned (fromBits 32 m) d) (bodyOf n)))
+
+  block-refused : ofTree (unpack bs) ≡ ofBlock (eqb k 3) (field 3 bs)
+  unfolding refusalNode
+  block-refused =
+      one-refused (g .isNode) ∙ ap ofNode (block-is kind-shape low)
+      ∙ ap (λ (niss : Bool). ofBlock niss (field 3 bs)) niss-is
+
+  pub niss-refused : k ≡ 3 → refuses (record { forward = NISS; backward = NISS }) ≡ ofTree (unpack bs)
+  niss-refused q = either-way refl refl ∙ sym (block-refused ∙ ap (λ (j : ℕ). ofBlock (eqb j 3) (field 3 bs)) q)
+
+  module _ {m : ℕ} (f : m ≡ field 3 bs) (other : (k ≡ 3) → ⊥) where
+    reachable : ofTree (unpack bs) ≡ ofBlock false m
+    reachable = block-refused ∙ ap₂ ofBlock (ne-eqb k 3 other) (sym f)
+
+    pub never-reached : m ≡ 0 → refuses (record { forward = 0; backward = 0 }) ≡ ofTree (unpack bs)
+    never-reached z = either-way refl refl ∙ sym (reachable ∙ ap (ofBlock false) z)
+
+    abbrev ofBody : Bool → Option ℕ
+    ofBody d = refusalBody d (bodyOf n)
+
+    module _ (v : m < 2 ^ 32) (z : (m ≡ 0) → ⊥) where
+      body-refused : {r a : Bool → Option ℕ} → a ≡ ofBody → r ≡ turnedBy (fromBits 32 m) a → r ≡ ofTree (unpack bs)
+      body-refused {r} {a} p q =
+          q ∙ ap (turnedBy (fromBits 32 m)) p
+          ∙ fun-ext (λ d. reached (natAbs (fromBits 32 m)) (refusalBody (turned (fromBits 32 m) d) (bodyOf n)) (nonzero m v z))
+          ∙ sym reachable
+
+      -- given where its lists lie
+      module _ {mid : ℕ} (l : Lists bs mid) {a : Bool → Option ℕ} (p : a ≡ ofTree (unpack (part RECORD mid bs))) where
+        first-refused : a ≡ ofTree (firstList n)
+        first-refused = p ∙ ap ofTree (l .unpacksFirst n (g .isNode))
+
+        pub group-refused : {r : Bool → Option ℕ} → k < 4 → r ≡ turnedBy (fromBits 32 m) a → r ≡ ofTree (unpack bs)
+        unfolding refusalBody
+        group-refused h q = body-refused (first-refused ∙ fun-ext (λ d. go n kind-shape d)) q
+          where
+            go : {m : ℤ} (n : Node Leaf) → Shape k m n → (d : Bool) → firstRefusal d (firstList n) ≡ refusalBody d (bodyOf n)
+            go (leaf x) (isLeaf l) d = absurd (omega arith)
+            go (block (group g a) m) (isGroup l q) d = refl
+            go (block (binaryGroup g a b) m) (isBinary l l′ q) d = absurd (omega arith)
+
+        abbrev ofBoth : (a b : Bool → Option ℕ) → Bool → Option ℕ
+        ofBoth a b d = refusalBinary (binaryKind (eqb k 4)) d a b
+
+        pub binary-refused : {r b c : Bool → Option ℕ} → 4 ≤ k → b ≡ ofTree (unpack (part mid (length bs) bs)) → c ≡ ofBoth a b → r ≡ turnedBy (fromBits 32 m) c → r ≡ ofTree (unpack bs)
+        unfolding refusalBody
+        binary-refused {r} {b} {c} h p′ w q = body-refused (w ∙ ap₂ ofBoth first-refused second-refused ∙ fun-ext (λ d. go n kind-shape d)) q
+          where
+            second-refused : b ≡ ofTree (secondList n)
+            second-refused = p′ ∙ ap ofTree (l .unpacksSecond n (g .isNode))
+
+            go : {m : ℤ} (n : Node Leaf) → Shape k m n → (d : Bool) → ofBoth (ofTree (firstList n)) (ofTree (secondList n)) d ≡ refusalBody d (bodyOf n)
+            go (leaf x) (isLeaf l) d = absurd (omega (arith, low))
+            go (block (group g a) m) (isGroup l q) d = absurd (omega arith)
+            go (block (binaryGroup g a b) m) (isBinary l l′ q) d = rw q
+
+-- The loop: what was met, and then what is left, is the whole.
 first-assoc : (p q r : Option ℕ) → first (first p q) r ≡ first p (first q r)
 first-assoc none q r = refl
 first-assoc (some p) q r = refl
 
-join-assoc : (a b c : counting.Summary) → joinSummary (joinSummary a b) c ≡ joinSummary a (joinSummary b c)
-join-assoc a b c = same (omega arith) (first-assoc (a .refuses false) _ _) (sym (first-assoc (c .refuses true) _ _))
+order-assoc : (d : Bool) (p q r : Option ℕ) → firstInOrder d (firstInOrder d p q) r ≡ firstInOrder d p (firstInOrder d q r)
+order-assoc false p q r = first-assoc p q r
+order-assoc true p q r = sym (first-assoc r q p)
 
-pub record Visiting (tree t : List ℕ) (sum : Summary) : Type 0 where
+pub record Visiting (tree t : List ℕ) (met : Refusals) : Type 0 where
   pub packed : Packed t
   pub shorter : length t ≤ length tree
-  pub held : Held sum
-  pub joined : joinSummary (summary sum) (visit (unpack t)) ≡ visit (unpack tree)
+  pub joined : after (refuses met) (ofTree (unpack t)) ≡ ofTree (unpack tree)
 
-pub visiting-starts : (tree : List ℕ) → Packed tree → Visiting tree tree (record { steps = 0; forward = 0; backward = 0 })
-visiting-starts tree p = record { packed = p; shorter = omega arith; held = record { most = omega arith }; joined = rw (visit-is (unpack tree)) (same (omega arith) refl (first-none _)) }
+pub visiting-starts : (tree : List ℕ) → Packed tree → Visiting tree tree (record { forward = 0; backward = 0 })
+visiting-starts tree p = record { packed = p; shorter = omega arith; joined = either-way refl (first-none (firstRefusal true (unpack tree))) }
 
-pub visiting-goes-on : (tree t : List ℕ) (sum one next : Summary) (e : ℕ) → Visiting tree t sum → (f : FirstNode t e) →
-    summary one ≡ visitNode (f .node) → summary next ≡ joinSummary (summary sum) (summary one) → Visiting tree (part e (length t) t) next
-unfolding visit
-visiting-goes-on tree t sum one next e v f p q =
+pub visiting-goes-on : (tree t : List ℕ) (met one next : Refusals) (e : ℕ) → Visiting tree t met → (f : FirstNode t e) →
+    refuses one ≡ ofNode (f .node) → refuses next ≡ after (refuses met) (refuses one) → Visiting tree (part e (length t) t) next
+unfolding firstRefusal
+visiting-goes-on tree t met one next e v f p q =
     record {
       packed = f .packedRest;
       shorter = omega (arith, part-length e (length t) t, v .shorter);
-      held = let h = ap (λ (z : counting.Summary). z .steps) q in record { most = omega arith };
       joined =
-          ap (λ (z : counting.Summary). joinSummary z (visit (unpack (part e (length t) t)))) (q ∙ ap (joinSummary (summary sum)) p)
-          ∙ join-assoc (summary sum) (visitNode (f .node)) (visit (unpack (part e (length t) t)))
-          ∙ ap (λ (u : Tree). joinSummary (summary sum) (visit u)) (sym (f .unpacks))
+          ap (λ (r : Bool → Option ℕ). after r left) (q ∙ ap (after (refuses met)) p)
+          ∙ fun-ext (λ d. order-assoc d (refuses met d) (refusalNode d (f .node)) (left d))
+          ∙ ap (λ (u : Tree). after (refuses met) (ofTree u)) (sym (f .unpacks))
           ∙ v .joined;
     }
+  where
+    left : Bool → Option ℕ
+    left = ofTree (unpack (part e (length t) t))
 
-pub visited : (tree t : List ℕ) (sum : Summary) → Visiting tree t sum → length t ≤ 0 → summary sum ≡ visit (unpack tree)
-unfolding visit
-visited tree t sum v h =
-    sym (ap (λ (u : Tree). joinSummary (summary sum) (visit u)) (no-node t (v .packed) (omega arith))
-    ∙ same (omega (arith, v .held .most)) (first-none _) refl)
-    ∙ v .joined
+pub visited : (tree t : List ℕ) (met : Refusals) → Visiting tree t met → length t ≤ 0 → refuses met ≡ ofTree (unpack tree)
+unfolding firstRefusal
+visited tree t met v h = sym (ap (λ (u : Tree). after (refuses met) (ofTree u)) (no-node t (v .packed) (omega arith)) ∙ either-way (first-none _) refl) ∙ v .joined

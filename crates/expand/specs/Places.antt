@@ -11,7 +11,7 @@ use Rattle.notation.specs.Packed.{RECORD, leafRecord, unpack}
 use Rattle.notation.specs.Invert.{undo}
 use Rattle.record.specs.Meaning.{field}
 use Rattle.laws.proofs.Walking.{Packed}
-use Rattle.laws.proofs.Counting.{countNode, count}
+use Rattle.notation.specs.Counts.{countNode, count}
 use Rattle.laws.proofs.Seeking.{seekNode, seek}
 use Rattle.nodes.specs.Nodes.{IsNode, part}
 use Rattle.expand.specs.declared.seek.Way.{Way}

@@ -7,7 +7,7 @@ use lib.IntN.{ℤ, natAbs}
 use lib.ListN.{length, take, drop}
 use Rattle.notation.specs.Basics.{pick}
 use Rattle.notation.specs.Tree.{Leaf, rotation, move, pause, pair, slash, megaminx, Node}
-use Rattle.notation.specs.Packed.{RECORD, record25, headAt, unpack}
+use Rattle.notation.specs.Packed.{RECORD, headRecord, headAt, unpack}
 use Rattle.notation.specs.Entries.{records}
 use Rattle.notation.specs.Invert.{undo}
 use Rattle.notation.specs.Unroll.{copies, turned}
@@ -15,7 +15,7 @@ use Rattle.record.specs.Meaning.{field}
 use Rattle.record.specs.Range.{FitsFamily, FitsConstraints, FitsLayers, FitsLeaf}
 use Rattle.record.specs.Undone.{undoneHead}
 use Rattle.laws.proofs.Unrolling.{backwards, flatBinary, flat}
-use Rattle.laws.proofs.Counting.{countBinary}
+use Rattle.notation.specs.Counts.{countBinary}
 use Rattle.nodes.specs.Nodes.{IsNode}
 use Rattle.expand.specs.Meaning.{binaryKind}
 
@@ -86,4 +86,4 @@ abbrev pub lastOf : List ℕ → List ℕ
 lastOf bs = drop (length bs - RECORD) bs
 
 abbrev pub undoneRecord : List ℕ → List ℕ
-undoneRecord bs = record25 (undoneHead (headAt bs))
+undoneRecord bs = headRecord (undoneHead (headAt bs))

@@ -2,7 +2,7 @@
 ghost use mathlib.Core.Path.{_≡_};
 ghost use mathlib.Core.Bool.{false};
 ghost use mathlib.Core.List.{_++_};
-ghost use Prim.Native.Nat.{ℕ, _+_, _-_, _*_, _≤_};
+ghost use Prim.Native.Nat.{ℕ, _+_, _-_, _*_, _≤_, _<_};
 ghost use lib.IntN.{natAbs};
 ghost use lib.ListN.{length, take, drop};
 ghost use Rattle.notation.specs.Invert.{undo};
@@ -13,7 +13,7 @@ ghost use Rattle.notation.specs.Unroll.{copies};
 ghost use Rattle.record.specs.Undone.{StartsRecord};
 ghost use Rattle.laws.proofs.Walking.{Packed};
 ghost use Rattle.laws.proofs.Unrolling.{backwards, flat};
-ghost use Rattle.laws.proofs.Counting.{count};
+ghost use Rattle.notation.specs.Counts.{count};
 ghost use Rattle.nodes.specs.Nodes.{part};
 ghost use Rattle.expand.specs.Steps.{held, Holds, Wrote, IsGroup, completed, repeats, Pair, Room, lastOf, undoneRecord};
 use nodes::first_end;
@@ -42,25 +42,26 @@ pub fn flatten(tree: &[u8], out: &mut [u8]) -> usize
             t = &t[RECORD..];
         } else {
             let end = node_end(t);
-            let size = flatten_node(&t[0..end], &mut out[at..]);
-            at += size;
+            // What counts 0 is passed over.
+            if fields::count(t) != 0 {
+                let size = flatten_node(&t[0..end], &mut out[at..]);
+                at += size;
+            }
             t = &t[end..];
         }
     }
     at
 }
 
-// The same of a group, given its bytes. What is repeated 0 times is not entered.
+// The same of a group, given its bytes, that has steps.
 fn flatten_node(node: &[u8], out: &mut [u8]) -> usize
     requires { ⌜ IsGroup (now node) ⌝ }
+    requires { ⌜ 0 < count (unpack (now node)) ⌝ }
     requires { ⌜ recordSize * count (unpack (now node)) ≤ length (now out) ⌝ }
     ensures { λ r. ⌜ Wrote (now (out .entry)) (now (out .exit)) (flat undo false (unpack (now (node .entry)))) r ⌝ }
 {
     let kind = fields::kind(node);
     let multiplier = fields::number(node);
-    if multiplier == 0 {
-        return 0;
-    }
     let middle = first_end(node);
     let a = flatten(&node[RECORD..middle], out);
     if kind < kinds::COMMUTATOR {

@@ -1,5 +1,5 @@
-// The step at a place of the unrolled list, found by passing over whole nodes and whole repeats by their counts: the time
-// does not depend on the number of steps.
+// The step at a place of the unrolled list, found by passing over whole nodes by the counts that they store, and over whole repeats:
+// the time depends neither on the number of steps nor on what is passed.
 ghost use mathlib.Core.Path.{_≡_};
 ghost use mathlib.Core.Bool.{false};
 ghost use mathlib.Core.List.{_++_};
@@ -12,12 +12,11 @@ ghost use Rattle.notation.specs.Invert.{undo};
 ghost use Rattle.notation.specs.Packed.{RECORD as recordSize, leafRecord, unpack};
 ghost use Rattle.notation.specs.declared.common.BinaryGroupKind.the-variants as binary;
 ghost use Rattle.laws.proofs.Walking.{Packed};
-ghost use Rattle.laws.proofs.Counting.{count};
+ghost use Rattle.notation.specs.Counts.{count};
 ghost use Rattle.laws.proofs.Seeking as seeking;
 ghost use Rattle.expand.specs.Places.{undoIf, found, Within, Goes, Leads, Onward};
 ghost use Rattle.expand.specs.Steps.{Undoable};
-use crate::visit::visit;
-use crate::visit::visit_node;
+use crate::count::count;
 use bytes::copy;
 use nodes::first_end;
 use nodes::node_end;
@@ -54,30 +53,24 @@ pub fn seek(tree: &[u8], place: u64, step: &mut [u8])
     let mut at = place;
     let mut inverted = false;
     loop {
-        // A leaf is one step.
-        if kinds::CONJUGATE < fields::kind(t) {
-            if at == 0 {
+        let steps = fields::count(t);
+        let end = node_end(t);
+        if steps <= at {
+            at -= steps;
+            t = &t[end..];
+        } else {
+            // A leaf is one step.
+            if kinds::CONJUGATE < fields::kind(t) {
                 write_step(&t[0..RECORD], inverted, step);
                 return;
             }
-            at -= 1;
-            t = &t[RECORD..];
-        } else {
-            let end = node_end(t);
             let node = &t[0..end];
-            let summary = visit_node(node);
-            let steps = summary.steps;
-            if steps <= at {
-                at -= steps;
-                t = &t[end..];
-            } else {
-                let way = in_block(node, steps, at);
-                let from = way.from;
-                let to = way.to;
-                at = way.place;
-                inverted = differ(inverted, way.inverted);
-                t = &node[from..to];
-            }
+            let way = in_block(node, steps, at);
+            let from = way.from;
+            let to = way.to;
+            at = way.place;
+            inverted = differ(inverted, way.inverted);
+            t = &node[from..to];
         }
     }
 }
@@ -109,23 +102,22 @@ fn in_block(node: &[u8], steps: u64, at: u64) -> Way
     ensures { λ r. ⌜ ((n : Node Leaf) → Within (now (node .entry)) steps at n → Onward (now (node .entry)) n at r) ⌝ }
 {
     let multiplier = fields::number(node);
-    let count = steps / (magnitude(multiplier) as u64);
-    let place = at % count;
+    let once = steps / (magnitude(multiplier) as u64);
+    let place = at % once;
     let inverted = is_negative(multiplier);
     let middle = first_end(node);
     let kind = fields::kind(node);
     if kind < kinds::COMMUTATOR {
-        let whole = List { from: RECORD, to: middle, count };
+        let whole = List { from: RECORD, to: middle, count: once };
         return in_list(whole, place, inverted);
     }
-    let inside = visit(&node[RECORD..middle]);
-    let a = inside.steps;
+    let a = count(&node[RECORD..middle]);
     let first = List { from: RECORD, to: middle, count: a };
     if kind == kinds::CONJUGATE {
-        let second = List { from: middle, to: node.len(), count: count - 2 * a };
+        let second = List { from: middle, to: node.len(), count: once - 2 * a };
         return in_conjugate(first, second, place, inverted);
     }
-    let second = List { from: middle, to: node.len(), count: count / 2 - a };
+    let second = List { from: middle, to: node.len(), count: once / 2 - a };
     if inverted {
         return in_commutator(second, first, place);
     }

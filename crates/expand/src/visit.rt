@@ -1,78 +1,81 @@
-// One visit of each record tells how many steps a tree unrolls into and the first refusal met in each direction.
+// One visit of each record that is reached tells the first refusal met in each direction.
 ghost use mathlib.Core.Path.{_≡_};
-ghost use Prim.Native.Nat.{_/_, _≤_, min};
+ghost use mathlib.Core.Bool.{Bool};
+ghost use Prim.Native.Nat.{_≤_};
 ghost use lib.ListN.{length};
-ghost use Rattle.notation.specs.Tree.{Node, Leaf};
 ghost use Rattle.notation.specs.Numbers.{fromBits};
+ghost use Rattle.notation.specs.Unroll.{turned as turnedBy};
 ghost use Rattle.notation.specs.Packed.{RECORD as recordSize, unpack};
-ghost use Rattle.record.specs.Meaning.{field};
 ghost use Rattle.laws.proofs.Walking.{Packed};
 ghost use Rattle.laws.proofs.Unrolling as unrolling;
-ghost use Rattle.laws.proofs.Counting as counting;
-ghost use Rattle.nodes.specs.Nodes.{IsNode};
-ghost use Rattle.expand.specs.Meaning.{told, summary, Held, leafSum, overflowsAt, binaryKind};
+ghost use Rattle.expand.specs.Meaning.{told, refuses, leafRefuses, overflowsAt, binaryKind};
+ghost use Rattle.expand.specs.Steps.{IsGroup};
 use nodes::first_end;
 use nodes::node_end;
 use notation::refusals::NISS;
 use notation::refusals::OVERFLOW;
 use numbers::signed::is_negative;
-use numbers::signed::magnitude;
 use record::RECORD;
 use record::fields;
 use record::kinds;
 
-// One more than the most steps that are counted: a count that reaches it is held there.
-const HELD: u64 = 4294967296;
-
-pub struct Summary {
-    pub steps: u64,
-    // The first refusal that unrolling meets, or 0.
+pub struct Refusals {
+    // The first that unrolling meets, or 0.
     pub forward: u8,
     // The first that unrolling the inverse meets.
     pub backward: u8,
 }
 
-// Sums up a tree.
-pub fn visit(tree: &[u8]) -> Summary
+const NONE: Refusals = Refusals {
+    forward: 0,
+    backward: 0,
+};
+
+// Of a tree.
+pub fn visit(tree: &[u8]) -> Refusals
     requires { ⌜ Packed (now tree) ⌝ }
-    ensures { λ r. ⌜ summary r ≡ counting.visit (unpack (now (tree .entry))) ⌝ }
+    ensures { λ r. ⌜ refuses r ≡ (λ (d : Bool). unrolling.firstRefusal d (unpack (now (tree .entry)))) ⌝ }
 {
     let mut t = tree;
-    let mut sum = Summary {
-        steps: 0,
-        forward: 0,
-        backward: 0,
-    };
+    let mut met = NONE;
     while 0 < t.len() {
-        // A leaf, which most nodes are, is one record: its counts need not be read.
+        // A leaf, which most nodes are, is one record: the sizes of its lists need not be read.
         if kinds::CONJUGATE < fields::kind(t) {
-            sum = join(sum, of_leaf(overflows(t)));
+            met = join(met, of_leaf(overflows(t)));
             t = &t[RECORD..];
         } else {
             let end = node_end(t);
             let first = visit_node(&t[0..end]);
-            sum = join(sum, first);
+            met = join(met, first);
             t = &t[end..];
         }
     }
-    sum
+    met
 }
 
-// Sums up a group, given its bytes.
-pub(crate) fn visit_node(node: &[u8]) -> Summary
-    requires { ⌜ ((n : Node Leaf) × IsNode (now node) n) ⌝ }
-    requires { ⌜ field 0 (now node) / 16 ≤ 5 ⌝ }
-    ensures { λ r. ⌜ ((n : Node Leaf) → IsNode (now (node .entry)) n → summary r ≡ counting.visitNode n) ⌝ }
+// Of a group, given its bytes. A NISS group is refused even at multiplier 0; what is repeated 0 times is never reached.
+fn visit_node(node: &[u8]) -> Refusals
+    requires { ⌜ IsGroup (now node) ⌝ }
+    ensures { λ r. ⌜ refuses r ≡ (λ (d : Bool). unrolling.firstRefusal d (unpack (now (node .entry)))) ⌝ }
 {
     let kind = fields::kind(node);
+    if kind == kinds::NISS {
+        return Refusals {
+            forward: NISS,
+            backward: NISS,
+        };
+    }
     let multiplier = fields::number(node);
+    if multiplier == 0 {
+        return NONE;
+    }
     let middle = first_end(node);
     let a = visit(&node[RECORD..middle]);
     if kind < kinds::COMMUTATOR {
-        return of_block(kind == kinds::NISS, multiplier, a);
+        return turned(multiplier, a);
     }
     let b = visit(&node[middle..]);
-    of_block(false, multiplier, of_binary(kind == kinds::COMMUTATOR, a, b))
+    turned(multiplier, of_binary(kind == kinds::COMMUTATOR, a, b))
 }
 
 // A pair with −2147483648, which has no negative in 32 bits.
@@ -84,21 +87,14 @@ fn overflows(node: &[u8]) -> bool
         && (fields::number(node) == 2147483648 || fields::other(node) == 2147483648)
 }
 
-fn of_leaf(overflows: bool) -> Summary
-    ensures { λ r. ⌜ summary r ≡ leafSum overflows ⌝ }
+fn of_leaf(overflows: bool) -> Refusals
+    ensures { λ r. ⌜ refuses r ≡ leafRefuses overflows ⌝ }
 {
     let backward = if overflows { OVERFLOW } else { 0 };
-    Summary {
-        steps: 1,
+    Refusals {
         forward: 0,
         backward,
     }
-}
-
-fn hold(n: u64) -> u64
-    ensures { λ r. ⌜ r ≡ min n 4294967296 ⌝ }
-{
-    if n < HELD { n } else { HELD }
 }
 
 fn first(a: u8, b: u8) -> u8
@@ -108,67 +104,40 @@ fn first(a: u8, b: u8) -> u8
 }
 
 // Of one list after another.
-fn join(a: Summary, b: Summary) -> Summary
-    requires { ⌜ Held a × Held b ⌝ }
-    ensures { λ r. ⌜ summary r ≡ counting.joinSummary (summary a) (summary b) ⌝ }
+fn join(a: Refusals, b: Refusals) -> Refusals
+    ensures { λ r. ⌜ refuses r ≡ (λ (d : Bool). unrolling.firstInOrder d (refuses a d) (refuses b d)) ⌝ }
 {
-    Summary {
-        steps: hold(a.steps + b.steps),
+    Refusals {
         forward: first(a.forward, b.forward),
         backward: first(b.backward, a.backward),
     }
 }
 
 // Of a commutator or a conjugate, by its two lists.
-fn of_binary(commutator: bool, a: Summary, b: Summary) -> Summary
-    requires { ⌜ Held a × Held b ⌝ }
-    ensures { λ r. ⌜ summary r ≡ counting.binarySummary (binaryKind commutator) (summary a) (summary b) ⌝ }
+fn of_binary(commutator: bool, a: Refusals, b: Refusals) -> Refusals
+    ensures { λ r. ⌜ refuses r ≡ (λ (d : Bool). unrolling.refusalBinary (binaryKind commutator) d (refuses a) (refuses b)) ⌝ }
 {
     if commutator {
-        return Summary {
-            steps: hold(2 * (a.steps + b.steps)),
+        return Refusals {
             forward: first(a.forward, first(b.forward, first(a.backward, b.backward))),
             backward: first(b.forward, first(a.forward, first(b.backward, a.backward))),
         };
     }
-    Summary {
-        steps: hold(2 * a.steps + b.steps),
+    Refusals {
         forward: first(a.forward, first(b.forward, a.backward)),
         backward: first(a.forward, first(b.backward, a.backward)),
     }
 }
 
-// Of a group, by what is inside it. A NISS group is refused even at multiplier 0.
-fn of_block(niss: bool, multiplier: u32, inside: Summary) -> Summary
-    requires { ⌜ Held inside ⌝ }
-    ensures { λ r. ⌜ summary r ≡ counting.blockSummary niss (fromBits 32 multiplier) (summary inside) ⌝ }
+// Of contents that a negative multiplier turns round.
+fn turned(multiplier: u32, inside: Refusals) -> Refusals
+    ensures { λ r. ⌜ refuses r ≡ (λ (d : Bool). refuses inside (turnedBy (fromBits 32 multiplier) d)) ⌝ }
 {
-    let times = magnitude(multiplier);
-    let steps = hold(times as u64 * inside.steps);
-    if niss {
-        return Summary {
-            steps,
-            forward: NISS,
-            backward: NISS,
-        };
-    }
-    if times == 0 {
-        return Summary {
-            steps,
-            forward: 0,
-            backward: 0,
-        };
-    }
     if is_negative(multiplier) {
-        return Summary {
-            steps,
+        return Refusals {
             forward: inside.backward,
             backward: inside.forward,
         };
     }
-    Summary {
-        steps,
-        forward: inside.forward,
-        backward: inside.backward,
-    }
+    inside
 }

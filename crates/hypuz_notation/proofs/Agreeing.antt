@@ -19,7 +19,7 @@ use Rattle.notation.specs.Entries.{
 use Rattle.notation.specs.Demands.{Gives, Agrees, Demand3, printedInverse, treeBack}
 use Rattle.notation.specs.declared.features.Features.{Features}
 use Rattle.notation.specs.declared.answer.Answer.{Answer}
-use Rattle.record.proofs.RoundTrip.{length-record25}
+use Rattle.record.proofs.RoundTrip.{length-headRecord}
 use Rattle.laws.proofs.DemandThree.{theorem}
 use Rattle.hypuz_notation.specs.declared.agreement.Agreement.{Agreement}
 use Rattle.hypuz_notation.specs.Agreement.{Buffers, front, Found, Run, Assumed, Demanded, Agreed}
@@ -117,8 +117,8 @@ module _ {f : Features} {text : List ℕ} {k : ℕ} {r : Agreement} {before afte
   found : (x : Leaf) (answer : Answer) (buffer buffer′ : List ℕ) {entry : List ℕ → Lent ℕ} → lent answer buffer′ ≡ entry buffer →
       Gives entry (leafRecord x) → Found x answer buffer buffer′
   found x answer buffer buffer′ e h room =
-      e ∙ h buffer (omega (arith, length-record25 (leafHead x)))
-      ∙ ap (λ (n : ℕ). record { answer = result n; buffer = leafRecord x ++ drop n buffer }) (length-record25 (leafHead x))
+      e ∙ h buffer (omega (arith, length-headRecord (leafHead x)))
+      ∙ ap (λ (n : ℕ). record { answer = result n; buffer = leafRecord x ++ drop n buffer }) (length-headRecord (leafHead x))
 
   pub demanded : Demanded text list k r before after
   demanded =

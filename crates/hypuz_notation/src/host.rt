@@ -50,7 +50,7 @@ pub extern "C" fn hypuz_count_steps(text: &[u8], tree: &[u8]) -> u64
     code(count_steps(text, tree))
 }
 
-// 25, the record of the step at a place written.
+// The size of a record, that of the step at a place written.
 #[no_mangle]
 pub extern "C" fn hypuz_seek_step(text: &[u8], tree: &[u8], place: u64, step: &mut [u8]) -> u64
     ensures { λ r. ⌜ Hands r (now (step .exit)) (rule.seekStep (now (text .entry)) (now (tree .entry)) place (now (step .entry))) ⌝ }

@@ -1,4 +1,4 @@
--- A commutator's lists exchanged: three parts copied, then the two counts of its record written. Assumes nothing.
+-- A commutator's lists exchanged: three parts copied, then the sizes of both written into its record. Assumes nothing.
 use Prim.Native.Nat.{ℕ, _+_, _-_, _/_, _≤_}
 use mathlib.Core.Path.{_≡_, sym, ap, ap₂, _∙_}
 use mathlib.Core.List.{List, _++_, append-nil, append-assoc}
@@ -6,12 +6,14 @@ use native.Mathlib.Omega.{arith}
 use lib.ListN.{length, take, drop, length-append, length-drop}
 use lib.Seq.{take-at, length-take-le}
 use Rattle.notation.specs.Tree.{Leaf, Node, leaf, block, group, binaryGroup, append, Tree}
-use Rattle.notation.specs.Packed.{RECORD, binaryHead, record25, size, packNode, packBody, pack, unpack}
+use Rattle.notation.specs.Packed.{RECORD, binaryHead, headRecord, size, bodyHead, packNode, packBody, pack, unpack}
+use Rattle.notation.specs.Counts.{hold, stored}
 use Rattle.notation.specs.declared.common.BinaryGroupKind.the-variants.{Commutator, Conjugate}
 use Rattle.record.specs.Meaning.{field, withLists}
 use Rattle.record.proofs.Copying.{copied-whole}
 use Rattle.record.proofs.Storing.{lists-set}
 use Rattle.laws.proofs.Inverses.{deeply, deeplyNode, deeplyBody}
+use Rattle.laws.proofs.WellFormedInverses.{deeplyNode-count}
 use Rattle.nodes.specs.Nodes.{IsNode, part, Lists}
 use Rattle.nodes.proofs.Nodes.{length-part, node-room, fields-of, alone, kind-of, leaf-kind, group-kind}
 use Rattle.invert.proofs.Nodes.{record-is, list-is}
@@ -29,7 +31,7 @@ three-parts out a b c p k h ea eb out₂ e =
     let long : k ≤ length out₂ = omega (arith, ap length second ∙ length-append (a ++ b) tail, length-append a b) in
     put-last k out₂ c long ∙ ap (λ (s : List ℕ). s ++ c) front ∙ append-assoc a b c
 
--- the parts in their new order, and the counts exchanged in the record
+-- the parts in their new order, and their sizes exchanged in the record
 exchanged : (n : Node Leaf) {bs : List ℕ} {m : ℕ} → IsNode bs n → field 0 bs / 16 ≡ 4 → Lists bs m → (c c′ : ℕ) → c ≡ field 1 bs → c′ ≡ field 2 bs
     → withLists c′ c (take RECORD bs ++ (part m (length bs) bs ++ part RECORD m bs)) ≡ pack (deeply (unpack bs))
 unfolding packNode packBody pack deeply deeplyNode deeplyBody append
@@ -40,11 +42,12 @@ exchanged (block (binaryGroup Commutator a b) m) {bs} s kind l c c′ ec ec′ =
     rw (ec ∙ fields-of s 1, ec′ ∙ fields-of s 2)
     (ap₂ (λ (x y : List ℕ). withLists (size b) (size a) (x ++ y)) (record-is s)
     (ap₂ (λ (x y : List ℕ). x ++ y) (list-is (l .packedSecond) (l .unpacksSecond _ s)) (list-is (l .packedFirst) (l .unpacksFirst _ s)))
-    ∙ lists-set Commutator (size a) (size b) (size b) (size a) m (pack b ++ pack a)
-    ∙ sym (append-nil (record25 (binaryHead Commutator (size b) (size a) m) ++ (pack b ++ pack a)))
+    ∙ lists-set Commutator (size a) (size b) (size b) (size a) m (stored (block (binaryGroup Commutator a b) m)) (pack b ++ pack a)
+    ∙ ap (λ (z : ℕ). headRecord (binaryHead Commutator (size b) (size a) m (hold z)) ++ (pack b ++ pack a)) (sym (deeplyNode-count (block (binaryGroup Commutator a b) m)))
+    ∙ sym (append-nil (headRecord (bodyHead (binaryGroup Commutator b a) m) ++ (pack b ++ pack a)))
     ∙ sym (ap (λ (t : Tree). pack (deeply t)) (alone s)))
 
--- The three copies and the two counts, as the code makes them: each part is as long as its place.
+-- The three copies and the two sizes, as the code makes them: each part is as long as its place.
 module _ {bs : List ℕ} {n : Node Leaf} {m : ℕ} (s : IsNode bs n) (kind : field 0 bs / 16 ≡ 4) (l : Lists bs m) (out : List ℕ) (long : length out ≡ length bs) where
   abbrev k : ℕ
   k = RECORD + (length bs - m)

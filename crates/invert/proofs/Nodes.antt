@@ -10,17 +10,18 @@ use lib.ListN.{length, take}
 use lib.Seq.{take-at, take-add}
 use Rattle.notation.specs.Refusals.{NISS}
 use Rattle.notation.specs.Tree.{Leaf, Node, leaf, block, Body, group, binaryGroup, append, Tree}
-use Rattle.notation.specs.Packed.{RECORD, Head, groupHead, binaryHead, record25, groupNumber, size, bodyHead, packNode, packBody, pack, headAt, unpack}
+use Rattle.notation.specs.Packed.{RECORD, Head, groupHead, binaryHead, headRecord, groupNumber, size, bodyHead, packNode, packBody, pack, headAt, unpack}
+use Rattle.notation.specs.Counts.{hold, stored}
 use Rattle.notation.specs.declared.common.GroupKind.{GroupKind}
 use Rattle.notation.specs.declared.common.GroupKind.the-variants.{Simple, Macro, Simultaneous, Niss}
 use Rattle.notation.specs.declared.common.BinaryGroupKind.the-variants.{Commutator, Conjugate}
 use Rattle.record.specs.Meaning.{field}
 use Rattle.record.specs.Undone.{StartsRecord, undoneHead}
-use Rattle.record.proofs.RoundTrip.{length-record25}
+use Rattle.record.proofs.RoundTrip.{length-headRecord}
 use Rattle.record.proofs.Undoing.{Undone, starts-with, undone-with}
 use Rattle.laws.proofs.Walking.{Packed, nodeHead, inside, node-bytes, node-head-fits, nodeEnd, one-list}
 use Rattle.laws.proofs.Inverses.{inverted, deeply, deeplyNode, deeplyBody, deepRefusal, deepRefusalNode, deepRefusalBody, nissFirst}
-use Rattle.laws.proofs.WellFormedInverses.{deeply-size}
+use Rattle.laws.proofs.WellFormedInverses.{deeply-size, node-count, deeplyNode-count}
 use Rattle.nodes.specs.Nodes.{IsNode, part, Lists}
 use Rattle.nodes.proofs.Nodes.{part-rest, first-of, node-room, node-head, alone, kind-of, leaf-kind, group-kind, binary-kind}
 use Rattle.invert.specs.Nodes.{headRefusal, Inner}
@@ -32,29 +33,29 @@ packed-starts bs p h =
     let n = f .node in
     let rest = pack (unpack (part (nodeEnd bs) (length bs) bs)) in
     starts-with bs (nodeHead n) (inside n ++ rest) (node-head-fits n (f .isNode .fits))
-    (sym (p .whole) ∙ ap pack (f .unpacks) ∙ ap (λ (s : List ℕ). s ++ rest) (node-bytes n) ∙ append-assoc (record25 (nodeHead n)) (inside n) rest)
+    (sym (p .whole) ∙ ap pack (f .unpacks) ∙ ap (λ (s : List ℕ). s ++ rest) (node-bytes n) ∙ append-assoc (headRecord (nodeHead n)) (inside n) rest)
 
 undone-body : (b : Body Leaf) (m : ℤ) → undoneHead (bodyHead b m) ≡ bodyHead b (negℤ m)
-undone-body (group k a) m = refl
-undone-body (binaryGroup k a b) m = refl
+undone-body (group k a) m = ap (groupHead k (size a) (negℤ m)) (ap hold (sym (node-count (block (group k a) m))))
+undone-body (binaryGroup k a b) m = ap (binaryHead k (size a) (size b) (negℤ m)) (ap hold (sym (node-count (block (binaryGroup k a b) m))))
 
-undone-node : (n : Node Leaf) {bs : List ℕ} → IsNode bs n → record25 (undoneHead (nodeHead n)) ++ inside n ≡ pack (inverted (unpack bs))
+undone-node : (n : Node Leaf) {bs : List ℕ} → IsNode bs n → headRecord (undoneHead (nodeHead n)) ++ inside n ≡ pack (inverted (unpack bs))
 unfolding pack packNode inverted append
 undone-node (leaf x) s = sym (ap (λ (t : Tree). pack (inverted t)) (alone s))
 undone-node (block b m) s =
-    ap (λ (h : Head). record25 h ++ packBody b) (undone-body b m)
-    ∙ sym (append-nil (record25 (bodyHead b (negℤ m)) ++ packBody b))
+    ap (λ (h : Head). headRecord h ++ packBody b) (undone-body b m)
+    ∙ sym (append-nil (headRecord (bodyHead b (negℤ m)) ++ packBody b))
     ∙ sym (ap (λ (t : Tree). pack (inverted t)) (alone s))
 
 module _ {bs : List ℕ} {n : Node Leaf} (s : IsNode bs n) where
-  shape : bs ≡ record25 (nodeHead n) ++ inside n
+  shape : bs ≡ headRecord (nodeHead n) ++ inside n
   shape = sym (s .bytes) ∙ node-bytes n
 
   pub node-starts : StartsRecord bs
   node-starts = starts-with bs (nodeHead n) (inside n) (node-head-fits n (s .fits)) shape
 
-  pub record-is : take RECORD bs ≡ record25 (nodeHead n)
-  record-is = ap (take RECORD) shape ∙ take-at (record25 (nodeHead n)) (inside n) RECORD (length-record25 (nodeHead n))
+  pub record-is : take RECORD bs ≡ headRecord (nodeHead n)
+  record-is = ap (take RECORD) shape ∙ take-at (headRecord (nodeHead n)) (inside n) RECORD (length-headRecord (nodeHead n))
 
   -- the node copied, and its first record undone
   pub copy-starts : {copy : List ℕ} → copy ≡ bs → StartsRecord copy
@@ -95,7 +96,7 @@ group-inner (block (binaryGroup Conjugate a b) m) s h n4 n5 = absurd (n5 (kind-o
 group-inner (block (group g a) m) {bs} s h n4 n5 =
     let o = one-list bs g a m (s .fits) (s .bytes) in
     inner-of s (lit≤ tt) (node-room s) (subst Packed (sym (part-rest RECORD bs)) (o .packedList)) (ap unpack (part-rest RECORD bs) ∙ o .unpacksList)
-    (ap (λ (l : List ℕ). l ++ pack (deeply a)) (record-is s ∙ ap (λ (z : ℕ). record25 (groupHead g z m)) (sym (deeply-size a))))
+    (ap (λ (l : List ℕ). l ++ pack (deeply a)) (record-is s ∙ ap₂ (λ (z c : ℕ). headRecord (groupHead g z m c)) (sym (deeply-size a)) (ap hold (sym (deeplyNode-count (block (group g a) m))))))
     (λ n3. not-niss g (deepRefusal a) (λ z. n3 (kind-of s ∙ z)))
 
 pub conjugate-inner : (n : Node Leaf) {bs : List ℕ} {k : ℕ} → IsNode bs n → field 0 bs / 16 ≡ 5 → Lists bs k → Inner bs k
@@ -104,7 +105,7 @@ conjugate-inner (leaf x) s h l = absurd (omega (arith, kind-of s, leaf-kind x .0
 conjugate-inner (block (group g a) m) s h l = absurd (omega (arith, kind-of s, group-kind g))
 conjugate-inner (block (binaryGroup Commutator a b) m) s h l = absurd (omega (arith, kind-of s))
 conjugate-inner (block (binaryGroup Conjugate a b) m) {bs} {k} s h l =
-    let hd = record25 (binaryHead Conjugate (size a) (size b) m) in
+    let hd = headRecord (bodyHead (binaryGroup Conjugate a b) m) in
     let end : k ≡ RECORD + (k - RECORD) = omega (arith, l .least) in
     let front : take k bs ≡ hd ++ pack a =
     ap (λ (j : ℕ). take j bs) end ∙ take-add RECORD (k - RECORD) bs ∙ ap₂ (λ (x y : List ℕ). x ++ y) (record-is s) (list-is (l .packedFirst) (l .unpacksFirst _ s))
@@ -112,7 +113,7 @@ conjugate-inner (block (binaryGroup Conjugate a b) m) {bs} {k} s h l =
     inner-of s (l .least) (l .most) (l .packedSecond) (l .unpacksSecond _ s)
     (ap (λ (x : List ℕ). x ++ pack (deeply b)) front
     ∙ append-assoc hd (pack a) (pack (deeply b))
-    ∙ ap (λ (z : ℕ). record25 (binaryHead Conjugate (size a) z m) ++ (pack a ++ pack (deeply b))) (sym (deeply-size b)))
+    ∙ ap₂ (λ (z c : ℕ). headRecord (binaryHead Conjugate (size a) z m c) ++ (pack a ++ pack (deeply b))) (sym (deeply-size b)) (ap hold (sym (deeplyNode-count (block (binaryGroup Conjugate a b) m)))))
     (λ n3. refl)
 
 -- What one node is refused for.

@@ -43,8 +43,8 @@ module _ (bs : List ℕ) (s : StartsRecord bs) where
       go (leafHead (pair u d)) n = absurd (n refl)
       go (leafHead slash) n = refl
       go (leafHead (megaminx k)) n = refl
-      go (groupHead k n′ m) n = refl
-      go (binaryHead k n′ n″ m) n = refl
+      go (groupHead k n′ m c) n = refl
+      go (binaryHead k n′ n″ m c) n = refl
 
   -- of a pair, by the tests of its two numbers
   pub pair-refusal : field 0 bs / 16 ≡ 9 → (u d : Bool) → isMin (fromBits 32 (field 3 bs)) ≡ u → isMin (fromBits 32 (field 4 bs)) ≡ d

@@ -24,8 +24,8 @@ over (some r) before = r
 
 abbrev pub headRefusal : Head → Option ℕ
 headRefusal (leafHead x) = leafRefusal x
-headRefusal (groupHead k n m) = none
-headRefusal (binaryHead k n n′ m) = none
+headRefusal (groupHead k n m c) = none
+headRefusal (binaryHead k n n′ m c) = none
 
 -- the list that the deep inverse enters in the bytes of a group or a conjugate: from m to their end
 pub record Inner (bs : List ℕ) (m : ℕ) : Type 0 where

@@ -1,7 +1,7 @@
 -- Demand 3 of a text in which no NISS group and no pair with −2147483648 is reached (specs/Reached.antt): it unrolls, and to steps that
 -- can all be undone. Assumes nothing.
 use Prim.Native.Nat.{ℕ, zero, suc, _≤_}
-use mathlib.Core.Path.{_≡_, refl, ap, _∙_}
+use mathlib.Core.Path.{_≡_, refl, sym, ap, _∙_, subst}
 use mathlib.Core.Bool.{Bool, true, false, not}
 use mathlib.Core.List.{List, [], _∷_, _++_}
 use mathlib.Core.Option.{Option}
@@ -20,7 +20,7 @@ use Rattle.notation.specs.declared.features.Features.{Features}
 use Rattle.notation.specs.declared.common.GroupKind.the-variants.{Simple, Macro, Simultaneous, Niss}
 use Rattle.notation.specs.declared.common.BinaryGroupKind.{BinaryGroupKind}
 use Rattle.notation.specs.declared.common.BinaryGroupKind.the-variants.{Commutator, Conjugate}
-use Rattle.laws.proofs.Bools.{and-left, and-right, and-both}
+use Rattle.laws.proofs.Bools.{and-left, and-right, and-both, not-true}
 use Rattle.laws.proofs.Unrolling.{verdict, inOrder, flatBinary, flatNode, flatBody, flat, flatten-is}
 use Rattle.laws.proofs.Reached.{negatable, allIfReached, cleanNode, cleanBody, cleanNodes, clean, clean-walks}
 use Rattle.laws.proofs.Refused.{nonzero}
@@ -111,7 +111,8 @@ mutual
   node-every : (n : Node Leaf) (d : Bool) → cleanNode negatable n ≡ true → nodeFits n ≡ true → every negatable (flatNode undo d n) ≡ true
   node-every (leaf x) d c f = leaf-every x d c f
   node-every (block g m) d c f =
-      copies-every (natAbs m) (flatBody undo (turned m d) g) (cleanBody negatable g) (and-right (not (isNiss g)) _ c) (λ b. body-every g (turned m d) b f)
+      subst (λ (t : Bool). every negatable (copies (pick t 0 (natAbs m)) (flatBody undo (turned m d) g)) ≡ true) (sym (not-true (isNiss g) (and-left _ _ c)))
+      (copies-every (natAbs m) (flatBody undo (turned m d) g) (cleanBody negatable g) (and-right (not (isNiss g)) _ c) (λ b. body-every g (turned m d) b f))
 
   body-every : (g : Body Leaf) (d : Bool) → cleanBody negatable g ≡ true → bodyFits g ≡ true → every negatable (flatBody undo d g) ≡ true
   body-every (group k a) d c f = list-every a d c f

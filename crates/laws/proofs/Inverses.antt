@@ -10,7 +10,8 @@ use Rattle.notation.specs.Basics.{pick}
 use Rattle.notation.specs.Refusals.{Outcome, refusal, result, _>>=_, NISS, OVERFLOW}
 use Rattle.notation.specs.Tree.{Leaf, Node, leaf, block, Body, group, binaryGroup, nil, cons, append, Tree}
 use Rattle.notation.specs.Invert.{undo, undone, overflows, thenLast, asLeaf, invNode, inv, deepGroup, deepBinary, invDeepNode, invDeepBody, invDeep}
-use Rattle.notation.specs.Unroll.{copies, turned}
+use Rattle.notation.specs.Unroll.{copies, turned, isNiss}
+use Rattle.notation.specs.Counts.{times}
 use Rattle.notation.specs.declared.common.GroupKind.{GroupKind}
 use Rattle.notation.specs.declared.common.GroupKind.the-variants.{Simple, Macro, Simultaneous, Niss}
 use Rattle.notation.specs.declared.common.BinaryGroupKind.{BinaryGroupKind}
@@ -76,7 +77,11 @@ pub flatNode-inverted : (n : Node Leaf) (d : Bool) → flatNode undo d (inverted
 unfolding flatNode copies
 flatNode-inverted (leaf x) true = ap (λ (y : Leaf). y ∷ []) (undo-undo x)
 flatNode-inverted (leaf x) false = refl
-flatNode-inverted (block b (pos zero)) d = refl
+flatNode-inverted (block b (pos zero)) d = go (isNiss b)
+  where
+    go : (t : Bool) → copies (pick t 0 0) (flatBody undo d b) ≡ copies (pick t 0 0) (flatBody undo (not d) b)
+    go true = refl
+    go false = refl
 flatNode-inverted (block b (pos (suc n))) d = refl
 flatNode-inverted (block b (negsuc n)) true = refl
 flatNode-inverted (block b (negsuc n)) false = refl
@@ -218,12 +223,22 @@ commutator-exchanged : (d : Bool) (a b : Bool → List Leaf) → flatBinary Comm
 commutator-exchanged true a b = refl
 commutator-exchanged false a b = refl
 
+pub niss-deeply : (b : Body Leaf) → isNiss (deeplyBody b) ≡ isNiss b
+unfolding deeplyBody
+niss-deeply (group Simple a) = refl
+niss-deeply (group Macro a) = refl
+niss-deeply (group Simultaneous a) = refl
+niss-deeply (group Niss a) = refl
+niss-deeply (binaryGroup Commutator a b) = refl
+niss-deeply (binaryGroup Conjugate a b) = refl
+
 mutual
   unfolding deeplyNode deeplyBody deeply flatNode flatBody flat
   flatNode-deeply : (n : Node Leaf) (d : Bool) → flatNode undo d (deeplyNode n) ≡ flatNode undo (not d) n
   flatNode-deeply (leaf x) d = flatNode-inverted (leaf x) d
   flatNode-deeply (block b m) d =
-      ap (copies (natAbs m)) (flatBody-deeply b (turned m d) ∙ ap (λ (e : Bool). flatBody undo e b) (turned-not m d))
+      ap (λ (t : Bool). copies (pick t 0 (natAbs m)) (flatBody undo (turned m d) (deeplyBody b))) (niss-deeply b)
+      ∙ ap (copies (times b m)) (flatBody-deeply b (turned m d) ∙ ap (λ (e : Bool). flatBody undo e b) (turned-not m d))
 
   flatBody-deeply : (b : Body Leaf) (d : Bool) → flatBody undo d (deeplyBody b) ≡ flatBody undo (not d) b
   flatBody-deeply (group k a) d = flat-deeply a d

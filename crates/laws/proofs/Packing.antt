@@ -19,11 +19,11 @@ use Rattle.notation.specs.WellFormed.{
   inside, familyOk, constraintsOk, layersOk, multiplierOk, leafOk, nodeOk, bodyOk, treeOk, depth, wellFormed, MAX-NESTING
 }
 use Rattle.notation.specs.Packed.{
-  RECORD, Head, leafHead, groupHead, binaryHead, record25, nodeSize, bodySize, size, bodyHead, packNode, packBody, pack, headAt, openHead, unpackFrom,
+  RECORD, Head, leafHead, groupHead, binaryHead, headRecord, nodeSize, bodySize, size, bodyHead, packNode, packBody, pack, headAt, openHead, unpackFrom,
   unpack
 }
 use Rattle.record.specs.Range.{FitsSpan, FitsFamily, FitsConstraints, FitsLayers, FitsNumber, FitsLeaf, FitsHead}
-use Rattle.record.proofs.RoundTrip.{length-record25, headAt-record25}
+use Rattle.record.proofs.RoundTrip.{length-headRecord, headAt-headRecord}
 use Rattle.record.proofs.Same.{same-refl, same-eq}
 use Rattle.laws.proofs.Bools.{and-left, and-right}
 use Rattle.laws.proofs.Fits.{familyFits, leafFits, nodeFits, bodyFits, treeFits}
@@ -42,14 +42,14 @@ unfoldable mutual
   FitsTree nil = Unit {0}
   FitsTree (cons n l) = FitsNode n × FitsTree l
 
--- A record takes 25 bytes.
+-- Each record takes as many bytes.
 mutual
   unfolding nodeSize bodySize size packNode packBody pack
   pub length-packNode : (n : Node Leaf) → length (packNode n) ≡ RECORD * nodeSize n
-  length-packNode (leaf x) = length-record25 (leafHead x)
+  length-packNode (leaf x) = length-headRecord (leafHead x)
   length-packNode (block b m) =
-      length-append (record25 (bodyHead b m)) (packBody b)
-      ∙ omega (arith, length-record25 (bodyHead b m), length-packBody b)
+      length-append (headRecord (bodyHead b m)) (packBody b)
+      ∙ omega (arith, length-headRecord (bodyHead b m), length-packBody b)
 
   pub length-packBody : (b : Body Leaf) → length (packBody b) ≡ RECORD * bodySize b
   length-packBody (group k a) = length-pack a
@@ -73,25 +73,25 @@ unpack-step k [] h = absurd (omega arith)
 unpack-step k (b ∷ bs) h = refl
 
 record-step : (k : ℕ) (h : Head) (rest : List ℕ) → FitsHead h →
-    unpackFrom (suc k) (record25 h ++ rest)
+    unpackFrom (suc k) (headRecord h ++ rest)
     ≡ openHead h (λ n. unpackFrom k (take (RECORD * n) rest)) (λ n n′. unpackFrom k (take (RECORD * n′) (drop (RECORD * n) rest))) (λ n. unpackFrom k (drop (RECORD * n) rest))
 record-step k h rest f =
-    unpack-step k (record25 h ++ rest) (rw (length-append (record25 h) rest, length-record25 h) (omega arith))
-    ∙ ap (opened k (record25 h ++ rest)) (headAt-record25 h rest f)
+    unpack-step k (headRecord h ++ rest) (rw (length-append (headRecord h) rest, length-headRecord h) (omega arith))
+    ∙ ap (opened k (headRecord h ++ rest)) (headAt-headRecord h rest f)
     ∙ dropped h
   where
-    past : (n : ℕ) → drop (RECORD + n) (record25 h ++ rest) ≡ drop n rest
-    past n = sym (drop-drop n RECORD (record25 h ++ rest)) ∙ ap (drop n) (drop-at (record25 h) rest RECORD (length-record25 h))
-    dropped : (g : Head) → opened k (record25 h ++ rest) g
+    past : (n : ℕ) → drop (RECORD + n) (headRecord h ++ rest) ≡ drop n rest
+    past n = sym (drop-drop n RECORD (headRecord h ++ rest)) ∙ ap (drop n) (drop-at (headRecord h) rest RECORD (length-headRecord h))
+    dropped : (g : Head) → opened k (headRecord h ++ rest) g
         ≡ openHead g (λ n. unpackFrom k (take (RECORD * n) rest)) (λ n n′. unpackFrom k (take (RECORD * n′) (drop (RECORD * n) rest))) (λ n. unpackFrom k (drop (RECORD * n) rest))
     dropped (leafHead x) = ap (λ (s : List ℕ). cons (leaf x) (unpackFrom k s)) (past 0)
-    dropped (groupHead g n m) =
+    dropped (groupHead g n m c) =
         ap₂ (λ (a b : Tree). cons (block (group g a) m) b)
-        (ap (λ (s : List ℕ). unpackFrom k (take (RECORD * n) s)) (drop-at (record25 h) rest RECORD (length-record25 h)))
+        (ap (λ (s : List ℕ). unpackFrom k (take (RECORD * n) s)) (drop-at (headRecord h) rest RECORD (length-headRecord h)))
         (ap (unpackFrom k) (past (RECORD * n)))
-    dropped (binaryHead g n n′ m) =
-        ap₂ (λ (a b : Tree). cons (block (binaryGroup g a b) m) (unpackFrom k (drop (RECORD + RECORD * (n + n′)) (record25 h ++ rest))))
-        (ap (λ (s : List ℕ). unpackFrom k (take (RECORD * n) s)) (drop-at (record25 h) rest RECORD (length-record25 h)))
+    dropped (binaryHead g n n′ m c) =
+        ap₂ (λ (a b : Tree). cons (block (binaryGroup g a b) m) (unpackFrom k (drop (RECORD + RECORD * (n + n′)) (headRecord h ++ rest))))
+        (ap (λ (s : List ℕ). unpackFrom k (take (RECORD * n) s)) (drop-at (headRecord h) rest RECORD (length-headRecord h)))
         (ap (λ (s : List ℕ). unpackFrom k (take (RECORD * n′) s)) (past (RECORD * n)))
         ∙ ap (λ (s : List ℕ). cons (block (binaryGroup g (unpackFrom k (take (RECORD * n) rest)) (unpackFrom k (take (RECORD * n′) (drop (RECORD * n) rest)))) m) (unpackFrom k s)) (past (RECORD * (n + n′)))
 
@@ -124,15 +124,15 @@ deeper k ih nil f h = unpack-nil (suc k)
 deeper k ih (cons (leaf x) l) f h =
     record-step k (leafHead x) (pack l) (f .0) ∙ ap (cons (leaf x)) (ih l (f .1) (omega arith))
 deeper k ih (cons (block (group g a) m) l) f h =
-    ap (unpackFrom (suc k)) (append-assoc (record25 (groupHead g (size a) m)) (pack a) (pack l))
-    ∙ record-step k (groupHead g (size a) m) (pack a ++ pack l) (f .0 .0)
+    ap (unpackFrom (suc k)) (append-assoc (headRecord (bodyHead (group g a) m)) (pack a) (pack l))
+    ∙ record-step k (bodyHead (group g a) m) (pack a ++ pack l) (f .0 .0)
     ∙ ap₂ (λ (x y : Tree). cons (block (group g x) m) y)
     (ap (unpackFrom k) (front a (pack l)) ∙ ih a (f .0 .1) (omega arith))
     (ap (unpackFrom k) (back a (pack l)) ∙ ih l (f .1) (omega arith))
 deeper k ih (cons (block (binaryGroup g a b) m) l) f h =
-    ap (unpackFrom (suc k)) (append-assoc (record25 (binaryHead g (size a) (size b) m)) (pack a ++ pack b) (pack l)
-      ∙ ap (λ (s : List ℕ). record25 (binaryHead g (size a) (size b) m) ++ s) (append-assoc (pack a) (pack b) (pack l)))
-    ∙ record-step k (binaryHead g (size a) (size b) m) (pack a ++ (pack b ++ pack l)) (f .0 .0)
+    ap (unpackFrom (suc k)) (append-assoc (headRecord (bodyHead (binaryGroup g a b) m)) (pack a ++ pack b) (pack l)
+      ∙ ap (λ (s : List ℕ). headRecord (bodyHead (binaryGroup g a b) m) ++ s) (append-assoc (pack a) (pack b) (pack l)))
+    ∙ record-step k (bodyHead (binaryGroup g a b) m) (pack a ++ (pack b ++ pack l)) (f .0 .0)
     ∙ ap₂ (λ (x y : Tree). cons (block (binaryGroup g x y) m) (unpackFrom k (drop (RECORD * (size a + size b)) (pack a ++ (pack b ++ pack l)))))
     (ap (unpackFrom k) (front a (pack b ++ pack l)) ∙ ih a (f .0 .1 .0) (omega arith))
     (ap (λ (s : List ℕ). unpackFrom k (take (RECORD * size b) s)) (back a (pack b ++ pack l)) ∙ ap (unpackFrom k) (front b (pack l)) ∙ ih b (f .0 .1 .1) (omega arith))
@@ -213,8 +213,8 @@ module _ (text : List ℕ) (short : length text ≤ 65535) where
         (body-head b m (and-left _ _ h) (omega arith), body-fits b (and-right (multiplierOk m) _ h) e (omega arith))
 
     body-head : (b : Body Leaf) (m : ℤ) → multiplierOk m ≡ true → bodySize b < 65536 → FitsHead (bodyHead b m)
-    body-head (group k a) m h z = (z, number-fits m h)
-    body-head (binaryGroup k a b) m h z = (omega arith, omega arith, number-fits m h)
+    body-head (group k a) m h z = (z, number-fits m h, omega arith)
+    body-head (binaryGroup k a b) m h z = (omega arith, omega arith, number-fits m h, omega arith)
 
     body-fits : (b : Body Leaf) → bodyOk text b ≡ true → bodyFits b ≡ true → bodySize b < 65536 → FitsBody b
     body-fits (group k a) h e z = tree-fits a h e z

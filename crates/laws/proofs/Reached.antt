@@ -1,7 +1,7 @@
 -- Which trees unroll in both directions: those in which no NISS group and no pair with −2147483648 is reached.
 -- Assumes nothing.
 use Prim.Native.Nat.{ℕ, zero, suc}
-use mathlib.Core.Path.{_≡_, refl, sym, ap, ap₂, _∙_}
+use mathlib.Core.Path.{_≡_, refl, sym, ap, ap₂, _∙_, subst}
 use mathlib.Core.Bool.{Bool, true, false, not, _&&_}
 use mathlib.Core.List.{List, [], _∷_, _++_}
 use mathlib.Core.Option.{Option, none, some}
@@ -18,7 +18,7 @@ use Rattle.numbers.proofs.TwosComplement.{natAbs-neg}
 use Rattle.laws.proofs.Bools.{and-left, and-right, and-both, not-true, no-some, no-refusal}
 use Rattle.laws.proofs.Unrolling.{
   backwards, verdict, first, ifReached, firstInOrder, inOrder, flatBinary, refusalBinary, flatNode, flatBody, flat, flatten-is,
-  refusalNode, refusalBody, firstRefusal
+  refusalNode, refusalBody, firstRefusal, isNiss-map
 }
 use Rattle.laws.proofs.Inverses.{inverted, invertedNode, invRefusal, inv-is, inverse-unrolls}
 
@@ -166,7 +166,8 @@ mutual
   node-clean (leaf x) d r e = leaf-clean x d r e
   node-clean (block b m) d r e =
       and-both (not (isNiss b)) _ (niss-clean (isNiss b) _ r .0)
-      (reached-clean (natAbs m) (refusalBody (turned m d) b) (flatBody undo (turned m d) b) (cleanBody negatable b) (niss-clean (isNiss b) _ r .1) e
+      (reached-clean (natAbs m) (refusalBody (turned m d) b) (flatBody undo (turned m d) b) (cleanBody negatable b) (niss-clean (isNiss b) _ r .1)
+      (subst (λ (t : Bool). every negatable (copies (pick t 0 (natAbs m)) (flatBody undo (turned m d) b)) ≡ true) (not-true (isNiss b) (niss-clean (isNiss b) _ r .0)) e)
       (λ q h. body-clean b (turned m d) q h))
 
   body-clean : (b : Body Leaf) (d : Bool) → refusalBody d b ≡ none → every negatable (flatBody undo d b) ≡ true → cleanBody negatable b ≡ true
@@ -233,14 +234,6 @@ inverse-flattens t list e h =
     ∙ ap result (inverse-unrolls t ∙ ap backwards (unrolled-list t list e .1))
 
 -- Being clean does not depend on the text.
-isNiss-map : {L M : Type 0} (g : L → M) (b : Body L) → isNiss (mapBody g b) ≡ isNiss b
-unfolding mapBody
-isNiss-map g (group Simple a) = refl
-isNiss-map g (group Macro a) = refl
-isNiss-map g (group Simultaneous a) = refl
-isNiss-map g (group Niss a) = refl
-isNiss-map g (binaryGroup k a b) = refl
-
 module _ {L M : Type 0} (g : L → M) (p : L → Bool) (q : M → Bool) (keeps : (x : L) → q (g x) ≡ p x) where
   mutual
     unfolding cleanNode cleanBody cleanNodes mapNode mapBody mapNodes

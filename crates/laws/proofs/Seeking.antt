@@ -8,18 +8,18 @@ use native.Mathlib.Nat.{mod-eq-of-lt, mod-eq-sub-mod, zero-mul}
 use native.Mathlib.Omega.{arith}
 use borrow.Author.Tests.{ltb-true, ltb-false, le-ltb}
 use lib.Dec.{ltb}
-use lib.IntN.{natAbs}
 use lib.ListN.{length, length-append, getElem?}
 use Rattle.notation.specs.Basics.{pick}
 use Rattle.notation.specs.Tree.{Leaf, Node, leaf, block, Body, group, binaryGroup, nil, cons, Tree}
 use Rattle.notation.specs.Invert.{undo}
 use Rattle.notation.specs.Unroll.{copies, turned}
+use Rattle.notation.specs.Counts.{times, countNode, countBody, count}
 use Rattle.notation.specs.declared.common.BinaryGroupKind.{BinaryGroupKind}
 use Rattle.notation.specs.declared.common.BinaryGroupKind.the-variants.{Commutator, Conjugate}
 use Rattle.notation.proofs.Marked.{length-copies}
 use Rattle.laws.proofs.ListEntries.{get-append-left, get-append-right, get-past}
 use Rattle.laws.proofs.Unrolling.{inOrder, flatBinary, flatNode, flatBody, flat}
-use Rattle.laws.proofs.Counting.{countNode, countBody, count, countBody-is, count-is}
+use Rattle.laws.proofs.Counting.{countBody-is, count-is}
 
 abbrev pub Finder : Type 0
 Finder = ℕ → Option Leaf
@@ -44,7 +44,7 @@ seekOrder true c e f g = parts e g f
 unfoldable mutual
   pub seekNode : Bool → Node Leaf → Finder
   seekNode d (leaf x) k = pick (ltb k 1) (some (pick d (undo x) x)) none
-  seekNode d (block b m) k = inRepeats (natAbs m) (countBody b) (λ j. seekBody (turned m d) b j) k
+  seekNode d (block b m) k = inRepeats (times b m) (countBody b) (λ j. seekBody (turned m d) b j) k
 
   pub seekBody : Bool → Body Leaf → Finder
   seekBody d (group g a) k = seek d a k
@@ -122,7 +122,7 @@ mutual
   seekNode-finds : (n : Node Leaf) (d : Bool) → Finds (flatNode undo d n) (countNode n) (seekNode d n)
   seekNode-finds (leaf x) d = record { long = refl; finds = leaf-found d x }
   seekNode-finds (block b m) d =
-      finds-copies (flatBody undo (turned m d) b) (countBody b) (λ j. seekBody (turned m d) b j) (seekBody-finds b (turned m d)) (natAbs m)
+      finds-copies (flatBody undo (turned m d) b) (countBody b) (λ j. seekBody (turned m d) b j) (seekBody-finds b (turned m d)) (times b m)
 
   seekBody-finds : (b : Body Leaf) (d : Bool) → Finds (flatBody undo d b) (countBody b) (seekBody d b)
   seekBody-finds (group g a) d = seek-finds a d

@@ -11,7 +11,9 @@ use Rattle.notation.specs.Basics.{pick}
 use Rattle.notation.specs.Refusals.{Outcome, refusal, result, _>>=_, NISS, OVERFLOW}
 use Rattle.notation.specs.Tree.{LeafOf, rotation, move, pause, pair, slash, megaminx, Leaf, Node, leaf, block, Body, group, binaryGroup, NodeList, nil, cons, Tree, mapNode, mapBody, mapNodes}
 use Rattle.notation.specs.Invert.{undo, undone, overflows, exchanged}
+use Rattle.notation.specs.Counts.{times}
 use Rattle.notation.specs.Unroll.{Steps, _then_, copies, repeated, turned, flattenBinary, isNiss, inDirection, flattenLeaf, flattenNode, flattenBody, flattenNodes}
+use Rattle.notation.specs.declared.common.GroupKind.the-variants.{Simple, Macro, Simultaneous, Niss}
 use Rattle.notation.specs.declared.common.BinaryGroupKind.{BinaryGroupKind}
 use Rattle.notation.specs.declared.common.BinaryGroupKind.the-variants.{Commutator, Conjugate}
 use Rattle.notation.specs.declared.common.MegaminxScrambleMove.{MegaminxScrambleMove}
@@ -59,7 +61,7 @@ unfolding copies
 copies-backwards zero l = refl
 copies-backwards (suc n) l = rw (backwards-append l (copies n l), copies-backwards n l) (copies-comm n (backwards l))
 
--- The walk without refusals. A step that is undone is undone whatever its numbers.
+-- The walk without refusals. A step that is undone is undone whatever its numbers, and a NISS group gives no steps.
 abbrev pub flatBinary : {L : Type 0} → BinaryGroupKind → Bool → (Bool → List L) → (Bool → List L) → List L
 flatBinary Commutator false a b = a false ++ (b false ++ (a true ++ b true))
 flatBinary Commutator true a b = b false ++ (a false ++ (b true ++ a true))
@@ -72,7 +74,7 @@ inOrder true a b = b ++ a
 unfoldable mutual
   pub flatNode : {L : Type 0} → (L → L) → Bool → Node L → List L
   flatNode undo inverted (leaf x) = pick inverted (undo x) x ∷ []
-  flatNode undo inverted (block b m) = copies (natAbs m) (flatBody undo (turned m inverted) b)
+  flatNode undo inverted (block b m) = copies (times b m) (flatBody undo (turned m inverted) b)
 
   pub flatBody : {L : Type 0} → (L → L) → Bool → Body L → List L
   flatBody undo inverted (group k a) = flat undo inverted a
@@ -161,9 +163,10 @@ binary-verdict Commutator true a b la lb = commutator-verdict b a lb la
 binary-verdict Conjugate d a b la lb =
     chain (a false) (first (b d) (a true)) (la false) (lb d ++ la true) (then-verdict (b d) (a true) (lb d) (la true))
 
-niss-verdict : (t : Bool) (r : Option ℕ) (l : List Leaf) → pick t (refusal NISS) (verdict r l) ≡ verdict (pick t (some NISS) r) l
-niss-verdict true r l = refl
-niss-verdict false r l = refl
+niss-verdict : (t : Bool) (n : ℕ) (r : Option ℕ) (l : List Leaf) →
+    pick t (refusal NISS) (verdict r (copies n l)) ≡ verdict (pick t (some NISS) r) (copies (pick t 0 n) l)
+niss-verdict true n r l = refl
+niss-verdict false n r l = refl
 
 mutual
   unfolding flattenNode flattenBody flattenNodes flatNode flatBody flat refusalNode refusalBody firstRefusal
@@ -172,7 +175,7 @@ mutual
   flattenNode-is (block b m) d =
       ap (λ (s : Steps Leaf). pick (isNiss b) (refusal NISS) (repeated (natAbs m) s)) (flattenBody-is b (turned m d))
       ∙ ap (pick (isNiss b) (refusal NISS)) (repeated-verdict (natAbs m) (refusalBody (turned m d) b) (flatBody undo (turned m d) b))
-      ∙ niss-verdict (isNiss b) _ _
+      ∙ niss-verdict (isNiss b) (natAbs m) _ _
 
   pub flattenBody-is : (b : Body Leaf) (d : Bool) → flattenBody undone d b ≡ verdict (refusalBody d b) (flatBody undo d b)
   flattenBody-is (group k a) d = flatten-is a d
@@ -216,9 +219,9 @@ mutual
   pub flatNode-backwards : (n : Node Leaf) (d : Bool) → flatNode undo (not d) n ≡ backwards (flatNode undo d n)
   flatNode-backwards (leaf x) d = leaf-backwards d x
   flatNode-backwards (block b m) d =
-      ap (λ (e : Bool). copies (natAbs m) (flatBody undo e b)) (turned-not m d)
-      ∙ ap (copies (natAbs m)) (flatBody-backwards b (turned m d))
-      ∙ sym (copies-backwards (natAbs m) (flatBody undo (turned m d) b))
+      ap (λ (e : Bool). copies (times b m) (flatBody undo e b)) (turned-not m d)
+      ∙ ap (copies (times b m)) (flatBody-backwards b (turned m d))
+      ∙ sym (copies-backwards (times b m) (flatBody undo (turned m d) b))
 
   pub flatBody-backwards : (b : Body Leaf) (d : Bool) → flatBody undo (not d) b ≡ backwards (flatBody undo d b)
   flatBody-backwards (group k a) d = flat-backwards a d
@@ -253,13 +256,22 @@ leaf-map : {L M : Type 0} (g : L → M) (u : L → L) (v : M → M) → ((x : L)
 leaf-map g u v h true x = ap (λ y. y ∷ []) (h x)
 leaf-map g u v h false x = refl
 
+pub isNiss-map : {L M : Type 0} (g : L → M) (b : Body L) → isNiss (mapBody g b) ≡ isNiss b
+unfolding mapBody
+isNiss-map g (group Simple a) = refl
+isNiss-map g (group Macro a) = refl
+isNiss-map g (group Simultaneous a) = refl
+isNiss-map g (group Niss a) = refl
+isNiss-map g (binaryGroup k a b) = refl
+
 mutual
   unfolding flatNode flatBody flat mapNode mapBody mapNodes
   flatNode-map : {L M : Type 0} (n : Node L) (g : L → M) (u : L → L) (v : M → M) (h : (x : L) → v (g x) ≡ g (u x)) (d : Bool) →
       flatNode v d (mapNode g n) ≡ map g (flatNode u d n)
   flatNode-map (leaf x) g u v h d = leaf-map g u v h d x
   flatNode-map (block b m) g u v h d =
-      ap (copies (natAbs m)) (flatBody-map b g u v h (turned m d)) ∙ sym (map-copies g (natAbs m) (flatBody u (turned m d) b))
+      ap (λ (t : Bool). copies (pick t 0 (natAbs m)) (flatBody v (turned m d) (mapBody g b))) (isNiss-map g b)
+      ∙ ap (copies (times b m)) (flatBody-map b g u v h (turned m d)) ∙ sym (map-copies g (times b m) (flatBody u (turned m d) b))
 
   flatBody-map : {L M : Type 0} (b : Body L) (g : L → M) (u : L → L) (v : M → M) (h : (x : L) → v (g x) ≡ g (u x)) (d : Bool) →
       flatBody v d (mapBody g b) ≡ map g (flatBody u d b)

@@ -9,13 +9,13 @@ use lib.ListN.{length, getD, take, drop, length-append}
 use lib.Seq.{take-at, drop-at, drop-drop}
 use Rattle.notation.specs.Tree.{Leaf, rotation, move, pause, pair, slash, megaminx, Node, leaf, block, group, binaryGroup, nil, cons, Tree}
 use Rattle.notation.specs.Packed.{
-  RECORD, widths, cut, Head, leafHead, groupHead, binaryHead, headFields, record25, nodeSize, bodySize, size, bodyHead, packNode, packBody, pack, headAt, unpack
+  RECORD, widths, cut, Head, leafHead, groupHead, binaryHead, headFields, headRecord, nodeSize, bodySize, size, bodyHead, packNode, packBody, pack, headAt, unpack
 }
 use Rattle.notation.specs.declared.common.GroupKind.{GroupKind}
 use Rattle.notation.specs.declared.common.BinaryGroupKind.{BinaryGroupKind}
 use Rattle.record.specs.Meaning.{field}
 use Rattle.record.specs.Range.{FitsHead}
-use Rattle.record.proofs.RoundTrip.{length-record25, headAt-record25, cut-record25}
+use Rattle.record.proofs.RoundTrip.{length-headRecord, headAt-headRecord, cut-headRecord}
 use Rattle.laws.proofs.Packing.{FitsNode, FitsBody, FitsTree, length-packNode, length-pack, unpack-pack}
 
 -- The bytes of a packed list of nodes.
@@ -43,7 +43,7 @@ abbrev pub inside : Node Leaf → List ℕ
 inside (leaf x) = []
 inside (block b m) = packBody b
 
-pub node-bytes : (n : Node Leaf) → packNode n ≡ record25 (nodeHead n) ++ inside n
+pub node-bytes : (n : Node Leaf) → packNode n ≡ headRecord (nodeHead n) ++ inside n
 unfolding packNode
 node-bytes (leaf x) = sym (append-nil _)
 node-bytes (block b m) = refl
@@ -92,7 +92,7 @@ unfolding FitsTree pack
 step-of n l bs f e =
     record {
       unpacks = unpacks;
-      head = ap headAt shape ∙ headAt-record25 (nodeHead n) (inside n ++ pack l) (node-head-fits n (f .0));
+      head = ap headAt shape ∙ headAt-headRecord (nodeHead n) (inside n ++ pack l) (node-head-fits n (f .0));
       fields = fields;
       ends = ap (λ (k : ℕ). RECORD * k) (ap₂ (λ (x y : ℕ). 1 + (x + y)) (fields 1) (fields 2) ∙ node-counts n);
       least = omega (arith, positive n);
@@ -106,12 +106,12 @@ step-of n l bs f e =
       fitsNode = f .0
     }
   where
-    shape : bs ≡ record25 (nodeHead n) ++ (inside n ++ pack l)
-    shape = sym e ∙ ap (λ (s : List ℕ). s ++ pack l) (node-bytes n) ∙ append-assoc (record25 (nodeHead n)) (inside n) (pack l)
+    shape : bs ≡ headRecord (nodeHead n) ++ (inside n ++ pack l)
+    shape = sym e ∙ ap (λ (s : List ℕ). s ++ pack l) (node-bytes n) ∙ append-assoc (headRecord (nodeHead n)) (inside n) (pack l)
     unpacks : unpack bs ≡ cons n l
     unpacks = ap unpack (sym e) ∙ unpack-pack (cons n l) f
     fields : (i : ℕ) → field i bs ≡ getD (headFields (nodeHead n)) i 0
-    fields i = ap (λ (s : List ℕ). getD (cut widths (take RECORD s)) i 0) shape ∙ ap (λ (s : List ℕ). getD s i 0) (cut-record25 (nodeHead n) (inside n ++ pack l) (node-head-fits n (f .0)))
+    fields i = ap (λ (s : List ℕ). getD (cut widths (take RECORD s)) i 0) shape ∙ ap (λ (s : List ℕ). getD s i 0) (cut-headRecord (nodeHead n) (inside n ++ pack l) (node-head-fits n (f .0)))
     positive : (n : Node Leaf) → 1 ≤ nodeSize n
     positive n = omega (arith, node-counts n)
     front : take (RECORD * nodeSize n) bs ≡ packNode n
@@ -159,17 +159,17 @@ unfolding FitsNode FitsBody packNode packBody
 one-list bs k a m f e =
     record {
       count = fields 1;
-      long = ap length (sym e) ∙ length-append (record25 h) (pack a) ∙ omega (arith, length-record25 h, length-pack a, fields 1);
+      long = ap length (sym e) ∙ length-append (headRecord h) (pack a) ∙ omega (arith, length-headRecord h, length-pack a, fields 1);
       packedList = subst Packed (sym list) (packed a (f .1));
       unpacksList = ap unpack list ∙ unpack-pack a (f .1)
     }
   where
     h : Head
-    h = groupHead k (size a) m
+    h = bodyHead (group k a) m
     list : drop RECORD bs ≡ pack a
-    list = ap (drop RECORD) (sym e) ∙ drop-at (record25 h) (pack a) RECORD (length-record25 h)
+    list = ap (drop RECORD) (sym e) ∙ drop-at (headRecord h) (pack a) RECORD (length-headRecord h)
     fields : (i : ℕ) → field i bs ≡ getD (headFields h) i 0
-    fields i = ap (λ (s : List ℕ). getD (cut widths (take RECORD s)) i 0) (sym e) ∙ ap (λ (s : List ℕ). getD s i 0) (cut-record25 h (pack a) (f .0))
+    fields i = ap (λ (s : List ℕ). getD (cut widths (take RECORD s)) i 0) (sym e) ∙ ap (λ (s : List ℕ). getD s i 0) (cut-headRecord h (pack a) (f .0))
 
 pub two-lists : (bs : List ℕ) (k : BinaryGroupKind) (a b : Tree) (m : ℤ) → FitsNode (block (binaryGroup k a b) m) → packNode (block (binaryGroup k a b) m) ≡ bs →
     TwoLists bs a b (field 1 bs) (field 2 bs)
@@ -178,7 +178,7 @@ two-lists bs k a b m f e =
     record {
       count = fields 1;
       count′ = fields 2;
-      long = ap length (sym e) ∙ length-append (record25 h) (pack a ++ pack b) ∙ omega (arith, length-record25 h, length-append (pack a) (pack b), length-pack a, length-pack b, fields 1, fields 2);
+      long = ap length (sym e) ∙ length-append (headRecord h) (pack a ++ pack b) ∙ omega (arith, length-headRecord h, length-append (pack a) (pack b), length-pack a, length-pack b, fields 1, fields 2);
       packedFirst = subst Packed (sym first) (packed a (f .1 .0));
       unpacksFirst = ap unpack first ∙ unpack-pack a (f .1 .0);
       packedSecond = subst Packed (sym second) (packed b (f .1 .1));
@@ -186,11 +186,11 @@ two-lists bs k a b m f e =
     }
   where
     h : Head
-    h = binaryHead k (size a) (size b) m
+    h = bodyHead (binaryGroup k a b) m
     lists : drop RECORD bs ≡ pack a ++ pack b
-    lists = ap (drop RECORD) (sym e) ∙ drop-at (record25 h) (pack a ++ pack b) RECORD (length-record25 h)
+    lists = ap (drop RECORD) (sym e) ∙ drop-at (headRecord h) (pack a ++ pack b) RECORD (length-headRecord h)
     fields : (i : ℕ) → field i bs ≡ getD (headFields h) i 0
-    fields i = ap (λ (s : List ℕ). getD (cut widths (take RECORD s)) i 0) (sym e) ∙ ap (λ (s : List ℕ). getD s i 0) (cut-record25 h (pack a ++ pack b) (f .0))
+    fields i = ap (λ (s : List ℕ). getD (cut widths (take RECORD s)) i 0) (sym e) ∙ ap (λ (s : List ℕ). getD s i 0) (cut-headRecord h (pack a ++ pack b) (f .0))
     first : take (RECORD * field 1 bs) (drop RECORD bs) ≡ pack a
     first = ap₂ (λ (n : ℕ) (s : List ℕ). take (RECORD * n) s) (fields 1) lists ∙ take-at (pack a) (pack b) (RECORD * size a) (length-pack a)
     second : drop (RECORD + RECORD * field 1 bs) bs ≡ pack b

@@ -1,20 +1,23 @@
--- The inverses of a well-formed tree are well formed over the same text: leaves and multipliers stay in bounds, sizes and nesting stay
--- as they are. Assumes nothing.
-use Prim.Native.Nat.{ℕ, suc, _+_, max}
-use mathlib.Core.Path.{_≡_, refl, ap, _∙_}
-use mathlib.Core.Bool.{true}
+-- The inverses of a well-formed tree are well formed over the same text: leaves and multipliers stay in bounds, sizes, nesting and step counts
+-- stay as they are. Assumes nothing.
+use Prim.Native.Nat.{ℕ, suc, _+_, _*_, max}
+use mathlib.Core.Path.{_≡_, refl, ap, ap₂, _∙_}
+use mathlib.Core.Bool.{Bool, true}
 use mathlib.Core.List.{List}
 use native.Mathlib.Omega.{arith}
 use lib.Dec.{ltb}
-use lib.IntN.{ℤ, negℤ}
+use lib.IntN.{ℤ, negℤ, natAbs}
+use Rattle.notation.specs.Basics.{pick}
 use Rattle.notation.specs.Tree.{Leaf, rotation, move, pause, pair, slash, megaminx, Node, leaf, block, Body, group, binaryGroup, nil, cons, append, Tree}
 use Rattle.notation.specs.Packed.{nodeSize, bodySize, size}
 use Rattle.notation.specs.WellFormed.{multiplierOk, leafOk, nodeOk, bodyOk, treeOk, nodeDepth, bodyDepth, depth}
 use Rattle.notation.specs.Invert.{undo}
+use Rattle.notation.specs.Unroll.{isNiss}
+use Rattle.notation.specs.Counts.{countNode, countBody, count}
 use Rattle.notation.specs.declared.common.BinaryGroupKind.the-variants.{Commutator, Conjugate}
 use Rattle.numbers.proofs.TwosComplement.{natAbs-neg}
 use Rattle.laws.proofs.Bools.{and-left, and-right, and-both}
-use Rattle.laws.proofs.Inverses.{inverted, invertedNode, deeply, deeplyNode, deeplyBody}
+use Rattle.laws.proofs.Inverses.{inverted, invertedNode, deeply, deeplyNode, deeplyBody, niss-deeply}
 
 pub multiplier-neg : (m : ℤ) → multiplierOk (negℤ m) ≡ multiplierOk m
 multiplier-neg m = ap (λ (n : ℕ). ltb n 2147483648) (natAbs-neg m)
@@ -146,3 +149,36 @@ mutual
   deeply-depth (cons n l) =
       depth-append (deeply l) (cons (deeplyNode n) nil)
       ∙ omega (arith, depth-last (deeplyNode n), deeplyNode-depth n, deeply-depth l)
+
+-- Step counts stay as they are, in both: the inverse of a node is as long.
+pub count-append : (a b : Tree) → count (append a b) ≡ count a + count b
+unfolding append count
+count-append nil b = omega arith
+count-append (cons n a) b = omega (arith, count-append a b)
+
+count-last : (n : Node Leaf) → count (cons n nil) ≡ countNode n
+unfolding count
+count-last n = omega arith
+
+pub node-count : (n : Node Leaf) → countNode (invertedNode n) ≡ countNode n
+unfolding countNode
+node-count (leaf x) = refl
+node-count (block b m) = ap (λ (k : ℕ). pick (isNiss b) 0 k * countBody b) (natAbs-neg m)
+
+mutual
+  unfolding deeplyNode deeplyBody deeply countNode countBody count
+  pub deeplyNode-count : (n : Node Leaf) → countNode (deeplyNode n) ≡ countNode n
+  deeplyNode-count (leaf x) = refl
+  deeplyNode-count (block b m) =
+      ap₂ (λ (t : Bool) (c : ℕ). pick t 0 (natAbs m) * c) (niss-deeply b) (deeplyBody-count b)
+
+  deeplyBody-count : (b : Body Leaf) → countBody (deeplyBody b) ≡ countBody b
+  deeplyBody-count (group k a) = deeply-count a
+  deeplyBody-count (binaryGroup Commutator a b) = omega arith
+  deeplyBody-count (binaryGroup Conjugate a b) = ap (λ (c : ℕ). 2 * count a + c) (deeply-count b)
+
+  pub deeply-count : (t : Tree) → count (deeply t) ≡ count t
+  deeply-count nil = refl
+  deeply-count (cons n l) =
+      count-append (deeply l) (cons (deeplyNode n) nil)
+      ∙ omega (arith, count-last (deeplyNode n), deeplyNode-count n, deeply-count l)

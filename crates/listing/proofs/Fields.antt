@@ -13,7 +13,8 @@ use Rattle.notation.specs.Entries.{checked, inverse, display, steps}
 use Rattle.notation.specs.Lister.{line, field, stepLines, stepsPart, treePart}
 use Rattle.notation.specs.Demands.{printedInverse}
 use Rattle.laws.proofs.Unrolling.{flat}
-use Rattle.laws.proofs.Counting.{count, count-is}
+use Rattle.notation.specs.Counts.{count}
+use Rattle.laws.proofs.Counting.{count-is}
 use Rattle.sound.specs.Sound.{Counted}
 use Rattle.entries.proofs.Stepping.{these}
 use Rattle.display.specs.Written.{Wrote}

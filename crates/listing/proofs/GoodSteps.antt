@@ -94,9 +94,10 @@ module _ (text : List ℕ) (short : length text ≤ 65535) where
   all-reached zero q r h = empty
   all-reached (suc n) q r h = all-copies (suc n) (h r)
 
-  not-niss : (t : Bool) (q : Option ℕ) → pick t (some NISS) q ≡ none → q ≡ none
-  not-niss true q e = no-some e
-  not-niss false q e = e
+  -- of a group that is not refused, `niss` being whether it is a NISS group
+  all-played : (niss : Bool) (n : ℕ) (q : Option ℕ) {l : List Leaf} → pick niss (some NISS) (ifReached n q) ≡ none → (q ≡ none → All text l) → All text (copies (pick niss 0 n) l)
+  all-played true n q r h = no-some r
+  all-played false n q r h = all-reached n q r h
 
   all-order : (d : Bool) (r q : Option ℕ) {a b : List Leaf} → firstInOrder d r q ≡ none → (r ≡ none → All text a) → (q ≡ none → All text b) → All text (inOrder d a b)
   all-order false r q e f g = all-append (f (first-left r q e)) (g (first-right r q e))
@@ -123,7 +124,7 @@ module _ (text : List ℕ) (short : length text ≤ 65535) where
     node-good : (n : Node Leaf) (d : Bool) → nodeOk text n ≡ true → FitsNode n → refusalNode d n ≡ none → All text (flatNode undo d n)
     node-good (leaf x) d h f r = one (leaf-good x d (record { ok = h; fits = f }) r) empty
     node-good (block b m) d h f r =
-        all-reached (natAbs m) (refusalBody (turned m d) b) (not-niss (isNiss b) _ r)
+        all-played (isNiss b) (natAbs m) (refusalBody (turned m d) b) r
         (λ q. body-good b (turned m d) (and-right (multiplierOk m) _ h) (f .1) q)
 
     body-good : (b : Body Leaf) (d : Bool) → bodyOk text b ≡ true → FitsBody b → refusalBody d b ≡ none → All text (flatBody undo d b)

@@ -21,7 +21,7 @@ use Rattle.numbers.proofs.TwosComplement.{fromBits-toBits}
 use Rattle.record.specs.Meaning.{field}
 use Rattle.record.specs.Range.{FitsNumber, FitsHead}
 use Rattle.record.proofs.Numbered.{kindOf, kind-field}
-use Rattle.record.proofs.RoundTrip.{length-record25}
+use Rattle.record.proofs.RoundTrip.{length-headRecord}
 use Rattle.laws.proofs.Packing.{FitsNode, FitsTree, unpack-pack}
 use Rattle.laws.proofs.Walking.{Packed, packed, packed-nil, no-node, nodeHead, nodeEnd, Step, first-node, one-list, two-lists}
 use Rattle.nodes.specs.Nodes.{IsNode, part, FirstNode, firstList, secondList, Lists}
@@ -152,7 +152,7 @@ none-taken n l e = ap (λ (k : ℕ). take k l) e
 
 leaf-long : {bs : List ℕ} (x : Leaf) → IsNode bs (leaf x) → length bs ≡ RECORD
 unfolding packNode
-leaf-long x s = ap length (sym (s .bytes)) ∙ length-record25 (leafHead x)
+leaf-long x s = ap length (sym (s .bytes)) ∙ length-headRecord (leafHead x)
 
 -- the law of `first_end`
 pub lists-of : (n : Node Leaf) {bs : List ℕ} → IsNode bs n → Lists bs (RECORD + RECORD * field 1 bs)

@@ -1,6 +1,7 @@
 pub mod Text
 pub mod Chars
 pub mod Packed
+pub mod Counts
 pub mod Reading
 pub mod Unrolling
 pub mod Inverses

@@ -1,10 +1,11 @@
 -- Well-formed trees clause by clause, in document 01's words and order, over the fields of the records as they stand.
 -- `wellFormed` (specs/WellFormed) says the same by what packing writes, which is what proofs work with:
 -- crates/clauses/proofs/Same.antt, `same`, shows that both are equal, whatever the text and the tree.
-use Prim.Native.Nat.{ℕ, zero, suc, _+_, _/_, _%_, max}
+use Prim.Native.Nat.{ℕ, zero, suc, _+_, _*_, _/_, _%_, max}
 use mathlib.Core.Bool.{Bool, true, not, _&&_, _||_}
 use mathlib.Core.List.{List, [], _∷_}
 use lib.Dec.{leb, ltb, eqb}
+use lib.IntN.{natAbs}
 use lib.ListN.{length, getD, take, drop}
 use Rattle.notation.specs.Basics.{pick, between, every}
 use Rattle.notation.specs.Chars.{isFamilyChar}
@@ -12,6 +13,8 @@ use Rattle.notation.specs.Utf8.{run}
 use Rattle.notation.specs.Layers.{MAX-LAYER}
 use Rattle.notation.specs.Tree.{Span, span, partOf}
 use Rattle.notation.specs.Packed.{widths, RECORD, cut}
+use Rattle.notation.specs.Numbers.{fromBits}
+use Rattle.notation.specs.Counts.{hold}
 use Rattle.notation.specs.Meaning.{constraintsIn, layerSetIn}
 use Rattle.notation.specs.WellFormed.{MAX-NESTING, isSome, inside}
 
@@ -62,6 +65,9 @@ constraints r = span (getD r 7 0) (getD r 8 0)
 
 abbrev pub set : Fields → Span
 set r = span (getD r 9 0) (getD r 10 0)
+
+abbrev pub count : Fields → ℕ
+count r = getD r 11 0
 
 -- Which fields a record uses.
 abbrev pub isGroup : Fields → Bool
@@ -168,12 +174,42 @@ partsRead text r =
     (not (hasSet r) || isSome (layerSetIn (partOf text (set r))))
     && (not (hasConstraints r) || isSome (constraintsIn (partOf text (constraints r))))
 
+-- Document 02, request 2: each record has its own step count, a group's repeats included, and one above 4,294,967,295 is 4,294,967,296.
+-- How many times a group plays its contents, and a NISS group never
+abbrev pub repeats : Fields → ℕ
+repeats r = pick (eqb (kind r) 3) 0 (natAbs (fromBits 32 (number r)))
+
+-- once: A B A' B' of a commutator, A B A' of a conjugate, else the one list
+abbrev pub contents : Fields → (a b : ℕ) → ℕ
+contents r a b = pick (eqb (kind r) 4) (2 * (a + b)) (pick (eqb (kind r) 5) (2 * a + b) a)
+
+-- a record whose lists have a and b steps; a leaf is one
+abbrev pub stepsOf : Fields → (a b : ℕ) → ℕ
+stepsOf r a b = pick (isGroup r) (repeats r * contents r a b) 1
+
+-- the steps of a list; k as above
+unfoldable pub stepsIn : ℕ → List Fields → ℕ
+stepsIn zero rs = 0
+stepsIn (suc k) [] = 0
+stepsIn (suc k) (r ∷ rs) =
+    stepsOf r (stepsIn k (take (first r) rs)) (stepsIn k (take (second r) (drop (first r) rs)))
+    + stepsIn k (drop (first r + second r) rs)
+
+unfoldable pub countsOk : ℕ → List Fields → Bool
+countsOk zero rs = true
+countsOk (suc k) [] = true
+countsOk (suc k) (r ∷ rs) =
+    eqb (count r) (hold (stepsOf r (stepsIn k (take (first r) rs)) (stepsIn k (take (second r) (drop (first r) rs)))))
+    && countsOk k (take (first r) rs)
+    && countsOk k (take (second r) (drop (first r) rs))
+    && countsOk k (drop (first r + second r) rs)
+
 -- "A well-formed tree has ..": whether each clause holds
 unfoldable pub clauseByClause : List ℕ → List ℕ → List Bool
 clauseByClause text tree =
     let rs = fieldsOf (length tree / RECORD) tree in
     every (λ b. ltb b 256) tree -- it is a run of bytes
-    ∷ eqb (length tree % RECORD) 0 -- a length that is a multiple of 25
+    ∷ eqb (length tree % RECORD) 0 -- a length that is a multiple of 30
     ∷ every kindOk rs
     ∷ every unusedOk rs
     ∷ every (partsInside text) rs
@@ -183,6 +219,7 @@ clauseByClause text tree =
     ∷ every multiplierInRange rs
     ∷ every (familyReads text) rs
     ∷ every (partsRead text) rs
+    ∷ countsOk (length rs) rs
     ∷ []
 
 -- .. and that all do

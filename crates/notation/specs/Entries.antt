@@ -165,8 +165,8 @@ layersOf (leafHead pause) = refusal NO-SUCH-RECORD
 layersOf (leafHead (pair u d)) = refusal NO-SUCH-RECORD
 layersOf (leafHead slash) = refusal NO-SUCH-RECORD
 layersOf (leafHead (megaminx k)) = refusal NO-SUCH-RECORD
-layersOf (groupHead k n m) = refusal NO-SUCH-RECORD
-layersOf (binaryHead k n n′ m) = refusal NO-SUCH-RECORD
+layersOf (groupHead k n m c) = refusal NO-SUCH-RECORD
+layersOf (binaryHead k n n′ m c) = refusal NO-SUCH-RECORD
 
 -- no contents: layer 1; the tilde changes nothing
 abbrev pub rangesIn : List ℕ → ℕ → Bool → Layers Span → List Range
@@ -206,8 +206,8 @@ familyOf (leafHead pause) = refusal NO-SUCH-RECORD
 familyOf (leafHead (pair u d)) = refusal NO-SUCH-RECORD
 familyOf (leafHead slash) = refusal NO-SUCH-RECORD
 familyOf (leafHead (megaminx k)) = refusal NO-SUCH-RECORD
-familyOf (groupHead k n m) = refusal NO-SUCH-RECORD
-familyOf (binaryHead k n n′ m) = refusal NO-SUCH-RECORD
+familyOf (groupHead k n m c) = refusal NO-SUCH-RECORD
+familyOf (binaryHead k n n′ m c) = refusal NO-SUCH-RECORD
 
 -- refusals 1, 2, 6, 12
 unfoldable pub familySpan : List ℕ → List ℕ → ℕ → Outcome Span

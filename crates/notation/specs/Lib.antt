@@ -1,4 +1,4 @@
--- Every rule of document 01, in its order. Nothing else in the repository has to be believed, but what a value of a crate's own type stands for where a
+-- Every rule of document 01, in its order, and of the requests of document 02 that have landed. Nothing else in the repository has to be believed, but what a value of a crate's own type stands for where a
 -- public contract names one: hypuz_notation/specs/Agreement (the answers of `agree`), entries/specs/Parts (`family_part`), layer/specs/Meaning (`range`, of
 -- `ranges::simplify`), reader/specs/Cursor with parse/specs/Meaning and record/specs/Meaning (`Reader`), listing/specs/Listing (`list_whole`). The programs lister and
 -- replay rest on two axioms of the kit: the contracts of libc's `read` and `write`.
@@ -9,6 +9,7 @@ pub mod Utf8
 pub mod Numbers
 pub mod Layers
 pub mod Tree
+pub mod Counts
 pub mod Packed
 pub mod Grammar
 pub mod Meaning

@@ -1,4 +1,4 @@
--- The packed record: a tree is a run of 25-byte records in reading order, a group before its contents.
+-- The packed record: a tree is a run of 30-byte records in reading order, a group before its contents.
 use Prim.Native.Nat.{ℕ, zero, suc, _+_, _*_, _/_, _%_}
 use mathlib.Core.Bool.{Bool, true, false}
 use mathlib.Core.List.{List, [], _∷_, _++_}
@@ -12,6 +12,7 @@ use Rattle.notation.specs.Tree.{
   Span, span, Layers, noLayers, singleLayer, layerRange, layerSet, Leaf, rotation, move, pause, pair, slash, megaminx,
   Node, leaf, block, Body, group, binaryGroup, nil, cons, Tree
 }
+use Rattle.notation.specs.Counts.{stored}
 use Rattle.notation.specs.declared.common.GroupKind.{GroupKind}
 use Rattle.notation.specs.declared.common.GroupKind.the-variants.{Simple, Macro, Simultaneous, Niss}
 use Rattle.notation.specs.declared.common.BinaryGroupKind.{BinaryGroupKind}
@@ -30,10 +31,11 @@ widths =
     ∷ 2 ∷ 2 -- family: offset and length in the text
     ∷ 2 ∷ 2 -- constraints with braces
     ∷ 2 ∷ 2 -- layer set with braces
+    ∷ 5 -- step count
     ∷ []
 
 abbrev pub RECORD : ℕ
-RECORD = 25
+RECORD = 30
 
 -- the fields one after the other
 unfoldable pub layOut : List ℕ → List ℕ → List ℕ
@@ -45,11 +47,11 @@ unfoldable pub cut : List ℕ → List ℕ → List ℕ
 cut [] bs = []
 cut (w ∷ ws) bs = fromBigEndian (take w bs) ∷ cut ws (drop w bs)
 
--- What one record says: a leaf, or a group with the number of records in each list and its multiplier.
+-- What one record says: a leaf, or a group with the number of records in each list, its multiplier and its step count.
 pub data Head : Type 0 where
   leafHead : Leaf → Head
-  groupHead : GroupKind → ℕ → ℤ → Head
-  binaryHead : BinaryGroupKind → ℕ → ℕ → ℤ → Head
+  groupHead : GroupKind → ℕ → ℤ → ℕ → Head
+  binaryHead : BinaryGroupKind → ℕ → ℕ → ℤ → ℕ → Head
 
 abbrev pub groupNumber : GroupKind → ℕ
 groupNumber Simple = 0
@@ -67,11 +69,11 @@ megaminxNumber Rmm = 12
 megaminxNumber Dpp = 13
 megaminxNumber Dmm = 14
 
--- Writing: the fields of a record in order. Unused ones are 0.
-abbrev pub inOrder : (kind tilde form present first second number other : ℕ) (family constraints set : Span) → List ℕ
-inOrder kind tilde form present first second number other family constraints set =
+-- Writing: the fields of a record in order. Unused ones are 0, and a leaf's step count is 1.
+abbrev pub inOrder : (kind tilde form present first second number other : ℕ) (family constraints set : Span) (count : ℕ) → List ℕ
+inOrder kind tilde form present first second number other family constraints set count =
     (kind * 16 + tilde * 8 + form * 2 + present) ∷ first ∷ second ∷ number ∷ other
-    ∷ family .offset ∷ family .size ∷ constraints .offset ∷ constraints .size ∷ set .offset ∷ set .size ∷ []
+    ∷ family .offset ∷ family .size ∷ constraints .offset ∷ constraints .size ∷ set .offset ∷ set .size ∷ count ∷ []
 
 abbrev pub nowhere : Span
 nowhere = span 0 0
@@ -107,23 +109,23 @@ setPart (layerRange i j) = nowhere
 setPart (layerSet p) = p
 
 abbrev pub leafFields : Leaf → List ℕ
-leafFields (rotation f c m) = inOrder 6 0 0 (present c) 0 0 (toBits 32 m) 0 f (orNowhere c) nowhere
-leafFields (move t l f c m) = inOrder 7 (bit t) (layerForm l) (present c) 0 0 (toBits 32 m) (lowAndHigh l) f (orNowhere c) (setPart l)
-leafFields pause = inOrder 8 0 0 0 0 0 0 0 nowhere nowhere nowhere
-leafFields (pair u d) = inOrder 9 0 0 0 0 0 (toBits 32 u) (toBits 32 d) nowhere nowhere nowhere
-leafFields slash = inOrder 10 0 0 0 0 0 0 0 nowhere nowhere nowhere
-leafFields (megaminx k) = inOrder (megaminxNumber k) 0 0 0 0 0 0 0 nowhere nowhere nowhere
+leafFields (rotation f c m) = inOrder 6 0 0 (present c) 0 0 (toBits 32 m) 0 f (orNowhere c) nowhere 1
+leafFields (move t l f c m) = inOrder 7 (bit t) (layerForm l) (present c) 0 0 (toBits 32 m) (lowAndHigh l) f (orNowhere c) (setPart l) 1
+leafFields pause = inOrder 8 0 0 0 0 0 0 0 nowhere nowhere nowhere 1
+leafFields (pair u d) = inOrder 9 0 0 0 0 0 (toBits 32 u) (toBits 32 d) nowhere nowhere nowhere 1
+leafFields slash = inOrder 10 0 0 0 0 0 0 0 nowhere nowhere nowhere 1
+leafFields (megaminx k) = inOrder (megaminxNumber k) 0 0 0 0 0 0 0 nowhere nowhere nowhere 1
 
 abbrev pub headFields : Head → List ℕ
 headFields (leafHead x) = leafFields x
-headFields (groupHead k n m) = inOrder (groupNumber k) 0 0 0 n 0 (toBits 32 m) 0 nowhere nowhere nowhere
-headFields (binaryHead k n n′ m) = inOrder (binaryNumber k) 0 0 0 n n′ (toBits 32 m) 0 nowhere nowhere nowhere
+headFields (groupHead k n m c) = inOrder (groupNumber k) 0 0 0 n 0 (toBits 32 m) 0 nowhere nowhere nowhere c
+headFields (binaryHead k n n′ m c) = inOrder (binaryNumber k) 0 0 0 n n′ (toBits 32 m) 0 nowhere nowhere nowhere c
 
-unfoldable pub record25 : Head → List ℕ
-record25 h = layOut widths (headFields h)
+unfoldable pub headRecord : Head → List ℕ
+headRecord h = layOut widths (headFields h)
 
 abbrev pub leafRecord : Leaf → List ℕ
-leafRecord x = record25 (leafHead x)
+leafRecord x = headRecord (leafHead x)
 
 unfoldable mutual
   -- how many records a node takes, nested ones included
@@ -140,13 +142,13 @@ unfoldable mutual
   size (cons n l) = nodeSize n + size l
 
 abbrev pub bodyHead : Body Leaf → ℤ → Head
-bodyHead (group k a) m = groupHead k (size a) m
-bodyHead (binaryGroup k a b) m = binaryHead k (size a) (size b) m
+bodyHead (group k a) m = groupHead k (size a) m (stored (block (group k a) m))
+bodyHead (binaryGroup k a b) m = binaryHead k (size a) (size b) m (stored (block (binaryGroup k a b) m))
 
 unfoldable mutual
   pub packNode : Node Leaf → List ℕ
   packNode (leaf x) = leafRecord x
-  packNode (block b m) = record25 (bodyHead b m) ++ packBody b
+  packNode (block b m) = headRecord (bodyHead b m) ++ packBody b
 
   pub packBody : Body Leaf → List ℕ
   packBody (group k a) = pack a
@@ -172,14 +174,15 @@ headOf fields =
     let low = other / 65536 in
     let high = other % 65536 in
     let set = span (getD fields 9 0) (getD fields 10 0) in
+    let c = getD fields 11 0 in
     let layers = getD (noLayers ∷ singleLayer low ∷ layerRange low high ∷ layerSet set ∷ []) (small / 2 % 4) noLayers in
     getD
-    (groupHead Simple n m -- 0
-    ∷ groupHead Macro n m -- 1
-    ∷ groupHead Simultaneous n m -- 2
-    ∷ groupHead Niss n m -- 3
-    ∷ binaryHead Commutator n n′ m -- 4
-    ∷ binaryHead Conjugate n n′ m -- 5
+    (groupHead Simple n m c -- 0
+    ∷ groupHead Macro n m c -- 1
+    ∷ groupHead Simultaneous n m c -- 2
+    ∷ groupHead Niss n m c -- 3
+    ∷ binaryHead Commutator n n′ m c -- 4
+    ∷ binaryHead Conjugate n n′ m c -- 5
     ∷ leafHead (rotation family constraints m) -- 6
     ∷ leafHead (move (eqb (small / 8 % 2) 1) layers family constraints m) -- 7
     ∷ leafHead pause -- 8
@@ -196,11 +199,11 @@ headOf fields =
 abbrev pub headAt : List ℕ → Head
 headAt bs = headOf (cut widths (take RECORD bs))
 
--- Reading a tree back; k is at least the number of records.
+-- Reading a tree back; k is at least the number of records. Step counts are not looked at: packing writes them anew.
 abbrev pub openHead : Head → (ℕ → Tree) → (ℕ → ℕ → Tree) → (ℕ → Tree) → Tree
 openHead (leafHead x) first second rest = cons (leaf x) (rest 0)
-openHead (groupHead g n m) first second rest = cons (block (group g (first n)) m) (rest n)
-openHead (binaryHead g n n′ m) first second rest = cons (block (binaryGroup g (first n) (second n n′)) m) (rest (n + n′))
+openHead (groupHead g n m c) first second rest = cons (block (group g (first n)) m) (rest n)
+openHead (binaryHead g n n′ m c) first second rest = cons (block (binaryGroup g (first n) (second n n′)) m) (rest (n + n′))
 
 unfoldable pub unpackFrom : ℕ → List ℕ → Tree
 unpackFrom zero bs = nil

@@ -74,6 +74,13 @@ store-one l at n h =
     let whole : n % 256 ≡ n = omega arith in
     rw whole
 
+-- a field of one byte has the last byte of a number
+pub last-byte : (n : ℕ) → bigEndian 1 (n % 256) ≡ bigEndian 1 n
+unfolding digits
+last-byte n =
+    let same : n % 256 % 256 ≡ n % 256 = omega arith in
+    rw same
+
 pub store-two : (l : List ℕ) (at n : ℕ) → n < 65536 → set (set l at (n / 256)) (at + 1) (n % 256) ≡ sets l at (bigEndian 2 n)
 unfolding digits
 store-two l at n h =

@@ -1,4 +1,4 @@
-// Fields of one, two and four bytes, most significant byte first.
+// Fields of one, two, four and five bytes, most significant byte first.
 ghost use mathlib.Core.Path.{_≡_};
 ghost use Prim.Native.Nat.{_+_, _<_, _≤_};
 ghost use lib.ListN.{length, take, drop};
@@ -29,6 +29,14 @@ pub fn read_u32(s: &[u8], at: usize) -> u32
     (read_u16(s, at) as u32) * 65536 + (read_u16(s, at + 2) as u32)
 }
 
+// The number in the five bytes from `at` on.
+pub fn read_u40(s: &[u8], at: usize) -> u64
+    requires { ⌜ at + 5 ≤ length (now s) ⌝ }
+    ensures { λ r. ⌜ r ≡ fromBigEndian (take 5 (drop at (now (s .entry)))) ⌝ }
+{
+    (read_u8(s, at) as u64) * 4294967296 + (read_u32(s, at + 1) as u64)
+}
+
 // Writes n over the byte at `at`.
 pub fn write_u8(out: &mut [u8], at: usize, n: u8)
     requires { ⌜ at < length (now out) ⌝ }
@@ -53,4 +61,13 @@ pub fn write_u32(out: &mut [u8], at: usize, n: u32)
 {
     write_u16(out, at, (n / 65536) as u16);
     write_u16(out, at + 2, (n % 65536) as u16);
+}
+
+// Writes the last 40 bits of n over the five bytes from `at` on.
+pub fn write_u40(out: &mut [u8], at: usize, n: u64)
+    requires { ⌜ at + 5 ≤ length (now out) ⌝ }
+    ensures { λ _. ⌜ now (out .exit) ≡ sets (now (out .entry)) at (bigEndian 5 n) ⌝ }
+{
+    write_u8(out, at, (n / 4294967296 % 256) as u8);
+    write_u32(out, at + 1, (n % 4294967296) as u32);
 }

@@ -41,17 +41,18 @@ module _ (text : List ℕ) (at slot : ℕ) where
   -- a rule that says the same here
   pub told-as : (p q : ℕ → Reader (Node Leaf)) (old new : List ℕ) (r : NodeAnswer) →
       ((k : ℕ) → length text - at ≤ k → q k at (drop at text) ≡ p k at (drop at text)) → Told p text at slot old new r → Told q text at slot old new r
-  told-as p q old new (Took next end) e t =
-      record { node = t .node; reads = λ k h. e k h ∙ t .reads k h; slots = t .slots; advances = t .advances; inside = t .inside; wrote = t .wrote }
+  told-as p q old new (Took next end steps) e t =
+      record { node = t .node; reads = λ k h. e k h ∙ t .reads k h; slots = t .slots; counts = t .counts; advances = t .advances; inside = t .inside; wrote = t .wrote }
   told-as p q old new Nothing e t = record { rejects = λ k h. e k h ∙ t .rejects k h; kept = t .kept }
 
   -- and a buffer of which nothing before the slot has changed
   pub told-after : (p : ℕ → Reader (Node Leaf)) (old mid new : List ℕ) (r : NodeAnswer) → Kept (RECORD * slot) old mid → Told p text at slot mid new r → Told p text at slot old new r
-  told-after p old mid new (Took next end) k t =
+  told-after p old mid new (Took next end steps) k t =
       record {
         node = t .node;
         reads = t .reads;
         slots = t .slots;
+        counts = t .counts;
         advances = t .advances;
         inside = t .inside;
         wrote = record {
@@ -115,9 +116,9 @@ module _ (text : List ℕ) (at slot : ℕ) where
           (rw (drop-cons text at 0 h, e) (no-group (nodeList f k) at (drop (suc at) text)))))
 
     -- What `node` returns: a leaf, where no group stands, or else a group.
-    pub leaf-first : (old new : List ℕ) (next end : ℕ) → NodeRead leaves text at slot old new next end → NodeRead nodes text at slot old new next end
-    leaf-first old new next end t =
-        told-as leaves nodes old new (Took next end)
+    pub leaf-first : (old new : List ℕ) (next end steps : ℕ) → NodeRead leaves text at slot old new next end steps → NodeRead nodes text at slot old new next end steps
+    leaf-first old new next end steps t =
+        told-as leaves nodes old new (Took next end steps)
         (λ k l.
             node-choice f (nodeList f k) at (drop at text)
             ∙ ap (λ (r : Reading (ℤ → Node Leaf)). orElse (andThen r times) (node f fail) at (drop at text))

@@ -67,7 +67,7 @@ module _ (f : Features) (text old : List ℕ) where
         accepted t h = rw (le-leb (length text) MAX-TEXT short, isUtf8, nests, h)
 
         -- what the run that measures found
-        module _ (after : List ℕ) (next end : ℕ) (list : ListRead f text 0 0 [] after next end) where
+        module _ (after : List ℕ) (next end steps : ℕ) (list : ListRead f text 0 0 [] after next end steps) where
           unchanged : after ++ old ≡ old
           unchanged = empty-part old after (list .wrote .kept .long)
 
@@ -95,8 +95,8 @@ module _ (f : Features) (text old : List ℕ) where
             full : length old < RECORD * end → Answered (refusal NO-ROOM) old
             full h = sym (lent ∙ rw (lt-leb (length (pack (list .tree))) (length old) (omega (arith, bytes))))
 
-            module _ (fits : RECORD * end ≤ length old) (part : List ℕ) (next₂ end₂ : ℕ)
-                (again : ListRead f text 0 0 (midOf 0 (RECORD * end - 0) old) part next₂ end₂) where
+            module _ (fits : RECORD * end ≤ length old) (part : List ℕ) (next₂ end₂ steps₂ : ℕ)
+                (again : ListRead f text 0 0 (midOf 0 (RECORD * end - 0) old) part next₂ end₂ steps₂) where
               same : again .tree ≡ list .tree
               same =
                   let e : read (again .tree) next₂ (drop next₂ text) ≡ read (list .tree) next (drop next text)
@@ -127,6 +127,6 @@ module _ (f : Features) (text old : List ℕ) where
             no-room h = rw unchanged (full (rw unchanged at h))
 
             -- the run that writes, over a part that the tree fills
-            pub wrote-tree : RECORD * end ≤ length (after ++ old) → (part : List ℕ) (next₂ end₂ : ℕ) → ListRead f text 0 0 (midOf 0 (RECORD * end - 0) (after ++ old)) part next₂ end₂ →
+            pub wrote-tree : RECORD * end ≤ length (after ++ old) → (part : List ℕ) (next₂ end₂ steps₂ : ℕ) → ListRead f text 0 0 (midOf 0 (RECORD * end - 0) (after ++ old)) part next₂ end₂ steps₂ →
                 Answered (result (RECORD * end)) (putMid 0 (RECORD * end - 0) (after ++ old) part)
-            wrote-tree fits part next₂ end₂ again = rw unchanged (filled (rw unchanged at fits) part next₂ end₂ (rw unchanged at again))
+            wrote-tree fits part next₂ end₂ steps₂ again = rw unchanged (filled (rw unchanged at fits) part next₂ end₂ steps₂ (rw unchanged at again))

@@ -1,4 +1,4 @@
--- What the readers of lists and nodes answer, and what they do to the lent buffer. Slots count records: slot i stands at byte 25 * i.
+-- What the readers of lists and nodes answer, and what they do to the lent buffer. Slots count records: slot i stands at byte RECORD * i.
 use Prim.Native.Nat.{ℕ, _+_, _*_, _-_, _<_, _≤_}
 use mathlib.Core.Path.{_≡_}
 use mathlib.Core.List.{List, _++_}
@@ -6,6 +6,7 @@ use lib.IntN.{ℤ}
 use lib.ListN.{length, take, drop}
 use Rattle.notation.specs.Tree.{Leaf, Node, Tree}
 use Rattle.notation.specs.Packed.{RECORD, nodeSize, size, packNode, pack}
+use Rattle.notation.specs.Counts.{hold, count, stored}
 use Rattle.notation.specs.Grammar.{Reading, Reader, rejected, read, done, _>>=_, _or_, multiplier, groupNode, binaryGroupNode, nodeList}
 use Rattle.notation.specs.Entries.{MAX-TEXT}
 use Rattle.notation.specs.declared.features.Features.{Features}
@@ -42,19 +43,21 @@ pub record Wrote (p : ℕ) (xs old new : List ℕ) : Type 0 where
   pub holds : p + length xs ≤ length old → take (p + length xs) new ≡ take p old ++ xs
 
 -- A list was read. The rule may be given any fuel that suffices.
-pub record ListRead (f : Features) (text : List ℕ) (at slot : ℕ) (old new : List ℕ) (next end : ℕ) : Type 0 where
+pub record ListRead (f : Features) (text : List ℕ) (at slot : ℕ) (old new : List ℕ) (next end steps : ℕ) : Type 0 where
   pub tree : Tree
   pub reads : (k : ℕ) → length text - at < k → nodeList f k at (drop at text) ≡ read tree next (drop next text)
   pub slots : end ≡ slot + size tree
+  pub counts : steps ≡ hold (count tree)
   pub advances : at + size tree ≤ next
   pub inside : next ≤ length text
   pub wrote : Wrote (RECORD * slot) (pack tree) old new
 
 -- A node was read by a rule that is given some fuel, or none stands there.
-pub record NodeRead (rule : ℕ → Reader (Node Leaf)) (text : List ℕ) (at slot : ℕ) (old new : List ℕ) (next end : ℕ) : Type 0 where
+pub record NodeRead (rule : ℕ → Reader (Node Leaf)) (text : List ℕ) (at slot : ℕ) (old new : List ℕ) (next end steps : ℕ) : Type 0 where
   pub node : Node Leaf
   pub reads : (k : ℕ) → length text - at ≤ k → rule k at (drop at text) ≡ read node next (drop next text)
   pub slots : end ≡ slot + nodeSize node
+  pub counts : steps ≡ stored node
   pub advances : at + nodeSize node ≤ next
   pub inside : next ≤ length text
   pub wrote : Wrote (RECORD * slot) (packNode node) old new
@@ -64,7 +67,7 @@ pub record NoNode (rule : ℕ → Reader (Node Leaf)) (text : List ℕ) (at slot
   pub kept : Kept (RECORD * slot) old new
 
 abbrev pub Told : (ℕ → Reader (Node Leaf)) → List ℕ → ℕ → ℕ → List ℕ → List ℕ → NodeAnswer → Type 0
-Told rule text at slot old new (Took next end) = NodeRead rule text at slot old new next end
+Told rule text at slot old new (Took next end steps) = NodeRead rule text at slot old new next end steps
 Told rule text at slot old new Nothing = NoNode rule text at slot old new
 
 -- a group or a bracket

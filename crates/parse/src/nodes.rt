@@ -15,21 +15,27 @@ use crate::parts::LeafAnswer;
 use charsets::whitespace_end;
 use notation::common::BinaryGroupKind;
 use notation::features::Features;
+use counts::of_group;
+use counts::sum;
 use record::RECORD;
 use record::encode::Fields;
+use record::encode::LEAF;
 use record::encode::binary_group_fields;
+use record::encode::binary_number;
 use record::encode::group_fields;
+use record::encode::group_number;
 use record::encode::put;
 
-// Where a list ends in the text, and the slot after its last record.
+// Where a list ends in the text, the slot after its last record, and its step count.
 pub struct Listed {
     pub next: usize,
     pub slot: usize,
+    pub count: u64,
 }
 
 // The same for a node.
 pub enum NodeAnswer {
-    Took(usize, usize),
+    Took(usize, usize, u64),
     Nothing,
 }
 
@@ -89,24 +95,26 @@ fn leaf_node(text: &[u8], at: usize, features: Features, tree: &mut [u8], slot: 
         return NodeAnswer::Nothing;
     };
     put_record(tree, slot, f);
-    NodeAnswer::Took(next, slot + 1)
+    NodeAnswer::Took(next, slot + 1, LEAF)
 }
 
 // Nodes with white space between them. A list ends where no node follows, and takes the white space before that.
 pub fn node_list(text: &[u8], at: usize, features: Features, tree: &mut [u8], slot: usize) -> Listed
     requires { ⌜ nodes.Within (now text) at slot ⌝ }
-    ensures { λ r. ⌜ nodes.ListRead features (now (text .entry)) at slot (now (tree .entry)) (now (tree .exit)) (r .next) (r .slot) ⌝ }
+    ensures { λ r. ⌜ nodes.ListRead features (now (text .entry)) at slot (now (tree .entry)) (now (tree .exit)) (r .next) (r .slot) (r .count) ⌝ }
 {
     let mut next = whitespace_end(text, at);
     let mut end = slot;
+    let mut count = 0;
     loop {
-        let NodeAnswer::Took(after, filled) = node(text, next, features, tree, end) else {
-            return Listed { next, slot: end };
+        let NodeAnswer::Took(after, filled, steps) = node(text, next, features, tree, end) else {
+            return Listed { next, slot: end, count };
         };
         end = filled;
+        count = sum(count, steps);
         next = whitespace_end(text, after);
         if next == after {
-            return Listed { next, slot: end };
+            return Listed { next, slot: end, count };
         }
     }
 }
@@ -116,10 +124,10 @@ fn node(text: &[u8], at: usize, features: Features, tree: &mut [u8], slot: usize
     requires { ⌜ nodes.Within (now text) at slot ⌝ }
     ensures { λ r. ⌜ nodes.Told (λ k. rule.node features (rule.nodeList features k)) (now (text .entry)) at slot (now (tree .entry)) (now (tree .exit)) r ⌝ }
 {
-    let NodeAnswer::Took(next, end) = leaf_node(text, at, features, tree, slot) else {
+    let NodeAnswer::Took(next, end, count) = leaf_node(text, at, features, tree, slot) else {
         return any_group(text, at, features, tree, slot);
     };
-    NodeAnswer::Took(next, end)
+    NodeAnswer::Took(next, end, count)
 }
 
 // A group of either sort. The first byte tells which one it can be.
@@ -137,7 +145,7 @@ fn any_group(text: &[u8], at: usize, features: Features, tree: &mut [u8], slot: 
     }
 }
 
-// A group's record is written after its contents, which tell how many records it holds.
+// A group's record is written after its contents, which tell how many records it holds and how many steps they are.
 fn group(text: &[u8], at: usize, features: Features, tree: &mut [u8], slot: usize) -> NodeAnswer
     requires { ⌜ nodes.Within (now text) at slot × (at < length (now text)) ⌝ }
     ensures { λ r. ⌜ nodes.Told (λ k. nodes.repeated (rule.groupNode (rule.nodeList features k))) (now (text .entry)) at slot (now (tree .entry)) (now (tree .exit)) r ⌝ }
@@ -151,8 +159,9 @@ fn group(text: &[u8], at: usize, features: Features, tree: &mut [u8], slot: usiz
             return NodeAnswer::Nothing;
         };
         let first = (list.slot - (slot + 1)) as u16;
-        put_record(tree, slot, group_fields(kind, first, bits));
-        NodeAnswer::Took(next, list.slot)
+        let count = of_group(group_number(kind), bits, list.count, 0);
+        put_record(tree, slot, group_fields(kind, first, bits, count));
+        NodeAnswer::Took(next, list.slot, count)
     } else {
         NodeAnswer::Nothing
     }
@@ -179,6 +188,7 @@ fn binary_group(
     };
     let first = (a.slot - (slot + 1)) as u16;
     let second = (b.slot - a.slot) as u16;
-    put_record(tree, slot, binary_group_fields(kind, first, second, bits));
-    NodeAnswer::Took(next, b.slot)
+    let count = of_group(binary_number(kind), bits, a.count, b.count);
+    put_record(tree, slot, binary_group_fields(kind, first, second, bits, count));
+    NodeAnswer::Took(next, b.slot, count)
 }

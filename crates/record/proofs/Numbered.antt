@@ -14,8 +14,8 @@ kindOf (leafHead pause) = 8
 kindOf (leafHead (pair u d)) = 9
 kindOf (leafHead slash) = 10
 kindOf (leafHead (megaminx k)) = megaminxNumber k
-kindOf (groupHead k n m) = groupNumber k
-kindOf (binaryHead k n n′ m) = binaryNumber k
+kindOf (groupHead k n m c) = groupNumber k
+kindOf (binaryHead k n n′ m c) = binaryNumber k
 
 pub kind-field : (h : Head) → getD (headFields h) 0 0 / 16 ≡ kindOf h
 kind-field (leafHead (rotation f c m)) = omega (arith, present-lt c)
@@ -24,5 +24,5 @@ kind-field (leafHead pause) = refl
 kind-field (leafHead (pair u d)) = refl
 kind-field (leafHead slash) = refl
 kind-field (leafHead (megaminx k)) = omega arith
-kind-field (groupHead k n m) = omega arith
-kind-field (binaryHead k n n′ m) = omega arith
+kind-field (groupHead k n m c) = omega arith
+kind-field (binaryHead k n n′ m c) = omega arith

@@ -47,7 +47,7 @@ use Rattle.notation.specs.Packed.{
   lowAndHigh,
   setPart,
   headFields,
-  record25,
+  headRecord,
   familyAt,
   headOf,
   headAt,
@@ -68,16 +68,16 @@ length-headFields (leafHead pause) = refl
 length-headFields (leafHead (pair u d)) = refl
 length-headFields (leafHead slash) = refl
 length-headFields (leafHead (megaminx k)) = refl
-length-headFields (groupHead k n m) = refl
-length-headFields (binaryHead k n n′ m) = refl
+length-headFields (groupHead k n m c) = refl
+length-headFields (binaryHead k n n′ m c) = refl
 
-pub length-record25 : (h : Head) → length (record25 h) ≡ RECORD
-unfolding record25
-length-record25 h = length-layOut widths (headFields h) (length-headFields h)
+pub length-headRecord : (h : Head) → length (headRecord h) ≡ RECORD
+unfolding headRecord
+length-headRecord h = length-layOut widths (headFields h) (length-headFields h)
 
-pub record25-below : (h : Head) → Below 256 (record25 h)
-unfolding record25
-record25-below h = layOut-below widths (headFields h)
+pub headRecord-below : (h : Head) → Below 256 (headRecord h)
+unfolding headRecord
+headRecord-below h = layOut-below widths (headFields h)
 
 -- the four parts of the first byte
 module _ (k t f p : ℕ) (t-fits : t < 2) (f-fits : f < 4) (p-fits : p < 2) where
@@ -94,10 +94,10 @@ module _ (k t f p : ℕ) (t-fits : t < 2) (f-fits : f < 4) (p-fits : p < 2) wher
   small-present = omega arith
 
 -- the fields of a head in range fit their widths
-in-order-fits : (k t f p n n′ m o : ℕ) (family constraints set : Span) → k < 16 → t < 2 → f < 4 → p < 2 → FitsField 1 n → FitsField 2 n′
-    → m < 2 ^ 32 → o < 2 ^ 32 → FitsSpan family → FitsSpan constraints → FitsSpan set
-    → Fits widths (inOrder k t f p n n′ m o family constraints set)
-in-order-fits k t f p n n′ m o family constraints set hk ht hf hp hn hn′ hm ho a b c =
+in-order-fits : (k t f p n n′ m o : ℕ) (family constraints set : Span) (count : ℕ) → k < 16 → t < 2 → f < 4 → p < 2 → FitsField 1 n → FitsField 2 n′
+    → m < 2 ^ 32 → o < 2 ^ 32 → FitsSpan family → FitsSpan constraints → FitsSpan set → FitsField 11 count
+    → Fits widths (inOrder k t f p n n′ m o family constraints set count)
+in-order-fits k t f p n n′ m o family constraints set count hk ht hf hp hn hn′ hm ho a b c hc =
     let byte : k * 16 + t * 8 + f * 2 + p < 256 ^ 1 = omega arith in
     and-field byte
     (and-field hn
@@ -109,7 +109,8 @@ in-order-fits k t f p n n′ m o family constraints set hk ht hf hp hn hn′ hm 
     (and-field (b .offset)
     (and-field (b .size)
     (and-field (c .offset)
-    (and-field (c .size) no-field))))))))))
+    (and-field (c .size)
+    (and-field hc no-field)))))))))))
 
 nowhere-fits : FitsSpan nowhere
 nowhere-fits = record { offset = lit< tt; size = lit< tt }
@@ -133,32 +134,32 @@ low-and-high-fits (layerSet p) h = lit< tt
 number-fits : (z : ℤ) → FitsNumber z → toBits 32 z < 2 ^ 32
 number-fits z h = toBits-lt 32 z (lit< tt) h
 
-without-parts-fits : (k n n′ m o : ℕ) → k < 16 → FitsField 1 n → FitsField 2 n′ → m < 2 ^ 32 → o < 2 ^ 32
-    → Fits widths (inOrder k 0 0 0 n n′ m o nowhere nowhere nowhere)
-without-parts-fits k n n′ m o hk hn hn′ hm ho =
-    in-order-fits k 0 0 0 n n′ m o nowhere nowhere nowhere hk (lit< tt) (lit< tt) (lit< tt) hn hn′ hm ho nowhere-fits nowhere-fits nowhere-fits
+without-parts-fits : (k n n′ m o c : ℕ) → k < 16 → FitsField 1 n → FitsField 2 n′ → m < 2 ^ 32 → o < 2 ^ 32 → FitsField 11 c
+    → Fits widths (inOrder k 0 0 0 n n′ m o nowhere nowhere nowhere c)
+without-parts-fits k n n′ m o c hk hn hn′ hm ho hc =
+    in-order-fits k 0 0 0 n n′ m o nowhere nowhere nowhere c hk (lit< tt) (lit< tt) (lit< tt) hn hn′ hm ho nowhere-fits nowhere-fits nowhere-fits hc
 
-kind-alone-fits : (k : ℕ) → k < 16 → Fits widths (inOrder k 0 0 0 0 0 0 0 nowhere nowhere nowhere)
-kind-alone-fits k h = without-parts-fits k 0 0 0 0 h (lit< tt) (lit< tt) (lit< tt) (lit< tt)
+kind-alone-fits : (k : ℕ) → k < 16 → Fits widths (inOrder k 0 0 0 0 0 0 0 nowhere nowhere nowhere 1)
+kind-alone-fits k h = without-parts-fits k 0 0 0 0 1 h (lit< tt) (lit< tt) (lit< tt) (lit< tt) (lit< tt)
 
 pub headFields-fit : (h : Head) → FitsHead h → Fits widths (headFields h)
 headFields-fit (leafHead (rotation f c m)) h =
-    in-order-fits 6 0 0 (present c) 0 0 (toBits 32 m) 0 f (orNowhere c) nowhere
+    in-order-fits 6 0 0 (present c) 0 0 (toBits 32 m) 0 f (orNowhere c) nowhere 1
     (lit< tt) (lit< tt) (lit< tt) (present-lt c) (lit< tt) (lit< tt) (number-fits m (h .2)) (lit< tt)
-    (h .0 .span) (or-nowhere-fits c (h .1)) nowhere-fits
+    (h .0 .span) (or-nowhere-fits c (h .1)) nowhere-fits (lit< tt)
 headFields-fit (leafHead (move t l f c m)) h =
-    in-order-fits 7 (bit t) (layerForm l) (present c) 0 0 (toBits 32 m) (lowAndHigh l) f (orNowhere c) (setPart l)
+    in-order-fits 7 (bit t) (layerForm l) (present c) 0 0 (toBits 32 m) (lowAndHigh l) f (orNowhere c) (setPart l) 1
     (lit< tt) (bit-lt t) (layerForm-lt l) (present-lt c) (lit< tt) (lit< tt) (number-fits m (h .3)) (low-and-high-fits l (h .0))
-    (h .1 .span) (or-nowhere-fits c (h .2)) (set-part-fits l (h .0))
+    (h .1 .span) (or-nowhere-fits c (h .2)) (set-part-fits l (h .0)) (lit< tt)
 headFields-fit (leafHead pause) h = kind-alone-fits 8 (lit< tt)
 headFields-fit (leafHead (pair u d)) h =
-    without-parts-fits 9 0 0 (toBits 32 u) (toBits 32 d) (lit< tt) (lit< tt) (lit< tt) (number-fits u (h .0)) (number-fits d (h .1))
+    without-parts-fits 9 0 0 (toBits 32 u) (toBits 32 d) 1 (lit< tt) (lit< tt) (lit< tt) (number-fits u (h .0)) (number-fits d (h .1)) (lit< tt)
 headFields-fit (leafHead slash) h = kind-alone-fits 10 (lit< tt)
 headFields-fit (leafHead (megaminx k)) h = kind-alone-fits (megaminxNumber k) (megaminxNumber-lt k)
-headFields-fit (groupHead k n m) h =
-    without-parts-fits (groupNumber k) n 0 (toBits 32 m) 0 (groupNumber-lt k) (h .0) (lit< tt) (number-fits m (h .1)) (lit< tt)
-headFields-fit (binaryHead k n n′ m) h =
-    without-parts-fits (binaryNumber k) n n′ (toBits 32 m) 0 (binaryNumber-lt k) (h .0) (h .1) (number-fits m (h .2)) (lit< tt)
+headFields-fit (groupHead k n m c) h =
+    without-parts-fits (groupNumber k) n 0 (toBits 32 m) 0 c (groupNumber-lt k) (h .0) (lit< tt) (number-fits m (h .1)) (lit< tt) (h .2)
+headFields-fit (binaryHead k n n′ m c) h =
+    without-parts-fits (binaryNumber k) n n′ (toBits 32 m) 0 c (binaryNumber-lt k) (h .0) (h .1) (number-fits m (h .2)) (lit< tt) (h .3)
 
 -- each part of a head is read back
 constraints-back : (c : Option Span) → pick (eqb (present c) 1) (some (span (orNowhere c .offset) (orNowhere c .size))) none ≡ c
@@ -230,19 +231,19 @@ headOf-headFields (leafHead (megaminx Rpp)) h = refl
 headOf-headFields (leafHead (megaminx Rmm)) h = refl
 headOf-headFields (leafHead (megaminx Dpp)) h = refl
 headOf-headFields (leafHead (megaminx Dmm)) h = refl
-headOf-headFields (groupHead Simple n m) h = rw (number-back m (h .1))
-headOf-headFields (groupHead Macro n m) h = rw (number-back m (h .1))
-headOf-headFields (groupHead Simultaneous n m) h = rw (number-back m (h .1))
-headOf-headFields (groupHead Niss n m) h = rw (number-back m (h .1))
-headOf-headFields (binaryHead Commutator n n′ m) h = rw (number-back m (h .2))
-headOf-headFields (binaryHead Conjugate n n′ m) h = rw (number-back m (h .2))
+headOf-headFields (groupHead Simple n m c) h = rw (number-back m (h .1))
+headOf-headFields (groupHead Macro n m c) h = rw (number-back m (h .1))
+headOf-headFields (groupHead Simultaneous n m c) h = rw (number-back m (h .1))
+headOf-headFields (groupHead Niss n m c) h = rw (number-back m (h .1))
+headOf-headFields (binaryHead Commutator n n′ m c) h = rw (number-back m (h .2))
+headOf-headFields (binaryHead Conjugate n n′ m c) h = rw (number-back m (h .2))
 
 -- a record in front of others: its fields, and what it says
-pub cut-record25 : (h : Head) (rest : List ℕ) → FitsHead h → cut widths (take RECORD (record25 h ++ rest)) ≡ headFields h
-unfolding record25
-cut-record25 h rest k =
-    ap (cut widths) (take-at (record25 h) rest RECORD (length-record25 h) ∙ sym (append-nil (record25 h)))
+pub cut-headRecord : (h : Head) (rest : List ℕ) → FitsHead h → cut widths (take RECORD (headRecord h ++ rest)) ≡ headFields h
+unfolding headRecord
+cut-headRecord h rest k =
+    ap (cut widths) (take-at (headRecord h) rest RECORD (length-headRecord h) ∙ sym (append-nil (headRecord h)))
     ∙ cut-layOut [] (headFields-fit h k)
 
-pub headAt-record25 : (h : Head) (rest : List ℕ) → FitsHead h → headAt (record25 h ++ rest) ≡ h
-headAt-record25 h rest k = ap headOf (cut-record25 h rest k) ∙ headOf-headFields h k
+pub headAt-headRecord : (h : Head) (rest : List ℕ) → FitsHead h → headAt (headRecord h ++ rest) ≡ h
+headAt-headRecord h rest k = ap headOf (cut-headRecord h rest k) ∙ headOf-headFields h k

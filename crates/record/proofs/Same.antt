@@ -9,7 +9,7 @@ use lib.Dec.{eqb}
 use lib.ListN.{length, take, getD}
 use lib.Seq.{length-take-le}
 use Rattle.notation.specs.Basics.{sameList}
-use Rattle.notation.specs.Packed.{RECORD, widths, layOut, cut, Head, headFields, record25}
+use Rattle.notation.specs.Packed.{RECORD, widths, layOut, cut, Head, headFields, headRecord}
 use Rattle.notation.proofs.Bools.{false-true, and-left as left, and-right as right, and-both as both}
 use Rattle.numbers.proofs.Positional.{Below, below-take}
 use Rattle.record.specs.Meaning.{field, span, spanAt}
@@ -59,6 +59,10 @@ unfolding sameList
 after-five {a} {b} {c} {d} {e} {a′} {b′} {c′} {d′} {e′} s t p q r u v =
     rw (eq-eqb a a′ p, eq-eqb b b′ q, eq-eqb c c′ r, eq-eqb d d′ u, eq-eqb e e′ v)
 
+pub after-one : {a a′ : ℕ} (s t : List ℕ) → a ≡ a′ → sameList s t ≡ sameList (a ∷ s) (a′ ∷ t)
+unfolding sameList
+after-one {a} {a′} s t p = rw (eq-eqb a a′ p)
+
 pub one-same : (x y : ℕ) → eqb x y ≡ sameList (x ∷ []) (y ∷ [])
 unfolding sameList
 one-same x y = go (eqb x y)
@@ -68,16 +72,16 @@ one-same x y = go (eqb x y)
     go false = refl
 
 -- the fields of a record are all there is to cut from it
-pub all-fields : (t : List ℕ) {small first second number other : ℕ} {family constraints set : Span} →
+pub all-fields : (t : List ℕ) {small first second number other count : ℕ} {family constraints set : Span} →
     small ≡ field 0 t → first ≡ field 1 t → second ≡ field 2 t → number ≡ field 3 t → other ≡ field 4 t →
-    span family ≡ spanAt 5 t → span constraints ≡ spanAt 7 t → span set ≡ spanAt 9 t →
-    small ∷ first ∷ second ∷ number ∷ other ∷ family .offset ∷ family .size ∷ constraints .offset ∷ constraints .size ∷ set .offset ∷ set .size ∷ []
+    span family ≡ spanAt 5 t → span constraints ≡ spanAt 7 t → span set ≡ spanAt 9 t → count ≡ field 11 t →
+    small ∷ first ∷ second ∷ number ∷ other ∷ family .offset ∷ family .size ∷ constraints .offset ∷ constraints .size ∷ set .offset ∷ set .size ∷ count ∷ []
     ≡ cut widths (take RECORD t)
 unfolding cut
-all-fields t a b c d e f g h = λ i.
-    a i ∷ b i ∷ c i ∷ d i ∷ e i ∷ f i .offset ∷ f i .size ∷ g i .offset ∷ g i .size ∷ h i .offset ∷ h i .size ∷ []
+all-fields t a b c d e f g h j = λ i.
+    a i ∷ b i ∷ c i ∷ d i ∷ e i ∷ f i .offset ∷ f i .size ∷ g i .offset ∷ g i .size ∷ h i .offset ∷ h i .size ∷ j i ∷ []
 
 pub same-record : (h : Head) (bs : List ℕ) → Fits widths (headFields h) → Below 256 bs → RECORD ≤ length bs →
-    sameList (headFields h) (cut widths (take RECORD bs)) ≡ sameList (record25 h) (take RECORD bs)
-unfolding record25
+    sameList (headFields h) (cut widths (take RECORD bs)) ≡ sameList (headRecord h) (take RECORD bs)
+unfolding headRecord
 same-record h bs f b l = same-fields (headFields h) bs f b l

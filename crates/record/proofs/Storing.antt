@@ -10,7 +10,7 @@ use lib.IntN.{ℤ}
 use lib.ListN.{length, getD, take, drop, set, length-append}
 use lib.Seq.{sets, sets-eq, drop-at, length-take-le}
 use Rattle.notation.specs.Numbers.{bigEndian, fromBigEndian}
-use Rattle.notation.specs.Packed.{RECORD, widths, layOut, binaryHead, headFields, record25}
+use Rattle.notation.specs.Packed.{RECORD, widths, layOut, binaryHead, headFields, headRecord}
 use Rattle.notation.specs.declared.common.BinaryGroupKind.{BinaryGroupKind}
 use Rattle.numbers.proofs.BigEndian.{length-bigEndian}
 use Rattle.record.specs.Meaning.{start, field, withField, withLists}
@@ -76,11 +76,11 @@ next-kept bs i n h long =
     ∙ ap (λ (l : List ℕ). fromBigEndian (take (getD widths (suc i) 0) l)) after
     ∙ sym (field-at bs (suc i) h)
 
--- the counts of a group with two lists
-pub lists-set : (k : BinaryGroupKind) (n n′ c c′ : ℕ) (m : ℤ) (rest : List ℕ)
-    → withLists c c′ (record25 (binaryHead k n n′ m) ++ rest) ≡ record25 (binaryHead k c c′ m) ++ rest
-unfolding record25
-lists-set k n n′ c c′ m rest =
-    let fs = headFields (binaryHead k n n′ m) in
-    ap (withField 2 c′) (store-field widths fs rest 1 c (lit< tt) refl)
-    ∙ store-field widths (set fs 1 c) rest 2 c′ (lit< tt) refl
+-- the sizes of a group's two lists
+pub lists-set : (k : BinaryGroupKind) (n n′ a a′ : ℕ) (m : ℤ) (c : ℕ) (rest : List ℕ)
+    → withLists a a′ (headRecord (binaryHead k n n′ m c) ++ rest) ≡ headRecord (binaryHead k a a′ m c) ++ rest
+unfolding headRecord
+lists-set k n n′ a a′ m c rest =
+    let fs = headFields (binaryHead k n n′ m c) in
+    ap (withField 2 a′) (store-field widths fs rest 1 a (lit< tt) refl)
+    ∙ store-field widths (set fs 1 a) rest 2 a′ (lit< tt) refl

@@ -9,7 +9,7 @@ use lib.ListN.{length, getD, take, drop, set, length-set, length-append}
 use lib.Seq.{drop-at}
 use Rattle.notation.specs.Numbers.{toBits, fromBits}
 use Rattle.notation.specs.Tree.{rotation, move, pause, pair, slash, megaminx}
-use Rattle.notation.specs.Packed.{RECORD, widths, cut, layOut, Head, leafHead, groupHead, binaryHead, megaminxNumber, headFields, record25, headAt}
+use Rattle.notation.specs.Packed.{RECORD, widths, cut, layOut, Head, leafHead, groupHead, binaryHead, megaminxNumber, headFields, headRecord, headAt}
 use Rattle.notation.specs.Invert.{exchanged}
 use Rattle.notation.specs.declared.common.MegaminxScrambleMove.{MegaminxScrambleMove}
 use Rattle.notation.specs.declared.common.GroupKind.the-variants.{Simple, Macro, Simultaneous, Niss}
@@ -20,7 +20,7 @@ use Rattle.record.specs.Meaning.{field, withField}
 use Rattle.record.specs.Range.{FitsNumber, FitsHead}
 use Rattle.record.specs.Undone.{StartsRecord, undoneHead}
 use Rattle.record.proofs.Numbered.{kindOf, kind-field}
-use Rattle.record.proofs.RoundTrip.{length-headFields, length-record25, cut-record25, headAt-record25}
+use Rattle.record.proofs.RoundTrip.{length-headFields, length-headRecord, cut-headRecord, headAt-headRecord}
 use Rattle.record.proofs.Storing.{store-field, next-kept}
 
 -- the bits of a number negated
@@ -44,8 +44,8 @@ half-undone (leafHead (megaminx Rpp)) h n l = absurd (omega arith)
 half-undone (leafHead (megaminx Rmm)) h n l = absurd (omega arith)
 half-undone (leafHead (megaminx Dpp)) h n l = absurd (omega arith)
 half-undone (leafHead (megaminx Dmm)) h n l = absurd (omega arith)
-half-undone (groupHead g a m) h n l = rw (number-negated m (h .1))
-half-undone (binaryHead g a b m) h n l = rw (number-negated m (h .2))
+half-undone (groupHead g a m c) h n l = rw (number-negated m (h .1))
+half-undone (binaryHead g a b m c) h n l = rw (number-negated m (h .2))
 
 -- of a pair also the other number
 both-undone : (h : Head) → FitsHead h → kindOf h ≡ 9 → set (halfFields h) 4 (negated (getD (headFields h) 4 0)) ≡ headFields (undoneHead h)
@@ -58,12 +58,12 @@ both-undone (leafHead (megaminx Rpp)) h e = absurd (omega arith)
 both-undone (leafHead (megaminx Rmm)) h e = absurd (omega arith)
 both-undone (leafHead (megaminx Dpp)) h e = absurd (omega arith)
 both-undone (leafHead (megaminx Dmm)) h e = absurd (omega arith)
-both-undone (groupHead Simple n m) h e = absurd (omega arith)
-both-undone (groupHead Macro n m) h e = absurd (omega arith)
-both-undone (groupHead Simultaneous n m) h e = absurd (omega arith)
-both-undone (groupHead Niss n m) h e = absurd (omega arith)
-both-undone (binaryHead Commutator n n′ m) h e = absurd (omega arith)
-both-undone (binaryHead Conjugate n n′ m) h e = absurd (omega arith)
+both-undone (groupHead Simple n m c) h e = absurd (omega arith)
+both-undone (groupHead Macro n m c) h e = absurd (omega arith)
+both-undone (groupHead Simultaneous n m c) h e = absurd (omega arith)
+both-undone (groupHead Niss n m c) h e = absurd (omega arith)
+both-undone (binaryHead Commutator n n′ m c) h e = absurd (omega arith)
+both-undone (binaryHead Conjugate n n′ m c) h e = absurd (omega arith)
 
 -- of a Megaminx move the kind
 move-undone : (h : Head) → 10 < kindOf h → (r : ℕ) → ((k : MegaminxScrambleMove) → kindOf h ≡ megaminxNumber k → r ≡ megaminxNumber (exchanged k))
@@ -77,23 +77,23 @@ move-undone (leafHead (megaminx Rpp)) l r e = rw (e Rpp refl)
 move-undone (leafHead (megaminx Rmm)) l r e = rw (e Rmm refl)
 move-undone (leafHead (megaminx Dpp)) l r e = rw (e Dpp refl)
 move-undone (leafHead (megaminx Dmm)) l r e = rw (e Dmm refl)
-move-undone (groupHead Simple n m) l r e = absurd (omega arith)
-move-undone (groupHead Macro n m) l r e = absurd (omega arith)
-move-undone (groupHead Simultaneous n m) l r e = absurd (omega arith)
-move-undone (groupHead Niss n m) l r e = absurd (omega arith)
-move-undone (binaryHead Commutator n n′ m) l r e = absurd (omega arith)
-move-undone (binaryHead Conjugate n n′ m) l r e = absurd (omega arith)
+move-undone (groupHead Simple n m c) l r e = absurd (omega arith)
+move-undone (groupHead Macro n m c) l r e = absurd (omega arith)
+move-undone (groupHead Simultaneous n m c) l r e = absurd (omega arith)
+move-undone (groupHead Niss n m c) l r e = absurd (omega arith)
+move-undone (binaryHead Commutator n n′ m c) l r e = absurd (omega arith)
+move-undone (binaryHead Conjugate n n′ m c) l r e = absurd (omega arith)
 
 -- what undoing the first record of bs is to leave
 abbrev pub Undone : List ℕ → List ℕ → Type 0
-Undone bs out = out ≡ record25 (undoneHead (headAt bs)) ++ drop RECORD bs
+Undone bs out = out ≡ headRecord (undoneHead (headAt bs)) ++ drop RECORD bs
 
 -- The fields of bytes that start with a record.
 module _ (bs : List ℕ) (s : StartsRecord bs) where
   pub field-is : (i : ℕ) → field i bs ≡ getD (headFields (headAt bs)) i 0
   field-is i =
       ap (λ (l : List ℕ). getD (cut widths (take RECORD l)) i 0) (sym (s .whole))
-      ∙ ap (λ (l : List ℕ). getD l i 0) (cut-record25 (headAt bs) (drop RECORD bs) (s .fits))
+      ∙ ap (λ (l : List ℕ). getD l i 0) (cut-headRecord (headAt bs) (drop RECORD bs) (s .fits))
 
   pub kind-is : field 0 bs / 16 ≡ kindOf (headAt bs)
   kind-is = ap (λ (k : ℕ). k / 16) (field-is 0) ∙ kind-field (headAt bs)
@@ -103,11 +103,11 @@ module _ (bs : List ℕ) (s : StartsRecord bs) where
   laid fs = layOut widths fs ++ drop RECORD bs
 
   laid-whole : bs ≡ laid (headFields (headAt bs))
-  unfolding record25
+  unfolding headRecord
   laid-whole = sym (s .whole)
 
   undone-of : {out : List ℕ} (fs : List ℕ) → out ≡ laid fs → fs ≡ headFields (undoneHead (headAt bs)) → Undone bs out
-  unfolding record25
+  unfolding headRecord
   undone-of fs o e = o ∙ ap laid e
 
   stored : (fs : List ℕ) (i n : ℕ) → length fs ≡ length widths → i < length widths → withField i n (laid fs) ≡ laid (set fs i n)
@@ -144,20 +144,20 @@ module _ (bs : List ℕ) (s : StartsRecord bs) where
         (move-undone (headAt bs) (rw kind-of h) x (λ j z. ex j (sym kind-of ∙ z)))
 
 -- Bytes that are a record and more: they start with it, and are undone by it.
-module _ (bs : List ℕ) (h : Head) (rest : List ℕ) (f : FitsHead h) (e : bs ≡ record25 h ++ rest) where
+module _ (bs : List ℕ) (h : Head) (rest : List ℕ) (f : FitsHead h) (e : bs ≡ headRecord h ++ rest) where
   pub head-with : headAt bs ≡ h
-  head-with = ap headAt e ∙ headAt-record25 h rest f
+  head-with = ap headAt e ∙ headAt-headRecord h rest f
 
   rest-with : drop RECORD bs ≡ rest
-  rest-with = ap (drop RECORD) e ∙ drop-at (record25 h) rest RECORD (length-record25 h)
+  rest-with = ap (drop RECORD) e ∙ drop-at (headRecord h) rest RECORD (length-headRecord h)
 
   pub starts-with : StartsRecord bs
   starts-with =
       record {
-        whole = ap₂ (λ (g : Head) (s : List ℕ). record25 g ++ s) head-with rest-with ∙ sym e;
+        whole = ap₂ (λ (g : Head) (s : List ℕ). headRecord g ++ s) head-with rest-with ∙ sym e;
         fits = subst FitsHead (sym head-with) f;
-        long = let z : length bs ≡ RECORD + length rest = (ap length e ∙ length-append (record25 h) rest ∙ ap (λ (k : ℕ). k + length rest) (length-record25 h)) in omega arith;
+        long = let z : length bs ≡ RECORD + length rest = (ap length e ∙ length-append (headRecord h) rest ∙ ap (λ (k : ℕ). k + length rest) (length-headRecord h)) in omega arith;
       }
 
-  pub undone-with : {out : List ℕ} → Undone bs out → out ≡ record25 (undoneHead h) ++ rest
-  undone-with u = u ∙ ap₂ (λ (g : Head) (s : List ℕ). record25 (undoneHead g) ++ s) head-with rest-with
+  pub undone-with : {out : List ℕ} → Undone bs out → out ≡ headRecord (undoneHead h) ++ rest
+  undone-with u = u ∙ ap₂ (λ (g : Head) (s : List ℕ). headRecord (undoneHead g) ++ s) head-with rest-with

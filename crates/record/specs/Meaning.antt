@@ -63,7 +63,7 @@ total ws = foldr (λ a b. a + b) 0 ws
 abbrev pub start : List ℕ → ℕ → ℕ
 start ws i = total (take i ws)
 
--- the first record with field i set to n; with both counts; with the part of the text that fields i and i + 1 name
+-- the first record with field i set to n; with the sizes of both lists; with the part of the text that fields i and i + 1 name
 abbrev pub withField : ℕ → ℕ → List ℕ → List ℕ
 withField i n bs = sets bs (start widths i) (bigEndian (getD widths i 0) n)
 
@@ -79,10 +79,10 @@ placeWidth = getD widths 5 0
 
 -- what the record says if it is of this kind, in the words of `headOf`
 abbrev pub groupAt : GroupKind → List ℕ → Head
-groupAt k bs = groupHead k (field 1 bs) (fromBits 32 (field 3 bs))
+groupAt k bs = groupHead k (field 1 bs) (fromBits 32 (field 3 bs)) (field 11 bs)
 
 abbrev pub binaryAt : BinaryGroupKind → List ℕ → Head
-binaryAt k bs = binaryHead k (field 1 bs) (field 2 bs) (fromBits 32 (field 3 bs))
+binaryAt k bs = binaryHead k (field 1 bs) (field 2 bs) (fromBits 32 (field 3 bs)) (field 11 bs)
 
 abbrev pub constraintsAt : List ℕ → Option tree.Span
 constraintsAt bs = pick (eqb (field 0 bs % 2) 1) (some (spanAt 7 bs)) none
@@ -106,4 +106,4 @@ abbrev pub listed : Fields → List ℕ
 listed f =
     f .small ∷ f .first ∷ f .second ∷ f .number ∷ f .other
     ∷ f .family .offset ∷ f .family .size ∷ f .constraints .offset ∷ f .constraints .size
-    ∷ f .«layer_set» .offset ∷ f .«layer_set» .size ∷ []
+    ∷ f .«layer_set» .offset ∷ f .«layer_set» .size ∷ f .count ∷ []

@@ -59,5 +59,5 @@ FitsLeaf (megaminx k) = Unit {0}
 
 abbrev pub FitsHead : Head → Type 0
 FitsHead (leafHead x) = FitsLeaf x
-FitsHead (groupHead k n m) = FitsField 1 n × FitsNumber m
-FitsHead (binaryHead k n n′ m) = FitsField 1 n × FitsField 2 n′ × FitsNumber m
+FitsHead (groupHead k n m c) = FitsField 1 n × FitsNumber m × FitsField 11 c
+FitsHead (binaryHead k n n′ m c) = FitsField 1 n × FitsField 2 n′ × FitsNumber m × FitsField 11 c

@@ -4,18 +4,18 @@ use mathlib.Core.Path.{_≡_}
 use mathlib.Core.List.{List, _++_}
 use lib.IntN.{negℤ}
 use lib.ListN.{length, drop}
-use Rattle.notation.specs.Packed.{RECORD, Head, leafHead, groupHead, binaryHead, record25, headAt}
+use Rattle.notation.specs.Packed.{RECORD, Head, leafHead, groupHead, binaryHead, headRecord, headAt}
 use Rattle.notation.specs.Invert.{undo}
 use Rattle.record.specs.Range.{FitsHead}
 
 -- bytes whose first record is one that packing writes
 pub record StartsRecord (bs : List ℕ) : Type 0 where
-  pub whole : record25 (headAt bs) ++ drop RECORD bs ≡ bs
+  pub whole : headRecord (headAt bs) ++ drop RECORD bs ≡ bs
   pub fits : FitsHead (headAt bs)
   pub long : RECORD ≤ length bs
 
 -- a record undone: a step, or a group as a whole
 abbrev pub undoneHead : Head → Head
 undoneHead (leafHead x) = leafHead (undo x)
-undoneHead (groupHead k n m) = groupHead k n (negℤ m)
-undoneHead (binaryHead k n n′ m) = binaryHead k n n′ (negℤ m)
+undoneHead (groupHead k n m c) = groupHead k n (negℤ m) c
+undoneHead (binaryHead k n n′ m c) = binaryHead k n n′ (negℤ m) c

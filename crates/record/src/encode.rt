@@ -21,6 +21,9 @@ use notation::common::MegaminxScrambleMove;
 
 const NOWHERE: Span = Span { offset: 0, size: 0 };
 
+// The step count of a leaf.
+pub const LEAF: u64 = 1;
+
 // The fields of a record in order.
 pub struct Fields {
     // The kind, and of a move its tilde, layer form and whether it has constraints.
@@ -32,6 +35,8 @@ pub struct Fields {
     pub family: Span,
     pub constraints: Span,
     pub layer_set: Span,
+    // How many steps the node unrolls into: of a leaf 1.
+    pub count: u64,
 }
 
 // The fields of the first record of t as they stand.
@@ -48,6 +53,7 @@ pub fn fields_at(t: &[u8]) -> Fields
         family: fields::family(t),
         constraints: fields::constraints(t),
         layer_set: fields::layer_set(t),
+        count: fields::count(t),
     }
 }
 
@@ -91,49 +97,65 @@ fn same_parts(a: Fields, b: Fields) -> bool
     if a.layer_set.offset != b.layer_set.offset {
         return false;
     }
-    a.layer_set.size == b.layer_set.size
+    if a.layer_set.size != b.layer_set.size {
+        return false;
+    }
+    a.count == b.count
 }
 
-pub fn group_fields(kind: GroupKind, first: u16, multiplier: u32) -> Fields
-    ensures { λ f. ⌜ meaning.listed f ≡ packed.headFields (packed.groupHead kind first (fromBits 32 multiplier)) ⌝ }
+pub fn group_fields(kind: GroupKind, first: u16, multiplier: u32, count: u64) -> Fields
+    ensures { λ f. ⌜ meaning.listed f ≡ packed.headFields (packed.groupHead kind first (fromBits 32 multiplier) count) ⌝ }
 {
-    without_parts(group_number(kind), first, 0, multiplier, 0)
+    without_parts(group_number(kind), first, 0, multiplier, 0, count)
 }
 
-pub fn binary_group_fields(kind: BinaryGroupKind, first: u16, second: u16, multiplier: u32) -> Fields
-    ensures { λ f. ⌜ meaning.listed f ≡ packed.headFields (packed.binaryHead kind first second (fromBits 32 multiplier)) ⌝ }
+pub fn binary_group_fields(
+    kind: BinaryGroupKind,
+    first: u16,
+    second: u16,
+    multiplier: u32,
+    count: u64,
+) -> Fields
+    ensures { λ f. ⌜ meaning.listed f ≡ packed.headFields (packed.binaryHead kind first second (fromBits 32 multiplier) count) ⌝ }
 {
-    without_parts(binary_number(kind), first, second, multiplier, 0)
+    without_parts(binary_number(kind), first, second, multiplier, 0, count)
 }
 
 pub fn pause_fields() -> Fields
     ensures { λ f. ⌜ meaning.listed f ≡ packed.headFields (packed.leafHead tree.pause) ⌝ }
 {
-    without_parts(kinds::PAUSE, 0, 0, 0, 0)
+    without_parts(kinds::PAUSE, 0, 0, 0, 0, LEAF)
 }
 
 pub fn pair_fields(u: u32, d: u32) -> Fields
     ensures { λ f. ⌜ meaning.listed f ≡ packed.headFields (packed.leafHead (tree.pair (fromBits 32 u) (fromBits 32 d))) ⌝ }
 {
-    without_parts(kinds::PAIR, 0, 0, u, d)
+    without_parts(kinds::PAIR, 0, 0, u, d, LEAF)
 }
 
 pub fn slash_fields() -> Fields
     ensures { λ f. ⌜ meaning.listed f ≡ packed.headFields (packed.leafHead tree.slash) ⌝ }
 {
-    without_parts(kinds::SLASH, 0, 0, 0, 0)
+    without_parts(kinds::SLASH, 0, 0, 0, 0, LEAF)
 }
 
 pub fn megaminx_fields(k: MegaminxScrambleMove) -> Fields
     ensures { λ f. ⌜ meaning.listed f ≡ packed.headFields (packed.leafHead (tree.megaminx k)) ⌝ }
 {
-    without_parts(megaminx_number(k), 0, 0, 0, 0)
+    without_parts(megaminx_number(k), 0, 0, 0, 0, LEAF)
 }
 
 // The fields of a node that names no part of the text.
-pub fn without_parts(kind: u8, first: u16, second: u16, number: u32, other: u32) -> Fields
+pub fn without_parts(
+    kind: u8,
+    first: u16,
+    second: u16,
+    number: u32,
+    other: u32,
+    count: u64,
+) -> Fields
     requires { ⌜ kind < 16 ⌝ }
-    ensures { λ f. ⌜ meaning.listed f ≡ packed.inOrder kind 0 0 0 first second number other packed.nowhere packed.nowhere packed.nowhere ⌝ }
+    ensures { λ f. ⌜ meaning.listed f ≡ packed.inOrder kind 0 0 0 first second number other packed.nowhere packed.nowhere packed.nowhere count ⌝ }
 {
     Fields {
         small: kind * 16,
@@ -144,6 +166,7 @@ pub fn without_parts(kind: u8, first: u16, second: u16, number: u32, other: u32)
         family: NOWHERE,
         constraints: NOWHERE,
         layer_set: NOWHERE,
+        count,
     }
 }
 
@@ -161,6 +184,7 @@ pub fn rotation_fields(x: Rotation) -> Fields
         family,
         constraints: or_nowhere(c),
         layer_set: NOWHERE,
+        count: LEAF,
     }
 }
 
@@ -179,10 +203,11 @@ pub fn move_fields(x: Move) -> Fields
         family,
         constraints: or_nowhere(c),
         layer_set: set_part(l),
+        count: LEAF,
     }
 }
 
-fn group_number(k: GroupKind) -> u8
+pub fn group_number(k: GroupKind) -> u8
     ensures { λ r. ⌜ r ≡ packed.groupNumber k ⌝ }
 {
     match k {
@@ -193,7 +218,7 @@ fn group_number(k: GroupKind) -> u8
     }
 }
 
-fn binary_number(k: BinaryGroupKind) -> u8
+pub fn binary_number(k: BinaryGroupKind) -> u8
     ensures { λ r. ⌜ r ≡ packed.binaryNumber k ⌝ }
 {
     match k {
@@ -280,4 +305,5 @@ pub fn put(out: &mut [u8], f: Fields)
     fields::set_family(out, family);
     fields::set_constraints(out, constraints);
     fields::set_layer_set(out, layer_set);
+    fields::set_count(out, f.count);
 }

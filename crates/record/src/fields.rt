@@ -13,9 +13,11 @@ use crate::spanned::Span;
 use numbers::big_endian::read_u8;
 use numbers::big_endian::read_u16;
 use numbers::big_endian::read_u32;
+use numbers::big_endian::read_u40;
 use numbers::big_endian::write_u8;
 use numbers::big_endian::write_u16;
 use numbers::big_endian::write_u32;
+use numbers::big_endian::write_u40;
 
 // The kind, and of a move its tilde, layer form and whether it has constraints.
 pub fn small(t: &[u8]) -> u8
@@ -121,6 +123,14 @@ pub fn layer_set(t: &[u8]) -> Span
     span_at(t, layout::LAYER_SET)
 }
 
+// How many steps the node unrolls into, its repeats included.
+pub fn count(t: &[u8]) -> u64
+    requires { ⌜ RECORD ≤ length (now t) ⌝ }
+    ensures { λ r. ⌜ r ≡ field 11 (now (t .entry)) ⌝ }
+{
+    read_u40(t, layout::COUNT)
+}
+
 pub fn set_small(out: &mut [u8], n: u8)
     requires { ⌜ RECORD ≤ length (now out) ⌝ }
     ensures { λ _. ⌜ now (out .exit) ≡ withField 0 n (now (out .entry)) ⌝ }
@@ -128,7 +138,7 @@ pub fn set_small(out: &mut [u8], n: u8)
     write_u8(out, layout::SMALL, n);
 }
 
-// Both counts of records.
+// How many records each list has.
 pub fn set_lists(out: &mut [u8], first: u16, second: u16)
     requires { ⌜ RECORD ≤ length (now out) ⌝ }
     ensures { λ _. ⌜ now (out .exit) ≡ withLists first second (now (out .entry)) ⌝ }
@@ -178,4 +188,11 @@ pub fn set_layer_set(out: &mut [u8], p: Span)
     ensures { λ _. ⌜ now (out .exit) ≡ withSpan 9 p (now (out .entry)) ⌝ }
 {
     set_span(out, layout::LAYER_SET, p);
+}
+
+pub fn set_count(out: &mut [u8], n: u64)
+    requires { ⌜ RECORD ≤ length (now out) ⌝ }
+    ensures { λ _. ⌜ now (out .exit) ≡ withField 11 n (now (out .entry)) ⌝ }
+{
+    write_u40(out, layout::COUNT, n);
 }

@@ -4,7 +4,7 @@ ghost use mathlib.Core.List.{_++_};
 ghost use Prim.Native.Nat.{_≤_};
 ghost use lib.ListN.{drop};
 ghost use Rattle.notation.specs.Invert.{exchanged as opposite};
-ghost use Rattle.notation.specs.Packed.{RECORD, record25, headAt, megaminxNumber};
+ghost use Rattle.notation.specs.Packed.{RECORD, headRecord, headAt, megaminxNumber};
 ghost use Rattle.notation.specs.declared.common.MegaminxScrambleMove.{MegaminxScrambleMove};
 ghost use Rattle.record.specs.Undone.{StartsRecord, undoneHead};
 use crate::fields;
@@ -14,7 +14,7 @@ use numbers::signed::negate;
 // Undoes the first record of r: a step, or a group as a whole, whose multiplier is negated.
 pub fn undo_record(r: &mut [u8])
     requires { ⌜ StartsRecord (now r) ⌝ }
-    ensures { λ _. ⌜ now (r .exit) ≡ record25 (undoneHead (headAt (now (r .entry)))) ++ drop RECORD (now (r .entry)) ⌝ }
+    ensures { λ _. ⌜ now (r .exit) ≡ headRecord (undoneHead (headAt (now (r .entry)))) ++ drop RECORD (now (r .entry)) ⌝ }
 {
     let kind = fields::kind(r);
     // A record without a multiplier has 0 there, which stays.

@@ -3,11 +3,12 @@ use Prim.Native.Nat.{ℕ, zero, suc, _≤_}
 use mathlib.Core.Bool.{Bool, true, false}
 use mathlib.Core.List.{List, [], _∷_, _++_}
 use native.Mathlib.Omega.{arith}
-use lib.IntN.{natAbs}
+
 use Rattle.notation.specs.Basics.{pick}
 use Rattle.notation.specs.Tree.{Leaf, Node, leaf, block, Body, group, binaryGroup, nil, cons, Tree}
 use Rattle.notation.specs.Invert.{undo}
 use Rattle.notation.specs.Unroll.{copies, turned}
+use Rattle.notation.specs.Counts.{times}
 use Rattle.notation.specs.declared.common.BinaryGroupKind.{BinaryGroupKind}
 use Rattle.notation.specs.declared.common.BinaryGroupKind.the-variants.{Commutator, Conjugate}
 use Rattle.laws.proofs.Unrolling.{inOrder, flatBinary, flatNode, flatBody, flat}
@@ -46,7 +47,7 @@ module _ {n : ℕ} where
     unfolding flatNode flatBody flat nodeBytes bodyBytes bytes
     node-within : (x : Node Leaf) (d : Bool) → nodeBytes x ≤ n → Within n (flatNode undo d x)
     node-within (leaf x) d h = one (leaf-within x d h) empty
-    node-within (block b m) d h = within-copies (natAbs m) (body-within b (turned m d) (omega arith))
+    node-within (block b m) d h = within-copies (times b m) (body-within b (turned m d) (omega arith))
 
     body-within : (b : Body Leaf) (d : Bool) → bodyBytes b ≤ n → Within n (flatBody undo d b)
     body-within (group k a) d h = unrolled-within a d (omega arith)

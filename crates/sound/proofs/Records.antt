@@ -11,10 +11,10 @@ use lib.IntN.{ℤ}
 use lib.ListN.{length, drop}
 use lib.Seq.{drop-at, drop-drop}
 use Rattle.notation.specs.Tree.{Leaf, Node, leaf, block, Body, group, binaryGroup, nil, cons, Tree}
-use Rattle.notation.specs.Packed.{RECORD, Head, leafHead, groupHead, binaryHead, record25, headAt, nodeSize, bodySize, size, bodyHead, packNode, packBody, pack, unpack}
+use Rattle.notation.specs.Packed.{RECORD, Head, leafHead, groupHead, binaryHead, headRecord, headAt, nodeSize, bodySize, size, bodyHead, packNode, packBody, pack, unpack}
 use Rattle.notation.specs.WellFormed.{leafOk, multiplierOk, nodeOk, bodyOk, treeOk}
 use Rattle.record.specs.Range.{FitsHead}
-use Rattle.record.proofs.RoundTrip.{length-record25, headAt-record25}
+use Rattle.record.proofs.RoundTrip.{length-headRecord, headAt-headRecord}
 use Rattle.laws.proofs.Bools.{and-left, and-right}
 use Rattle.laws.proofs.Packing.{FitsNode, FitsBody, FitsTree, length-packNode, length-packBody, length-pack}
 use Rattle.laws.proofs.Walking.{Packed}
@@ -22,16 +22,16 @@ use Rattle.sound.specs.Sound.{Sound}
 
 abbrev pub HeadOk : List ℕ → Head → Type 0
 HeadOk text (leafHead x) = leafOk text x ≡ true
-HeadOk text (groupHead k n m) = Unit {0}
-HeadOk text (binaryHead k n n′ m) = Unit {0}
+HeadOk text (groupHead k n m c) = Unit {0}
+HeadOk text (binaryHead k n n′ m c) = Unit {0}
 
 -- each of m records, whatever follows them
 pub record Each (text bytes : List ℕ) (m : ℕ) : Type 0 where
   pub at : (rest : List ℕ) (k : ℕ) → k < m → HeadOk text (headAt (drop (RECORD * k) (bytes ++ rest)))
 
-each-one : (text : List ℕ) (h : Head) → FitsHead h → HeadOk text h → Each text (record25 h) 1
+each-one : (text : List ℕ) (h : Head) → FitsHead h → HeadOk text h → Each text (headRecord h) 1
 each-one text h f ok =
-    record { at = λ rest k l. let z : RECORD * k ≡ 0 = omega arith in rw (z, headAt-record25 h rest f) ok }
+    record { at = λ rest k l. let z : RECORD * k ≡ 0 = omega arith in rw (z, headAt-headRecord h rest f) ok }
 
 each-append : {text a b : List ℕ} {m n : ℕ} → length a ≡ RECORD * m → Each text a m → Each text b n → Each text (a ++ b) (m + n)
 each-append {text} {a} {b} {m} {n} long p q = record { at = λ rest k l. go rest k l (ltb k m) refl }
@@ -56,7 +56,7 @@ mutual
   each-node : (n : Node Leaf) (text : List ℕ) → FitsNode n → nodeOk text n ≡ true → Each text (packNode n) (nodeSize n)
   each-node (leaf x) text f ok = each-one text (leafHead x) f ok
   each-node (block b m) text f ok =
-      each-append (length-record25 (bodyHead b m)) (each-one text (bodyHead b m) (f .0) (group-ok text b m)) (each-body b text (f .1) (and-right (multiplierOk m) _ ok))
+      each-append (length-headRecord (bodyHead b m)) (each-one text (bodyHead b m) (f .0) (group-ok text b m)) (each-body b text (f .1) (and-right (multiplierOk m) _ ok))
 
   each-body : (b : Body Leaf) (text : List ℕ) → FitsBody b → bodyOk text b ≡ true → Each text (packBody b) (bodySize b)
   each-body (group k a) text f ok = each-tree a text f ok

@@ -11,7 +11,7 @@ use Rattle.notation.specs.WellFormed.{treeOk}
 use Rattle.notation.specs.Entries.{checked, MAX-TEXT, MAX-STEPS}
 use Rattle.laws.proofs.Walking.{Packed}
 use Rattle.laws.proofs.Unrolling.{firstRefusal}
-use Rattle.laws.proofs.Counting.{count}
+use Rattle.notation.specs.Counts.{count}
 
 -- how many records a tree has: refusals 1, 2, 6
 abbrev pub recordsIn : List ℕ → List ℕ → Outcome ℕ

@@ -41,7 +41,7 @@ fits-at no-field i h = absurd (omega arith)
 fits-at (and-field f fs) zero h = f
 fits-at (and-field f fs) (suc i) h = fits-at fs i (omega arith)
 
-pub field-lt : (bs : List ℕ) → Below 256 bs → (i : ℕ) → i < 11 → field i bs < 256 ^ getD widths i 0
+pub field-lt : (bs : List ℕ) → Below 256 bs → (i : ℕ) → i < 12 → field i bs < 256 ^ getD widths i 0
 field-lt bs h i l = fits-at (cut-fits widths (take RECORD bs) (below-take 256 RECORD bs (lit< tt) h)) i l
 
 pub fromBits-fits : (n : ℕ) → n < 4294967296 → fitsBits 32 (fromBits 32 n) ≡ true
@@ -59,7 +59,7 @@ every-at P l d all p i = numbered-at (λ (n : ℕ). P) l d all (λ j h. p) i
 
 -- whatever bytes a record has, its head fits
 module _ (bs : List ℕ) (h : Below 256 bs) where
-  span-fits : (i : ℕ) → i < 10 → getD widths i 0 ≡ 2 → getD widths (i + 1) 0 ≡ 2 → FitsSpan (spanAt i bs)
+  span-fits : (i : ℕ) → i < 11 → getD widths i 0 ≡ 2 → getD widths (i + 1) 0 ≡ 2 → FitsSpan (spanAt i bs)
   span-fits i l e e′ =
       record {
         offset = subst (λ (w : ℕ). field i bs < 256 ^ w) e (field-lt bs h i (omega arith));
@@ -96,20 +96,21 @@ module _ (bs : List ℕ) (h : Below 256 bs) where
       let n = field-lt bs h 1 (lit< tt) in
       let n′ = field-lt bs h 2 (lit< tt) in
       let m = number-fits in
+      let c = field-lt bs h 11 (lit< tt) in
       let o : FitsNumber (fromBits 32 (field 4 bs)) = fromBits-fits (field 4 bs) (field-lt bs h 4 (lit< tt)) in
       subst FitsHead (sym (headAt-kind bs (field 0 bs / 16) refl))
       (every-at FitsHead (byKind bs) (leafHead pause) (
-        (n, m),
+        (n, m, c),
         (
-          (n, m),
+          (n, m, c),
           (
-            (n, m),
+            (n, m, c),
             (
-              (n, m),
+              (n, m, c),
               (
-                (n, n′, m),
+                (n, n′, m, c),
                 (
-                  (n, n′, m),
+                  (n, n′, m, c),
                   ((family-fits, constraints-fit, m), ((layers-fit, family-fits, constraints-fit, m), (tt, ((m, o), (tt, (tt, (tt, (tt, (tt, tt))))))))),
                 ),
               ),
@@ -121,17 +122,17 @@ module _ (bs : List ℕ) (h : Below 256 bs) where
 
 -- a list unpacked from so many bytes has no more records than fit there, the last of them perhaps cut off
 abbrev Few : ℕ → Type 0
-Few k = (bs : List ℕ) → RECORD * size (unpackFrom k bs) ≤ length bs + 24
+Few k = (bs : List ℕ) → RECORD * size (unpackFrom k bs) ≤ length bs + 29
 
-opened-few : (k : ℕ) → Few k → (bs : List ℕ) → 0 < length bs → (h : Head) → RECORD * size (opened k bs h) ≤ length bs + 24
+opened-few : (k : ℕ) → Few k → (bs : List ℕ) → 0 < length bs → (h : Head) → RECORD * size (opened k bs h) ≤ length bs + 29
 unfolding size nodeSize bodySize
 opened-few k ih bs p (leafHead x) =
     let r = rw (length-drop RECORD bs) at (ih (drop RECORD bs)) in omega arith
-opened-few k ih bs p (groupHead g n m) =
+opened-few k ih bs p (groupHead g n m c) =
     let a = simp (length-take, length-drop) at (ih (take (RECORD * n) (drop RECORD bs))) in
     let r = simp length-drop at (ih (drop (RECORD + RECORD * n) bs)) in
     omega arith
-opened-few k ih bs p (binaryHead g n n′ m) =
+opened-few k ih bs p (binaryHead g n n′ m c) =
     let a = simp (length-take, length-drop) at (ih (take (RECORD * n) (drop RECORD bs))) in
     let b = simp (length-take, length-drop) at (ih (take (RECORD * n′) (drop (RECORD + RECORD * n) bs))) in
     let r = simp length-drop at (ih (drop (RECORD + RECORD * (n + n′)) bs)) in
@@ -156,14 +157,14 @@ AllFit k = (bs : List ℕ) → Below 256 bs → FitsTree (unpackFrom k bs)
 opened-fits : (k : ℕ) → AllFit k → (bs : List ℕ) → Below 256 bs → (h : Head) → FitsHead h → FitsTree (opened k bs h)
 unfolding FitsTree FitsNode FitsBody
 opened-fits k ih bs b (leafHead x) f = (f, ih (drop (RECORD + RECORD * 0) bs) (below-drop 256 (RECORD + RECORD * 0) bs b))
-opened-fits k ih bs b (groupHead g n m) f =
+opened-fits k ih bs b (groupHead g n m c) f =
     let z = size-most k n (drop RECORD bs) in
-    (((omega arith, f .1), ih _ (below-take 256 (RECORD * n) _ (lit< tt) (below-drop 256 RECORD bs b))), ih _ (below-drop 256 (RECORD + RECORD * n) bs b))
-opened-fits k ih bs b (binaryHead g n n′ m) f =
+    (((omega arith, f .1, omega arith), ih _ (below-take 256 (RECORD * n) _ (lit< tt) (below-drop 256 RECORD bs b))), ih _ (below-drop 256 (RECORD + RECORD * n) bs b))
+opened-fits k ih bs b (binaryHead g n n′ m c) f =
     let z = size-most k n (drop RECORD bs) in
     let z′ = size-most k n′ (drop (RECORD + RECORD * n) bs) in (
       (
-        (omega arith, omega arith, f .2),
+        (omega arith, omega arith, f .2, omega arith),
         (
           ih _ (below-take 256 (RECORD * n) _ (lit< tt) (below-drop 256 RECORD bs b)),
           ih _ (below-take 256 (RECORD * n′) _ (lit< tt) (below-drop 256 (RECORD + RECORD * n) bs b)),

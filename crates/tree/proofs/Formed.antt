@@ -5,21 +5,21 @@ use mathlib.Core.Path.{_≡_, refl, sym, ap, ap₂, _∙_, subst}
 use mathlib.Core.Bool.{true, _&&_}
 use mathlib.Core.List.{List, [], _++_, append-assoc, append-nil}
 use native.Mathlib.Omega.{arith}
-use borrow.Author.Tests.{leb-true, le-leb, ltb-true, lt-ltb}
+use borrow.Author.Tests.{leb-true, le-leb, ltb-true, lt-ltb, eq-eqb}
 use lib.Dec.{ltb}
 use lib.ListN.{length, take, drop, length-drop, length-append, take-append-drop}
 use lib.Seq.{take-at, drop-at, drop-drop, length-take-le}
 use Rattle.notation.specs.Basics.{sameList}
 use Rattle.notation.specs.Tree.{Tree}
-use Rattle.notation.specs.Packed.{RECORD, Head, leafHead, groupHead, binaryHead, record25, size, packNode, packBody, pack, headAt, unpackFrom, unpack}
+use Rattle.notation.specs.Packed.{RECORD, Head, leafHead, groupHead, binaryHead, headRecord, size, packNode, packBody, pack, headAt, unpackFrom, unpack}
 use Rattle.notation.specs.WellFormed.{nodeOk, bodyOk, treeOk, nodeDepth, bodyDepth, depth, multiplierOk}
 use Rattle.numbers.proofs.Positional.{Below}
 use Rattle.record.specs.Range.{FitsHead}
-use Rattle.record.proofs.RoundTrip.{length-record25, headAt-record25}
+use Rattle.record.proofs.RoundTrip.{length-headRecord, headAt-headRecord}
 use Rattle.laws.proofs.Bools.{and-left, and-right, and-both}
 use Rattle.laws.proofs.Packing.{length-pack}
 use Rattle.record.proofs.Same.{same-refl, same-eq}
-use Rattle.tree.specs.Formed.{formed, headOk, first, second, both, firstBytes, secondBytes, restBytes}
+use Rattle.tree.specs.Formed.{formed, headOk, first, second, both, firstBytes, secondBytes, restBytes, countOk}
 use Rattle.tree.proofs.Opening.{both-sum, nodeOf, counting, counting-own, viewed, unpack-view}
 use Rattle.tree.proofs.Bytes.{head-fits, size-most}
 
@@ -88,14 +88,15 @@ join-parts bs n n′ =
 
 -- What packing writes of a head's node.
 pack-node : (h : Head) (bs : List ℕ) (a b : Tree) → a ≡ unpack (firstBytes h bs) → b ≡ unpack (secondBytes h bs) →
-    packNode (nodeOf h a b) ≡ record25 (counting h (size a) (size b)) ++ (pack a ++ pack b)
+    packNode (nodeOf h a b) ≡ headRecord (counting h a b) ++ (pack a ++ pack b)
 unfolding packNode packBody pack unpackFrom
 pack-node (leafHead x) bs a b ea eb =
-    sym (append-nil _) ∙ ap₂ (λ (s t : Tree). record25 (leafHead x) ++ (pack s ++ pack t)) (sym ea) (sym eb)
-pack-node (groupHead g n m) bs a b ea eb =
-    ap (λ (l : List ℕ). record25 (groupHead g (size a) m) ++ l) (sym (append-nil (pack a)))
-    ∙ ap (λ (t : Tree). record25 (groupHead g (size a) m) ++ (pack a ++ pack t)) (sym eb)
-pack-node (binaryHead g n n′ m) bs a b ea eb = refl
+    sym (append-nil _) ∙ ap₂ (λ (s t : Tree). headRecord (leafHead x) ++ (pack s ++ pack t)) (sym ea) (sym eb)
+pack-node (groupHead g n m c) bs a b ea eb =
+    let w = headRecord (counting (groupHead g n m c) a b) in
+    ap (λ (l : List ℕ). w ++ l) (sym (append-nil (pack a)))
+    ∙ ap (λ (t : Tree). w ++ (pack a ++ pack t)) (sym eb)
+pack-node (binaryHead g n n′ m c) bs a b ea eb = refl
 
 abbrev firstList : Head → List ℕ → Tree
 firstList h bs = unpack (firstBytes h bs)
@@ -105,12 +106,12 @@ secondList h bs = unpack (secondBytes h bs)
 
 view-bytes : (h : Head) (bs : List ℕ) →
     pack (viewed bs h)
-    ≡ record25 (counting h (size (firstList h bs)) (size (secondList h bs))) ++ (pack (firstList h bs) ++ (pack (secondList h bs) ++ pack (unpack (restBytes h bs))))
+    ≡ headRecord (counting h (firstList h bs) (secondList h bs)) ++ (pack (firstList h bs) ++ (pack (secondList h bs) ++ pack (unpack (restBytes h bs))))
 unfolding pack
 view-bytes h bs =
     let a = firstList h bs in
     let b = secondList h bs in
-    let w = record25 (counting h (size a) (size b)) in
+    let w = headRecord (counting h a b) in
     ap (λ (l : List ℕ). l ++ pack (unpack (restBytes h bs))) (pack-node h bs a b refl refl)
     ∙ append-assoc w (pack a ++ pack b) (pack (unpack (restBytes h bs)))
     ∙ ap (λ (l : List ℕ). w ++ l) (append-assoc (pack a) (pack b) (pack (unpack (restBytes h bs))))
@@ -128,7 +129,7 @@ asked : (text : List ℕ) (d : ℕ) (h : Head) (bs : List ℕ) → nodeOk text (
 unfolding unpackFrom treeOk nodeOk bodyOk depth nodeDepth bodyDepth
 asked text d (leafHead x) bs o l =
     record { head = o; first-ok = refl; second-ok = refl; first-low = omega arith; second-low = omega arith }
-asked text d (groupHead g n m) bs o l =
+asked text d (groupHead g n m c) bs o l =
     record {
       head = and-both (ltb 0 d) _ (lt-ltb 0 d (omega arith)) (and-left _ _ o);
       first-ok = and-right (multiplierOk m) _ o;
@@ -136,8 +137,8 @@ asked text d (groupHead g n m) bs o l =
       first-low = omega arith;
       second-low = omega arith;
     }
-asked text d (binaryHead g n n′ m) bs o l =
-    let h = binaryHead g n n′ m in
+asked text d (binaryHead g n n′ m c) bs o l =
+    let h = binaryHead g n n′ m c in
     record {
       head = and-both (ltb 0 d) _ (lt-ltb 0 d (omega arith)) (and-left _ _ o);
       first-ok = and-left _ _ (and-right (multiplierOk m) _ o);
@@ -150,11 +151,11 @@ answered : (text : List ℕ) (d : ℕ) (h : Head) (bs : List ℕ) → Asked text
     (nodeOk text (nodeOf h (firstList h bs) (secondList h bs)) ≡ true) × (nodeDepth (nodeOf h (firstList h bs) (secondList h bs)) ≤ d)
 unfolding unpackFrom treeOk nodeOk bodyOk depth nodeDepth bodyDepth
 answered text d (leafHead x) bs a = (a .head, omega arith)
-answered text d (groupHead g n m) bs a =
+answered text d (groupHead g n m c) bs a =
     let z : 0 < d = ltb-true 0 d (and-left _ _ (a .head)) in
     let low = a .first-low in
     (and-both (multiplierOk m) _ (and-right (ltb 0 d) _ (a .head)) (a .first-ok), omega arith)
-answered text d (binaryHead g n n′ m) bs a =
+answered text d (binaryHead g n n′ m c) bs a =
     let z : 0 < d = ltb-true 0 d (and-left _ _ (a .head)) in
     let low = a .first-low in
     let low′ = a .second-low in
@@ -162,24 +163,25 @@ answered text d (binaryHead g n n′ m) bs a =
 
 -- The parts of a well-formed list whose first record says h.
 pub record Parts (text : List ℕ) (d : ℕ) (h : Head) (bs : List ℕ) : Type 0 where
-  pub exact : record25 h ≡ take RECORD bs
+  pub exact : headRecord h ≡ take RECORD bs
   pub long : RECORD + RECORD * both h ≤ length bs
   pub head : headOk text d h ≡ true
   pub list : Formed text (d - 1) (firstBytes h bs)
   pub list′ : Formed text (d - 1) (secondBytes h bs)
+  pub count : countOk h (firstList h bs) (secondList h bs) ≡ true
   pub rest : Formed text d (restBytes h bs)
 
--- a head whose counts are changed fits while they are no greater
-fewer-fits : (h : Head) (k k′ : ℕ) → k ≤ first h → k′ ≤ second h → FitsHead h → FitsHead (counting h k k′)
-fewer-fits (leafHead x) k k′ l l′ f = f
-fewer-fits (groupHead g n m) k k′ l l′ f = (omega arith, f .1)
-fewer-fits (binaryHead g n n′ m) k k′ l l′ f = (omega arith, omega arith, f .2)
+-- a head whose sizes are changed fits while they are no greater
+fewer-fits : (h : Head) (a b : Tree) → size a ≤ first h → size b ≤ second h → FitsHead h → FitsHead (counting h a b)
+fewer-fits (leafHead x) a b l l′ f = f
+fewer-fits (groupHead g n m c) a b l l′ f = (omega arith, f .1, omega arith)
+fewer-fits (binaryHead g n n′ m c) a b l l′ f = (omega arith, omega arith, f .2, omega arith)
 
--- and says its counts
-counts : (h : Head) (k k′ : ℕ) → k ≤ first h → k′ ≤ second h → counting h k k′ ≡ h → (k ≡ first h) × (k′ ≡ second h)
-counts (leafHead x) k k′ l l′ e = (omega arith, omega arith)
-counts (groupHead g n m) k k′ l l′ e = (cc, omega arith)
-counts (binaryHead g n n′ m) k k′ l l′ e = (cc, cc)
+-- and says the sizes and the step count of its lists
+counts : (h : Head) (a b : Tree) → size a ≤ first h → size b ≤ second h → counting h a b ≡ h → (size a ≡ first h) × (size b ≡ second h) × (countOk h a b ≡ true)
+counts (leafHead x) a b l l′ e = (omega arith, omega arith, refl)
+counts (groupHead g n m c) a b l l′ e = (cc, omega arith, eq-eqb c _ cc)
+counts (binaryHead g n n′ m c) a b l l′ e = (cc, cc, eq-eqb c _ cc)
 
 pub formed-parts : (text : List ℕ) (d : ℕ) (bs : List ℕ) → Below 256 bs → 0 < length bs → Formed text d bs → Parts text d (headAt bs) bs
 unfolding treeOk depth
@@ -189,17 +191,17 @@ formed-parts text d bs b p f =
     let b′ = secondList h bs in
     let r = unpack (restBytes h bs) in
     let v : unpack bs ≡ viewed bs h = unpack-view bs p in
-    let w = record25 (counting h (size a) (size b′)) in
+    let w = headRecord (counting h a b′) in
     let shape : bs ≡ w ++ (pack a ++ (pack b′ ++ pack r)) = sym (f .whole) ∙ ap pack v ∙ view-bytes h bs in
     let few : size a ≤ first h = size-most (length (firstBytes h bs)) (first h) (drop RECORD bs) in
     let few′ : size b′ ≤ second h = size-most (length (secondBytes h bs)) (second h) (drop (RECORD + RECORD * first h) bs) in
-    let says : counting h (size a) (size b′) ≡ h =
-    sym (ap headAt shape ∙ headAt-record25 (counting h (size a) (size b′)) _ (fewer-fits h (size a) (size b′) few few′ (head-fits bs b)))
+    let says : counting h a b′ ≡ h =
+    sym (ap headAt shape ∙ headAt-headRecord (counting h a b′) _ (fewer-fits h a b′ few few′ (head-fits bs b)))
     in
-    let same = counts h (size a) (size b′) few few′ says in
+    let same = counts h a b′ few few′ says in
     let la : length (pack a) ≡ RECORD * first h = length-pack a ∙ ap (λ (k : ℕ). RECORD * k) (same .0) in
     let lb : length (pack b′) ≡ RECORD * second h = length-pack b′ ∙ ap (λ (k : ℕ). RECORD * k) (same .1) in
-    let lw : length w ≡ RECORD = length-record25 (counting h (size a) (size b′)) in
+    let lw : length w ≡ RECORD = length-headRecord (counting h a b′) in
     let parts = cut-parts bs w (pack a) (pack b′) (pack r) (first h) (second h) shape lw la lb in
     let rest : restBytes h bs ≡ pack r = ap (λ (k : ℕ). drop (RECORD + RECORD * k) bs) (both-sum h) ∙ parts .3 in
     let sizes : length bs ≡ length w + (length (pack a) + (length (pack b′) + length (pack r))) =
@@ -209,11 +211,12 @@ formed-parts text d bs b p f =
     let low : depth (viewed bs h) ≤ d = subst (λ (t : Tree). depth t ≤ d) v (f .low) in
     let q = asked text d h bs (and-left _ _ ok) (omega arith) in
     record {
-      exact = sym (parts .0 ∙ ap record25 says);
+      exact = sym (parts .0 ∙ ap headRecord says);
       long = omega (arith, both-sum h);
       head = q .head;
       list = record { whole = sym (parts .1); ok = q .first-ok; low = q .first-low };
       list′ = record { whole = sym (parts .2); ok = q .second-ok; low = q .second-low };
+      count = same .2;
       rest = record { whole = sym rest; ok = and-right (nodeOk text (nodeOf h a b′)) _ ok; low = omega arith };
     }
 
@@ -233,10 +236,10 @@ parts-formed text d bs p q =
     let sb : size b ≡ second h =
     omega (arith, length-pack b, ap length (q .list′ .whole), length-take-le (RECORD * second h) (drop (RECORD + RECORD * first h) bs) (simp length-drop (omega arith)))
     in
-    let says : counting h (size a) (size b) ≡ h = ap₂ (counting h) sa sb ∙ counting-own h in
+    let says : counting h a b ≡ h = counting-own h a b sa sb (q .count) in
     let rest : pack r ≡ drop (RECORD + RECORD * (first h + second h)) bs = q .rest .whole ∙ ap (λ (k : ℕ). drop (RECORD + RECORD * k) bs) s in
-    let bytes : record25 (counting h (size a) (size b)) ++ (pack a ++ (pack b ++ pack r)) ≡ bs =
-    ap₂ (λ (w y : List ℕ). w ++ (y ++ (pack b ++ pack r))) (ap record25 says ∙ q .exact) (q .list .whole)
+    let bytes : headRecord (counting h a b) ++ (pack a ++ (pack b ++ pack r)) ≡ bs =
+    ap₂ (λ (w y : List ℕ). w ++ (y ++ (pack b ++ pack r))) (ap headRecord says ∙ q .exact) (q .list .whole)
     ∙ ap₂ (λ (y z : List ℕ). take RECORD bs ++ (firstBytes h bs ++ (y ++ z))) (q .list′ .whole) rest
     ∙ join-parts bs (first h) (second h)
     in

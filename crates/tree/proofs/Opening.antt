@@ -2,33 +2,39 @@
 use Prim.Native.Nat.{ℕ, zero, suc, _+_, _-_, _*_, _≤_, _<_}
 use mathlib.Core.Path.{_≡_, refl, sym, ap, ap₂, _∙_}
 use mathlib.Core.List.{List, [], _∷_}
+use mathlib.Core.Bool.{true}
 use native.Mathlib.Omega.{arith}
+use borrow.Author.Tests.{eqb-true}
 use lib.ListN.{length, take, drop, length-take, length-drop}
 use Rattle.notation.specs.Tree.{Leaf, Node, leaf, block, group, binaryGroup, cons, Tree}
-use Rattle.notation.specs.Packed.{RECORD, Head, leafHead, groupHead, binaryHead, headAt, unpackFrom, unpack}
-use Rattle.tree.specs.Formed.{first, second, both, firstBytes, secondBytes, restBytes}
+use Rattle.notation.specs.Counts.{stored}
+use Rattle.notation.specs.Packed.{RECORD, Head, leafHead, groupHead, binaryHead, size, headAt, unpackFrom, unpack}
+use Rattle.tree.specs.Formed.{first, second, both, firstBytes, secondBytes, restBytes, countOk}
 use Rattle.laws.proofs.Packing.{opened, unpack-nil, unpack-step}
 
 pub both-sum : (h : Head) → both h ≡ first h + second h
 both-sum (leafHead x) = refl
-both-sum (groupHead g n m) = omega arith
-both-sum (binaryHead g n n′ m) = refl
+both-sum (groupHead g n m c) = omega arith
+both-sum (binaryHead g n n′ m c) = refl
 
--- The node of a head with these lists, and the head with these counts.
+-- The node of a head with these lists, and the head that packing writes of it.
 abbrev pub nodeOf : Head → Tree → Tree → Node Leaf
 nodeOf (leafHead x) a b = leaf x
-nodeOf (groupHead g n m) a b = block (group g a) m
-nodeOf (binaryHead g n n′ m) a b = block (binaryGroup g a b) m
+nodeOf (groupHead g n m c) a b = block (group g a) m
+nodeOf (binaryHead g n n′ m c) a b = block (binaryGroup g a b) m
 
-abbrev pub counting : Head → ℕ → ℕ → Head
-counting (leafHead x) k k′ = leafHead x
-counting (groupHead g n m) k k′ = groupHead g k m
-counting (binaryHead g n n′ m) k k′ = binaryHead g k k′ m
+abbrev pub counting : Head → Tree → Tree → Head
+counting (leafHead x) a b = leafHead x
+counting (groupHead g n m c) a b = groupHead g (size a) m (stored (block (group g a) m))
+counting (binaryHead g n n′ m c) a b = binaryHead g (size a) (size b) m (stored (block (binaryGroup g a b) m))
 
-pub counting-own : (h : Head) → counting h (first h) (second h) ≡ h
-counting-own (leafHead x) = refl
-counting-own (groupHead g n m) = refl
-counting-own (binaryHead g n n′ m) = refl
+-- which is the head itself if it says the right sizes and the right step count
+pub counting-own : (h : Head) (a b : Tree) → size a ≡ first h → size b ≡ second h → countOk h a b ≡ true → counting h a b ≡ h
+counting-own (leafHead x) a b l l′ e = refl
+counting-own (groupHead g n m c) a b l l′ e = ap₂ (λ (k j : ℕ). groupHead g k m j) l (sym (eqb-true c _ e))
+counting-own (binaryHead g n n′ m c) a b l l′ e =
+    let j = sym (eqb-true c (stored (block (binaryGroup g a b) m)) e) in
+    λ i. binaryHead g (l i) (l′ i) m (j i)
 
 -- each of the three is shorter
 shorter-list : (n m : ℕ) (bs : List ℕ) → 0 < length bs → length (take n (drop (RECORD + m) bs)) < length bs
@@ -41,9 +47,9 @@ shorter-rest m bs h = simp length-drop (omega arith)
 opened-same : (k j : ℕ) (bs : List ℕ) (h : Head) → 0 < length bs → ((xs : List ℕ) → length xs < length bs → unpackFrom k xs ≡ unpackFrom j xs) →
     opened k bs h ≡ opened j bs h
 opened-same k j bs (leafHead x) p f = ap (cons (leaf x)) (f _ (shorter-rest (RECORD * 0) bs p))
-opened-same k j bs (groupHead g n m) p f =
+opened-same k j bs (groupHead g n m c) p f =
     ap₂ (λ (a r : Tree). cons (block (group g a) m) r) (f _ (shorter-list (RECORD * n) 0 bs p)) (f _ (shorter-rest (RECORD * n) bs p))
-opened-same k j bs (binaryHead g n n′ m) p f =
+opened-same k j bs (binaryHead g n n′ m c) p f =
     let a = f (take (RECORD * n) (drop RECORD bs)) (shorter-list (RECORD * n) 0 bs p) in
     let b = f (take (RECORD * n′) (drop (RECORD + RECORD * n) bs)) (shorter-list (RECORD * n′) (RECORD * n) bs p) in
     let r = f (drop (RECORD + RECORD * (n + n′)) bs) (shorter-rest (RECORD * (n + n′)) bs p) in
@@ -83,8 +89,8 @@ view-head k bs h e p = go h
 
     go : (h : Head) → opened k bs h ≡ viewed bs h
     go (leafHead x) = ap (cons (leaf x)) (rest (RECORD * 0))
-    go (groupHead g n m) = ap₂ (λ (a r : Tree). cons (block (group g a) m) r) (list (RECORD * n) 0) (rest (RECORD * n))
-    go (binaryHead g n n′ m) =
+    go (groupHead g n m c) = ap₂ (λ (a r : Tree). cons (block (group g a) m) r) (list (RECORD * n) 0) (rest (RECORD * n))
+    go (binaryHead g n n′ m c) =
         λ i. cons (block (binaryGroup g (list (RECORD * n) 0 i) (list (RECORD * n′) (RECORD * n) i)) m) (rest (RECORD * (n + n′)) i)
 
 pub unpack-view : (bs : List ℕ) → 0 < length bs → unpack bs ≡ viewed bs (headAt bs)

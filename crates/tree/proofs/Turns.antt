@@ -1,17 +1,19 @@
 -- The walk: what each way out of a turn says of the list, and of its first node. Assumes nothing.
 use Prim.Native.Nat.{ℕ, _+_, _-_, _*_, _/_, _≤_, _<_}
-use mathlib.Core.Path.{_≡_, refl, sym, ap, _∙_, subst}
+use mathlib.Core.Path.{_≡_, refl, sym, ap, ap₂, _∙_, subst}
 use mathlib.Core.Bool.{Bool, true, false, _&&_, _||_}
 use mathlib.Core.List.{List, [], _∷_}
+use mathlib.Core.Option.{Option, none, some}
 use native.Mathlib.Omega.{arith}
 use borrow.Author.Tests.{leb-true, leb-false, eqb-true, eqb-false, lt-ltb}
 use lib.Dec.{leb, ltb, eqb, lit<}
 use lib.ListN.{length, take, drop, getD, length-drop}
 use lib.Seq.{take-all}
-use Rattle.notation.specs.Basics.{sameList}
+use Rattle.notation.specs.Basics.{pick, sameList}
 use Rattle.notation.specs.Numbers.{fromBits}
-use Rattle.notation.specs.Tree.{Leaf, pause, pair}
-use Rattle.notation.specs.Packed.{RECORD, widths, cut, inOrder, nowhere, Head, leafHead, headFields, record25, headAt}
+use Rattle.notation.specs.Tree.{Leaf, pause, pair, Node, Tree}
+use Rattle.notation.specs.Counts.{HELD, hold, countNode, count, stored}
+use Rattle.notation.specs.Packed.{RECORD, widths, cut, inOrder, nowhere, Head, leafHead, headFields, headRecord, headAt, unpackFrom, unpack}
 use Rattle.notation.specs.WellFormed.{leafOk, multiplierOk}
 use Rattle.numbers.proofs.Positional.{Below, below-drop}
 use Rattle.numbers.proofs.TwosComplement.{toBits-fromBits}
@@ -19,10 +21,11 @@ use Rattle.laws.proofs.Bools.{and-left, and-right, and-both, false-true}
 use Rattle.record.specs.Meaning.{field}
 use Rattle.record.proofs.Packed.{headAt-kind}
 use Rattle.record.proofs.Same.{same-refl, same-eq, refuted}
-use Rattle.tree.specs.Formed.{formed, headOk, first, second, both, firstBytes, secondBytes, restBytes, firstOk}
-use Rattle.tree.proofs.Opening.{both-sum}
+use Rattle.counts.specs.Held.{groupCount}
+use Rattle.tree.specs.Formed.{formed, formedCount, headOk, first, second, both, firstBytes, secondBytes, restBytes, countOk, firstOk}
+use Rattle.tree.proofs.Opening.{both-sum, nodeOf, unpack-view}
 use Rattle.tree.proofs.Bytes.{field-lt}
-use Rattle.tree.proofs.Heads.{GroupSays, group-says, leaf-says, alone-says, compared, field-written, first-written, second-written}
+use Rattle.tree.proofs.Heads.{GroupSays, group-says, leaf-says, alone-says, compared, field-written, first-written, second-written, count-written}
 use Rattle.tree.proofs.Formed.{formed-fact, fact-formed, formed-nil, Parts, formed-parts, parts-formed}
 
 -- two tests that hold together
@@ -42,7 +45,21 @@ and-false false b e = refl
 
 -- whether the first record is what packing writes
 abbrev same : List ℕ → Bool
-same bs = sameList (record25 (headAt bs)) (take RECORD bs)
+same bs = sameList (headRecord (headAt bs)) (take RECORD bs)
+
+-- the lists that it says, and the node that it is with them
+abbrev firstIn : List ℕ → Tree
+firstIn bs = unpack (firstBytes (headAt bs) bs)
+
+abbrev secondIn : List ℕ → Tree
+secondIn bs = unpack (secondBytes (headAt bs) bs)
+
+abbrev firstNode : List ℕ → Node Leaf
+firstNode bs = nodeOf (headAt bs) (firstIn bs) (secondIn bs)
+
+-- if these bytes are well formed, so many steps and theirs, held
+abbrev countFrom : List ℕ → ℕ → ℕ → List ℕ → Option ℕ
+countFrom text d n bs = pick (formed text d bs) (some (hold (n + count (unpack bs)))) none
 
 -- Lists that are not empty.
 module _ (text : List ℕ) (d : ℕ) (bs : List ℕ) (below : Below 256 bs) (some : 0 < length bs) where
@@ -50,7 +67,7 @@ module _ (text : List ℕ) (d : ℕ) (bs : List ℕ) (below : Below 256 bs) (som
   parts e = formed-parts text d bs below some (formed-fact text d bs e)
 
   same-part : Parts text d (headAt bs) bs → same bs ≡ true
-  same-part p = subst (λ (s : List ℕ). sameList (record25 (headAt bs)) s ≡ true) (p .exact) (same-refl (record25 (headAt bs)))
+  same-part p = subst (λ (s : List ℕ). sameList (headRecord (headAt bs)) s ≡ true) (p .exact) (same-refl (headRecord (headAt bs)))
 
   -- too short for a record
   pub too-short : length bs < RECORD → false ≡ formed text d bs
@@ -71,42 +88,64 @@ module _ (text : List ℕ) (d : ℕ) (bs : List ℕ) (below : Below 256 bs) (som
       (sym fails ∙ o
       ∙ and-both (same bs) _ (same-part p)
       (and-both (headOk text d (headAt bs)) _ (p .head)
-      (and-both _ _ (fact-formed text (d - 1) (firstBytes (headAt bs) bs) (p .list)) (fact-formed text (d - 1) (secondBytes (headAt bs) bs) (p .list′)))))
+      (and-both _ _ (fact-formed text (d - 1) (firstBytes (headAt bs) bs) (p .list))
+      (and-both _ _ (fact-formed text (d - 1) (secondBytes (headAt bs) bs) (p .list′)) (p .count)))))
 
-  -- a node that is passed: the rest decides
-  good-node : (ok : Bool) → ok ≡ firstOk text d bs → ok ≡ true → RECORD + RECORD * both (headAt bs) ≤ length bs → formed text d (restBytes (headAt bs) bs) ≡ formed text d bs
-  good-node ok o holds long = alike (formed text d (restBytes h bs)) (formed text d bs) up (λ e. fact-formed text d (restBytes h bs) (parts e .rest))
-    where
-      h : Head
-      h = headAt bs
+  -- a node that is passed
+  module _ (ok : Bool) (o : ok ≡ firstOk text d bs) (holds : ok ≡ true) where
+    abbrev h : Head
+    h = headAt bs
 
-      all : (headOk text d h && (formed text (d - 1) (firstBytes h bs) && formed text (d - 1) (secondBytes h bs))) ≡ true
-      all = and-right (same bs) _ (sym o ∙ holds)
+    below-head : (headOk text d h && (formed text (d - 1) (firstBytes h bs) && (formed text (d - 1) (secondBytes h bs) && countOk h (firstIn bs) (secondIn bs)))) ≡ true
+    below-head = and-right (same bs) _ (sym o ∙ holds)
 
-      lists : (formed text (d - 1) (firstBytes h bs) && formed text (d - 1) (secondBytes h bs)) ≡ true
-      lists = and-right (headOk text d h) _ all
+    in-lists : (formed text (d - 1) (firstBytes h bs) && (formed text (d - 1) (secondBytes h bs) && countOk h (firstIn bs) (secondIn bs))) ≡ true
+    in-lists = and-right (headOk text d h) _ below-head
 
-      up : formed text d (restBytes h bs) ≡ true → formed text d bs ≡ true
-      up r =
-          fact-formed text d bs
-          (parts-formed text d bs some
-          (record {
-            exact = same-eq (record25 h) (take RECORD bs) (and-left _ _ (sym o ∙ holds));
-            long = long;
-            head = and-left _ _ all;
-            list = formed-fact text (d - 1) (firstBytes h bs) (and-left _ _ lists);
-            list′ = formed-fact text (d - 1) (secondBytes h bs) (and-right (formed text (d - 1) (firstBytes h bs)) _ lists);
-            rest = formed-fact text d (restBytes h bs) r;
-          }))
+    in-second : (formed text (d - 1) (secondBytes h bs) && countOk h (firstIn bs) (secondIn bs)) ≡ true
+    in-second = and-right (formed text (d - 1) (firstBytes h bs)) _ in-lists
 
-pub no-more : (text : List ℕ) (d : ℕ) (bs : List ℕ) → length bs ≤ 0 → true ≡ formed text d bs
-no-more text d [] h = sym (formed-nil text d)
-no-more text d (b ∷ bs) h = absurd (omega arith)
+    right-count : countOk h (firstIn bs) (secondIn bs) ≡ true
+    right-count = and-right (formed text (d - 1) (secondBytes h bs)) _ in-second
 
--- What a turn leaves: the bytes that are left decide.
-pub record Left (text : List ℕ) (d : ℕ) (list bs : List ℕ) : Type 0 where
+    -- the rest decides
+    good-node : RECORD + RECORD * both h ≤ length bs → formed text d (restBytes h bs) ≡ formed text d bs
+    good-node long = alike (formed text d (restBytes h bs)) (formed text d bs) up (λ e. fact-formed text d (restBytes h bs) (parts e .rest))
+      where
+        up : formed text d (restBytes h bs) ≡ true → formed text d bs ≡ true
+        up r =
+            fact-formed text d bs
+            (parts-formed text d bs some
+            (record {
+              exact = same-eq (headRecord h) (take RECORD bs) (and-left _ _ (sym o ∙ holds));
+              long = long;
+              head = and-left _ _ below-head;
+              list = formed-fact text (d - 1) (firstBytes h bs) (and-left _ _ in-lists);
+              list′ = formed-fact text (d - 1) (secondBytes h bs) (and-left _ _ in-second);
+              count = right-count;
+              rest = formed-fact text d (restBytes h bs) r;
+            }))
+
+-- What a turn leaves: the steps that are counted, n of them, and the bytes that are left decide.
+pub record Left (text : List ℕ) (d : ℕ) (list bs : List ℕ) (n : ℕ) : Type 0 where
   pub below : Below 256 bs
-  pub same : formed text d bs ≡ formed text d list
+  pub held : n ≤ HELD
+  pub same : countFrom text d n bs ≡ formedCount text d list
+
+pub at-first : (text : List ℕ) (d : ℕ) (list : List ℕ) → Below 256 list → Left text d list list 0
+at-first text d list b =
+    let z : 0 + count (unpack list) ≡ count (unpack list) = omega arith in
+    record { below = b; held = omega arith; same = ap (λ (k : ℕ). pick (formed text d list) (some (hold k)) none) z }
+
+pub no-more : (text : List ℕ) (d : ℕ) (list bs : List ℕ) (n : ℕ) → Left text d list bs n → length bs ≤ 0 → some n ≡ formedCount text d list
+unfolding unpackFrom count
+no-more text d list [] n left h =
+    let same : n ≡ hold (n + count (unpack [])) = omega (arith, left .held) in
+    ap₂ (λ (b : Bool) (k : ℕ). pick b (some k) none) (sym (formed-nil text d)) same ∙ left .same
+no-more text d list (b ∷ bs) n left h = absurd (omega arith)
+
+pub refused : (text : List ℕ) (d : ℕ) (list bs : List ℕ) (n : ℕ) → Left text d list bs n → false ≡ formed text d bs → none ≡ formedCount text d list
+refused text d list bs n left e = ap (λ (b : Bool). pick b (some (hold (n + count (unpack bs)))) none) e ∙ left .same
 
 rest-is : (bs : List ℕ) (end : ℕ) → take (length bs - end) (drop end bs) ≡ drop end bs
 rest-is bs end = take-all (length bs - end) (drop end bs) (omega (arith, length-drop end bs))
@@ -114,41 +153,69 @@ rest-is bs end = take-all (length bs - end) (drop end bs) (omega (arith, length-
 pub shorter : (bs : List ℕ) (end : ℕ) → 0 < end → end ≤ length bs → length (take (length bs - end) (drop end bs)) < length bs
 shorter bs end p l = omega (arith, ap length (rest-is bs end), length-drop end bs)
 
-go-on : (text : List ℕ) (d : ℕ) (list bs : List ℕ) → Left text d list bs → (ok : Bool) → ok ≡ firstOk text d bs → ok ≡ true →
-    (end : ℕ) → end ≡ RECORD + RECORD * both (headAt bs) → end ≤ length bs → Left text d list (take (length bs - end) (drop end bs))
-go-on text d list bs left ok o holds end z l =
-    subst (Left text d list) (sym (rest-is bs end))
+-- the first node's steps, c of them as it stores them, and those of the rest
+count-on : (bs : List ℕ) (n c : ℕ) → 0 < length bs → c ≡ stored (firstNode bs) → hold (hold (n + c) + count (unpack (restBytes (headAt bs) bs))) ≡ hold (n + count (unpack bs))
+unfolding count
+count-on bs n c p e =
+    let whole : count (unpack bs) ≡ countNode (firstNode bs) + count (unpack (restBytes (headAt bs) bs)) = ap count (unpack-view bs p) in
+    omega arith
+
+go-on : (text : List ℕ) (d : ℕ) (list bs : List ℕ) (n : ℕ) → Left text d list bs n → (ok : Bool) → ok ≡ firstOk text d bs → ok ≡ true →
+    (end : ℕ) → end ≡ RECORD + RECORD * both (headAt bs) → end ≤ length bs → (c n′ : ℕ) → c ≡ stored (firstNode bs) → n′ ≡ hold (n + c) →
+    Left text d list (take (length bs - end) (drop end bs)) n′
+go-on text d list bs n left ok o holds end z l c n′ e s =
+    let p : 0 < length bs = omega arith in
+    let steps : hold (n′ + count (unpack (drop end bs))) ≡ hold (n + count (unpack bs)) =
+    (λ i. hold (s i + count (unpack (drop (z i) bs)))) ∙ count-on bs n c p e
+    in
+    subst (λ (r : List ℕ). Left text d list r n′) (sym (rest-is bs end))
     (record {
       below = below-drop 256 end bs (left .below);
-      same = ap (λ (k : ℕ). formed text d (drop k bs)) z ∙ good-node text d bs (left .below) (omega arith) ok o holds (omega arith) ∙ left .same;
+      held = omega arith;
+      same =
+        ap₂ (λ (b : Bool) (k : ℕ). pick b (some k) none)
+        (ap (λ (k : ℕ). formed text d (drop k bs)) z ∙ good-node text d bs (left .below) p ok o holds (omega arith)) steps
+        ∙ left .same;
     })
 
 -- the end of a group by the counts that are read
-pub counted : (bs : List ℕ) {n n′ : ℕ} → n ≡ field 1 bs → n′ ≡ field 2 bs → 25 + 25 * (n + n′) ≡ RECORD + RECORD * (field 1 bs + field 2 bs)
+pub counted : (bs : List ℕ) {n n′ : ℕ} → n ≡ field 1 bs → n′ ≡ field 2 bs → RECORD + RECORD * (n + n′) ≡ RECORD + RECORD * (field 1 bs + field 2 bs)
 counted bs e e′ = omega arith
 
-pub past-group : (text : List ℕ) (d : ℕ) (list bs : List ℕ) → Left text d list bs → (ok : Bool) → ok ≡ firstOk text d bs → ok ≡ true →
-    (end : ℕ) → end ≡ RECORD + RECORD * (field 1 bs + field 2 bs) → end ≤ length bs → Left text d list (take (length bs - end) (drop end bs))
-past-group text d list bs left ok o holds end z l =
+pub past-group : (text : List ℕ) (d : ℕ) (list bs : List ℕ) (n : ℕ) → Left text d list bs n → (ok : Bool) → ok ≡ firstOk text d bs → ok ≡ true →
+    (end : ℕ) → end ≡ RECORD + RECORD * (field 1 bs + field 2 bs) → end ≤ length bs → (c n′ : ℕ) → c ≡ field 11 bs → n′ ≡ hold (n + c) →
+    Left text d list (take (length bs - end) (drop end bs)) n′
+past-group text d list bs n left ok o holds end z l c n′ e s =
     let w : same bs ≡ true = and-left _ _ (sym o ∙ holds) in
     let long : RECORD ≤ length bs = omega arith in
-    go-on text d list bs left ok o holds end
+    let right = right-count text d bs (left .below) (omega arith) ok o holds in
+    go-on text d list bs n left ok o holds end
     (omega (arith, both-sum (headAt bs), first-written bs (left .below) long w, second-written bs (left .below) long w)) l
+    c n′ (e ∙ count-written bs (left .below) long w (firstIn bs) (secondIn bs) right) s
 
-pub past-leaf : (text : List ℕ) (d : ℕ) (list bs : List ℕ) → Left text d list bs → (ok : Bool) → ok ≡ firstOk text d bs → ok ≡ true →
-    6 ≤ field 0 bs / 16 → RECORD ≤ length bs → Left text d list (take (length bs - RECORD) (drop RECORD bs))
-past-leaf text d list bs left ok o holds k l =
-    go-on text d list bs left ok o holds RECORD (ap (λ (h : Head). RECORD + RECORD * both h) (leaf-says bs (field 0 bs / 16) refl k .1)) l
+-- so that the sum has room
+pub count-held : (text : List ℕ) (d : ℕ) (bs : List ℕ) → Below 256 bs → RECORD ≤ length bs → (ok : Bool) → ok ≡ firstOk text d bs → ok ≡ true → (c : ℕ) → c ≡ field 11 bs → c ≤ HELD
+count-held text d bs below long ok o holds c e =
+    let w = count-written bs below long (and-left _ _ (sym o ∙ holds)) (firstIn bs) (secondIn bs) (right-count text d bs below (omega arith) ok o holds) in
+    omega arith
+
+pub past-leaf : (text : List ℕ) (d : ℕ) (list bs : List ℕ) (n : ℕ) → Left text d list bs n → (ok : Bool) → ok ≡ firstOk text d bs → ok ≡ true →
+    6 ≤ field 0 bs / 16 → RECORD ≤ length bs → (n′ : ℕ) → n′ ≡ hold (n + 1) → Left text d list (take (length bs - RECORD) (drop RECORD bs)) n′
+unfolding countNode
+past-leaf text d list bs n left ok o holds k l n′ s =
+    let leaf = leaf-says bs (field 0 bs / 16) refl k .1 in
+    go-on text d list bs n left ok o holds RECORD (ap (λ (h : Head). RECORD + RECORD * both h) leaf) l
+    1 n′ (ap (λ (h : Head). stored (nodeOf h (firstIn bs) (secondIn bs))) leaf) s
 
 -- A leaf has no lists.
-leaf-lists : (text : List ℕ) (d : ℕ) (r b : Bool) → r ≡ b → r ≡ (b && (formed text d [] && formed text d []))
+leaf-lists : (text : List ℕ) (d : ℕ) (r b : Bool) → r ≡ b → r ≡ (b && (formed text d [] && (formed text d [] && true)))
 leaf-lists text d r true e = e ∙ rw (formed-nil text d)
 leaf-lists text d r false e = e
 
 leaf-decides : (text bs : List ℕ) (x : Leaf) → leafHead x ≡ headAt bs → (s : Bool) → s ≡ same bs → (d : ℕ) → (s && leafOk text x) ≡ firstOk text d bs
 leaf-decides text bs x e s p d =
     ap (λ (b : Bool). s && b) (leaf-lists text (d - 1) (leafOk text x) (leafOk text x) refl)
-    ∙ ap (λ (h : Head). s && (headOk text d h && (formed text (d - 1) (firstBytes h bs) && formed text (d - 1) (secondBytes h bs)))) e
+    ∙ ap (λ (h : Head). s && (headOk text d h && (formed text (d - 1) (firstBytes h bs) && (formed text (d - 1) (secondBytes h bs) && countOk h (unpack (firstBytes h bs)) (unpack (secondBytes h bs)))))) e
     ∙ rw p
 
 -- a record of a leaf, of kind k
@@ -172,18 +239,18 @@ module _ {bs : List ℕ} {k : ℕ} (read : LeafRead bs k) where
     leaf-alone : leafOk text x ≡ true → (d : ℕ) → s ≡ firstOk text d bs
     leaf-alone z d = and-true s (leafOk text x) z ∙ leaf-decides text bs x e s leaf-same d
 
-  pub pair-read : (text : List ℕ) {u v : ℕ} {fs gs : List ℕ} (s : Bool) → k ≡ 9 → u ≡ field 3 bs → v ≡ field 4 bs → fs ≡ inOrder 9 0 0 0 0 0 u v nowhere nowhere nowhere →
+  pub pair-read : (text : List ℕ) {u v : ℕ} {fs gs : List ℕ} (s : Bool) → k ≡ 9 → u ≡ field 3 bs → v ≡ field 4 bs → fs ≡ inOrder 9 0 0 0 0 0 u v nowhere nowhere nowhere 1 →
       gs ≡ cut widths (take RECORD bs) → s ≡ sameList fs gs → (d : ℕ) → s ≡ firstOk text d bs
   unfolding leafOk
   pair-read text s z a b p o q =
       let n = field 3 bs in
       let n′ = field 4 bs in
       leaf-alone text (pair (fromBits 32 n) (fromBits 32 n′)) (sym (headAt-kind bs 9 (sym z ∙ read .kind))) s
-      (p ∙ (λ i. inOrder 9 0 0 0 0 0 (a i) (b i) nowhere nowhere nowhere)
+      (p ∙ (λ i. inOrder 9 0 0 0 0 0 (a i) (b i) nowhere nowhere nowhere 1)
       ∙ rw (toBits-fromBits 32 n (field-lt bs (read .below) 3 (lit< tt)), toBits-fromBits 32 n′ (field-lt bs (read .below) 4 (lit< tt))))
       o q refl
 
-  pub alone-read : (text : List ℕ) {fs gs : List ℕ} (s : Bool) → (k ≡ 6 → ⊥) → (k ≡ 7 → ⊥) → (k ≡ 9 → ⊥) → (k ≡ 15 → ⊥) → fs ≡ inOrder k 0 0 0 0 0 0 0 nowhere nowhere nowhere →
+  pub alone-read : (text : List ℕ) {fs gs : List ℕ} (s : Bool) → (k ≡ 6 → ⊥) → (k ≡ 7 → ⊥) → (k ≡ 9 → ⊥) → (k ≡ 15 → ⊥) → fs ≡ inOrder k 0 0 0 0 0 0 0 nowhere nowhere nowhere 1 →
       gs ≡ cut widths (take RECORD bs) → s ≡ sameList fs gs → (d : ℕ) → s ≡ firstOk text d bs
   alone-read text s six seven nine last p o q =
       let x = leaf-says bs k (read .kind) (read .leaf) in
@@ -233,11 +300,11 @@ pub record GroupRead (bs : List ℕ) (k n : ℕ) (q : Bool) : Type 0 where
   pub may : q ≡ (leb 4 k || eqb n 0)
 
 pub group-written : {bs : List ℕ} {k n : ℕ} {q : Bool} → GroupRead bs k n q → q ≡ true → (m : Bool) → m ≡ multiplier bs → m ≡ true →
-    {n′ number : ℕ} {fs gs : List ℕ} (r : Bool) → n′ ≡ field 1 bs → number ≡ field 3 bs →
-    fs ≡ inOrder k 0 0 0 n′ n number 0 nowhere nowhere nowhere → gs ≡ cut widths (take RECORD bs) → r ≡ sameList fs gs → r ≡ (same bs && multiplier bs)
-group-written {bs} {k} {n} {q} g t m e h {n′} {number} {fs} {gs} r a b p o s =
+    {n′ number steps : ℕ} {fs gs : List ℕ} (r : Bool) → n′ ≡ field 1 bs → number ≡ field 3 bs → steps ≡ field 11 bs →
+    fs ≡ inOrder k 0 0 0 n′ n number 0 nowhere nowhere nowhere steps → gs ≡ cut widths (take RECORD bs) → r ≡ sameList fs gs → r ≡ (same bs && multiplier bs)
+group-written {bs} {k} {n} {q} g t m e h {n′} {number} {steps} {fs} {gs} r a b c p o s =
     let z = second-is bs k n (g .says) (g .count) q (g .may) t in
-    compared bs (g .below) (g .long) fs gs r (p ∙ (λ i. inOrder k 0 0 0 (a i) (z i) (b i) 0 nowhere nowhere nowhere) ∙ sym (g .says .fields)) o s
+    compared bs (g .below) (g .long) fs gs r (p ∙ (λ i. inOrder k 0 0 0 (a i) (z i) (b i) 0 nowhere nowhere nowhere (c i)) ∙ sym (g .says .fields)) o s
     ∙ and-true (same bs) (multiplier bs) (sym e ∙ h)
 
 pub second-refused : {bs : List ℕ} {k n : ℕ} {q : Bool} → GroupRead bs k n q → q ≡ false → false ≡ (same bs && multiplier bs)
@@ -260,51 +327,122 @@ pub record GroupTold (bs : List ℕ) : Type 0 where
   pub below : Below 256 bs
   pub long : RECORD ≤ length bs
   pub asks : (text : List ℕ) (d : ℕ) → headOk text d (headAt bs) ≡ (ltb 0 d && multiplier bs)
+  pub counts : (a b : Tree) → countOk (headAt bs) a b ≡ eqb (field 11 bs) (groupCount (field 0 bs / 16) (fromBits 32 (field 3 bs)) (hold (count a)) (hold (count b)))
 
 pub group-told : (bs : List ℕ) → Below 256 bs → RECORD + RECORD * (field 1 bs + field 2 bs) ≤ length bs → field 0 bs / 16 < 6 → GroupTold bs
-group-told bs b l k = record { below = b; long = omega arith; asks = group-says bs b (field 0 bs / 16) refl k .asks }
+group-told bs b l k =
+    let says = group-says bs b (field 0 bs / 16) refl k in
+    record { below = b; long = omega arith; asks = says .asks; counts = says .counts }
+
+-- what a list's answer tells
+pub list-refused : (b : Bool) (k : ℕ) → none ≡ pick b (some k) none → b ≡ false
+list-refused true k e = cc
+list-refused false k e = refl
+
+pub list-passed : (b : Bool) (k n : ℕ) → some n ≡ pick b (some k) none → (b ≡ true) × (n ≡ k)
+list-passed true k n e = (refl, cc)
+list-passed false k n e = (cc, cc)
+
+list-held : (text : List ℕ) (d : ℕ) (bs : List ℕ) (n : ℕ) → some n ≡ formedCount text d bs → n ≤ HELD
+list-held text d bs n e =
+    let z = list-passed (formed text d bs) (hold (count (unpack bs))) n e .1 in
+    omega arith
+
+-- a group's lists and its count
+abbrev lists : List ℕ → ℕ → List ℕ → Bool
+lists text d bs =
+    formed text (d - 1) (firstBytes (headAt bs) bs)
+    && (formed text (d - 1) (secondBytes (headAt bs) bs) && countOk (headAt bs) (firstIn bs) (secondIn bs))
 
 module _ (text : List ℕ) (d : ℕ) (bs : List ℕ) (g : GroupTold bs) where
-  abbrev lists : Bool
-  lists = formed text (d - 1) (firstBytes (headAt bs) bs) && formed text (d - 1) (secondBytes (headAt bs) bs)
-
-  as-group : (same bs && ((ltb 0 d && multiplier bs) && lists)) ≡ firstOk text d bs
-  as-group = ap (λ (b : Bool). same bs && (b && lists)) (sym (g .asks text d))
+  as-group : (same bs && ((ltb 0 d && multiplier bs) && lists text d bs)) ≡ firstOk text d bs
+  as-group = ap (λ (b : Bool). same bs && (b && lists text d bs)) (sym (g .asks text d))
 
   pub no-level : d ≡ 0 → false ≡ firstOk text d bs
   no-level z =
       let none : ltb 0 d ≡ false = rw z in
-      and-false (same bs) ((ltb 0 d && multiplier bs) && lists) (rw none) ∙ as-group
+      and-false (same bs) ((ltb 0 d && multiplier bs) && lists text d bs) (rw none) ∙ as-group
 
   pub group-refused : (r : Bool) → r ≡ (same bs && multiplier bs) → r ≡ false → false ≡ firstOk text d bs
-  group-refused r e f = record-refused (same bs) (ltb 0 d) (multiplier bs) lists (sym e ∙ f) ∙ as-group
+  group-refused r e f = record-refused (same bs) (ltb 0 d) (multiplier bs) (lists text d bs) (sym e ∙ f) ∙ as-group
 
-  module _ (level : 0 < d) (r : Bool) (e : r ≡ (same bs && multiplier bs)) (t : r ≡ true) (n : ℕ) (z : n ≡ field 1 bs)
-      (a : Bool) (f : a ≡ formed text (d - 1) (take (25 + 25 * n - 25) (drop 25 bs))) where
-    written : same bs ≡ true
-    written = and-left (same bs) (multiplier bs) (sym e ∙ t)
+-- A group whose record is passed, with n records in its first list, and what was answered of that list.
+pub record FirstRead (text : List ℕ) (d : ℕ) (bs : List ℕ) (n : ℕ) (a : Option ℕ) : Type 0 where
+  pub told : GroupTold bs
+  pub level : 0 < d
+  pub passed : (same bs && multiplier bs) ≡ true
+  pub size : n ≡ field 1 bs
+  pub answer : a ≡ formedCount text (d - 1) (take (RECORD + RECORD * n - RECORD) (drop RECORD bs))
 
-    by-lists : lists ≡ firstOk text d bs
-    by-lists = record-passed (same bs) (ltb 0 d) (multiplier bs) lists (lt-ltb 0 d level) (sym e ∙ t) ∙ as-group
+module _ {text : List ℕ} {d : ℕ} {bs : List ℕ} {n : ℕ} {a : Option ℕ} (one : FirstRead text d bs n a) where
+  first-size : field 1 bs ≡ first (headAt bs)
+  first-size = first-written bs (one .told .below) (one .told .long) (and-left (same bs) (multiplier bs) (one .passed))
 
-    first-told : a ≡ formed text (d - 1) (firstBytes (headAt bs) bs)
-    first-told =
-        let w = first-written bs (g .below) (g .long) written in
-        let c : 25 + 25 * n - 25 ≡ 25 * first (headAt bs) = omega arith in
-        f ∙ ap (λ (i : ℕ). formed text (d - 1) (take i (drop 25 bs))) c
+  second-size : field 2 bs ≡ second (headAt bs)
+  second-size = second-written bs (one .told .below) (one .told .long) (and-left (same bs) (multiplier bs) (one .passed))
 
-    pub first-refused : a ≡ false → a ≡ firstOk text d bs
-    first-refused fails =
-        fails ∙ ap (λ (b : Bool). b && formed text (d - 1) (secondBytes (headAt bs) bs)) (sym fails ∙ first-told) ∙ by-lists
+  by-lists : lists text d bs ≡ firstOk text d bs
+  by-lists =
+      record-passed (same bs) (ltb 0 d) (multiplier bs) (lists text d bs) (lt-ltb 0 d (one .level)) (one .passed)
+      ∙ as-group text d bs (one .told)
 
-    pub both-lists : a ≡ true → (n′ : ℕ) → n′ ≡ field 2 bs → (b : Bool) →
-        b ≡ formed text (d - 1) (take (25 + 25 * n + 25 * n′ - (25 + 25 * n)) (drop (25 + 25 * n) bs)) → b ≡ firstOk text d bs
-    both-lists holds n′ z′ b f′ =
-        let w = first-written bs (g .below) (g .long) written in
-        let w′ = second-written bs (g .below) (g .long) written in
-        let c : 25 + 25 * n ≡ 25 + 25 * first (headAt bs) = omega arith in
-        let c′ : 25 + 25 * n + 25 * n′ - (25 + 25 * n) ≡ 25 * second (headAt bs) = omega arith in
-        f′
-        ∙ (λ i. formed text (d - 1) (take (c′ i) (drop (c i) bs)))
-        ∙ ap (λ (x : Bool). x && formed text (d - 1) (secondBytes (headAt bs) bs)) (sym holds ∙ first-told)
-        ∙ by-lists
+  first-told : a ≡ formedCount text (d - 1) (firstBytes (headAt bs) bs)
+  first-told =
+      let c : RECORD + RECORD * n - RECORD ≡ RECORD * first (headAt bs) = omega (arith, one .size, first-size) in
+      one .answer ∙ ap (λ (i : ℕ). formedCount text (d - 1) (take i (drop RECORD bs))) c
+
+  pub first-refused : a ≡ none → false ≡ firstOk text d bs
+  first-refused fails =
+      ap (λ (b : Bool). b && (formed text (d - 1) (secondBytes (headAt bs) bs) && countOk (headAt bs) (firstIn bs) (secondIn bs)))
+      (sym (list-refused (formed text (d - 1) (firstBytes (headAt bs) bs)) _ (sym fails ∙ first-told)))
+      ∙ by-lists
+
+  pub first-held : (k : ℕ) → a ≡ some k → k ≤ HELD
+  first-held k e = list-held text (d - 1) (firstBytes (headAt bs) bs) k (sym e ∙ first-told)
+
+-- The first list has k steps; the second, with n′ records, was answered too.
+pub record SecondRead (text : List ℕ) (d : ℕ) (bs : List ℕ) (k : ℕ) (b : Option ℕ) : Type 0 where
+  pub n : ℕ
+  pub n′ : ℕ
+  pub one : FirstRead text d bs n (some k)
+  pub size : n′ ≡ field 2 bs
+  pub answer : b ≡ formedCount text (d - 1) (take (RECORD + RECORD * n + RECORD * n′ - (RECORD + RECORD * n)) (drop (RECORD + RECORD * n) bs))
+
+module _ {text : List ℕ} {d : ℕ} {bs : List ℕ} {k : ℕ} {b : Option ℕ} (two : SecondRead text d bs k b) where
+  first-count : (formed text (d - 1) (firstBytes (headAt bs) bs) ≡ true) × (k ≡ hold (count (firstIn bs)))
+  first-count = list-passed (formed text (d - 1) (firstBytes (headAt bs) bs)) _ k (first-told (two .one))
+
+  second-told : b ≡ formedCount text (d - 1) (secondBytes (headAt bs) bs)
+  second-told =
+      let n = two .n in
+      let n′ = two .n′ in
+      let c : RECORD + RECORD * n ≡ RECORD + RECORD * first (headAt bs) = omega (arith, two .one .size, first-size (two .one)) in
+      let c′ : RECORD + RECORD * n + RECORD * n′ - (RECORD + RECORD * n) ≡ RECORD * second (headAt bs) = omega (arith, two .size, second-size (two .one)) in
+      two .answer ∙ (λ i. formedCount text (d - 1) (take (c′ i) (drop (c i) bs)))
+
+  -- the second list and the count are left
+  by-second : (formed text (d - 1) (secondBytes (headAt bs) bs) && countOk (headAt bs) (firstIn bs) (secondIn bs)) ≡ firstOk text d bs
+  by-second =
+      ap (λ (x : Bool). x && (formed text (d - 1) (secondBytes (headAt bs) bs) && countOk (headAt bs) (firstIn bs) (secondIn bs))) (sym (first-count .0))
+      ∙ by-lists (two .one)
+
+  pub second-list-refused : b ≡ none → false ≡ firstOk text d bs
+  second-list-refused fails =
+      ap (λ (x : Bool). x && countOk (headAt bs) (firstIn bs) (secondIn bs))
+      (sym (list-refused (formed text (d - 1) (secondBytes (headAt bs) bs)) _ (sym fails ∙ second-told)))
+      ∙ by-second
+
+  pub second-held : (k′ : ℕ) → b ≡ some k′ → k′ ≤ HELD
+  second-held k′ e = list-held text (d - 1) (secondBytes (headAt bs) bs) k′ (sym e ∙ second-told)
+
+  -- the count as it is compared
+  pub count-compared : (k′ : ℕ) → b ≡ some k′ → (kind number stored′ whole : ℕ) → kind ≡ field 0 bs / 16 → number ≡ field 3 bs →
+      stored′ ≡ field 11 bs → whole ≡ groupCount kind (fromBits 32 number) k k′ → eqb stored′ whole ≡ firstOk text d bs
+  count-compared k′ e kind number stored′ whole zk zn zs zw =
+      let p = first-count .1 in
+      let q = list-passed (formed text (d - 1) (secondBytes (headAt bs) bs)) _ k′ (sym e ∙ second-told) in
+      ap (eqb stored′) zw
+      ∙ (λ i. eqb (zs i) (groupCount (zk i) (fromBits 32 (zn i)) (p i) (q .1 i)))
+      ∙ sym (two .one .told .counts (firstIn bs) (secondIn bs))
+      ∙ ap (λ (x : Bool). x && countOk (headAt bs) (firstIn bs) (secondIn bs)) (sym (q .0))
+      ∙ by-second

@@ -1,2 +1,3 @@
 -- What the contracts of this crate cite beside the rules of `notation`.
 pub mod Formed
+pub mod Meaning

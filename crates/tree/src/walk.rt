@@ -1,12 +1,15 @@
 // Refusal 6: a tree is well formed if its bytes are what packing writes of its nodes, each node is in bounds, and groups are
-// nested at most 64 deep.
+// nested at most 64 deep. The same visit adds up the step counts that packing writes.
 use crate::leaf::move_ok;
 use crate::leaf::multiplier_ok;
 use crate::leaf::rotation_ok;
+use counts::of_group;
+use counts::sum;
 use notation::limits::MAX_NESTING;
 use record::RECORD;
 use record::decode::layered_move;
 use record::decode::rotation;
+use record::encode::LEAF;
 use record::encode::fields_at;
 use record::encode::move_fields;
 use record::encode::rotation_fields;
@@ -21,48 +24,61 @@ ghost use lib.Dec.{leb, eqb};
 ghost use lib.ListN.{length, take};
 ghost use Rattle.notation.specs.Basics.{sameList};
 ghost use Rattle.notation.specs.Numbers.{fromBits};
-ghost use Rattle.notation.specs.Packed.{RECORD, record25, headAt};
+ghost use Rattle.notation.specs.Packed.{RECORD, headRecord, headAt};
 ghost use Rattle.notation.specs.WellFormed.{multiplierOk, wellFormed};
 ghost use Rattle.record.specs.Meaning.{field};
-ghost use Rattle.tree.specs.Formed.{formed, firstOk};
+ghost use Rattle.tree.specs.Formed.{formedCount, firstOk};
+ghost use Rattle.tree.specs.Meaning.{counted};
 
 pub fn well_formed(text: &[u8], tree: &[u8]) -> bool
     ensures { λ r. ⌜ r ≡ wellFormed (now (text .entry)) (now (tree .entry)) ⌝ }
 {
-    list_ok(text, tree, MAX_NESTING)
+    match list_count(text, tree, MAX_NESTING) {
+        Counted::Steps(_) => true,
+        Counted::Nothing => false,
+    }
 }
 
-// Whether these records are a list of nodes in which groups are nested at most `depth` deep.
-fn list_ok(text: &[u8], list: &[u8], depth: usize) -> bool
-    ensures { λ r. ⌜ r ≡ formed (now (text .entry)) depth (now (list .entry)) ⌝ }
+// How many steps a list has that is well formed.
+enum Counted {
+    Steps(u64),
+    Nothing,
+}
+
+// Whether these records are a list of nodes in which groups are nested at most `depth` deep, and if so how many steps they are.
+fn list_count(text: &[u8], list: &[u8], depth: usize) -> Counted
+    ensures { λ r. ⌜ counted r ≡ formedCount (now (text .entry)) depth (now (list .entry)) ⌝ }
 {
     let mut t = list;
+    let mut count = 0;
     while 0 < t.len() {
         if t.len() < RECORD {
-            return false;
+            return Counted::Nothing;
         }
         if fields::kind(t) < kinds::ROTATION {
             let end = RECORD + RECORD * (fields::first(t) as usize + fields::second(t) as usize);
             if t.len() < end {
-                return false;
+                return Counted::Nothing;
             }
             if group_ok(text, t, depth) {
+                count = sum(count, fields::count(t));
                 t = &t[end..];
             } else {
-                return false;
+                return Counted::Nothing;
             }
         } else {
             if leaf_ok(text, t) {
+                count = sum(count, LEAF);
                 t = &t[RECORD..];
             } else {
-                return false;
+                return Counted::Nothing;
             }
         }
     }
-    true
+    Counted::Steps(count)
 }
 
-// Whether the first node, a group, is in bounds, and its lists with one level less are well formed.
+// Whether the first node, a group, is in bounds, its lists with one level less are well formed, and it stores the step count that they come to.
 fn group_ok(text: &[u8], t: &[u8], depth: usize) -> bool
     requires { ⌜ RECORD + RECORD * (field 1 (now t) + field 2 (now t)) ≤ length (now t) ⌝ }
     requires { ⌜ field 0 (now t) / 16 < 6 ⌝ }
@@ -76,17 +92,23 @@ fn group_ok(text: &[u8], t: &[u8], depth: usize) -> bool
         let second = fields::second(t);
         let middle = RECORD + RECORD * first as usize;
         let end = middle + RECORD * second as usize;
-        list_ok(text, &t[RECORD..middle], depth - 1) && list_ok(text, &t[middle..end], depth - 1)
+        let Counted::Steps(a) = list_count(text, &t[RECORD..middle], depth - 1) else {
+            return false;
+        };
+        let Counted::Steps(b) = list_count(text, &t[middle..end], depth - 1) else {
+            return false;
+        };
+        fields::count(t) == of_group(fields::kind(t), fields::number(t), a, b)
     } else {
         false
     }
 }
 
-// Whether the first record, that of a group, is what packing writes, and its multiplier is in bounds.
+// Whether the first record, that of a group, is what packing writes with this step count, and its multiplier is in bounds.
 fn group_record_ok(t: &[u8]) -> bool
     requires { ⌜ RECORD ≤ length (now t) ⌝ }
     requires { ⌜ field 0 (now t) / 16 < 6 ⌝ }
-    ensures { λ r. ⌜ r ≡ (sameList (record25 (headAt (now (t .entry)))) (take RECORD (now (t .entry))) && multiplierOk (fromBits 32 (field 3 (now (t .entry))))) ⌝ }
+    ensures { λ r. ⌜ r ≡ (sameList (headRecord (headAt (now (t .entry)))) (take RECORD (now (t .entry))) && multiplierOk (fromBits 32 (field 3 (now (t .entry))))) ⌝ }
 {
     let kind = fields::kind(t);
     let second = fields::second(t);
@@ -94,7 +116,7 @@ fn group_record_ok(t: &[u8]) -> bool
     if second_ok(kind, second) {
         multiplier_ok(number)
             && same_fields(
-                without_parts(kind, fields::first(t), second, number, 0),
+                without_parts(kind, fields::first(t), second, number, 0, fields::count(t)),
                 fields_at(t),
             )
     } else {
@@ -126,10 +148,10 @@ fn leaf_ok(text: &[u8], t: &[u8]) -> bool
             same_fields(rotation_fields(x), fields_at(t)) && rotation_ok(text, x)
         }
         kinds::PAIR => same_fields(
-            without_parts(kinds::PAIR, 0, 0, fields::number(t), fields::other(t)),
+            without_parts(kinds::PAIR, 0, 0, fields::number(t), fields::other(t), LEAF),
             fields_at(t),
         ),
         15 => false,
-        _ => same_fields(without_parts(kind, 0, 0, 0, 0), fields_at(t)),
+        _ => same_fields(without_parts(kind, 0, 0, 0, 0, LEAF), fields_at(t)),
     }
 }

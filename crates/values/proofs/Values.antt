@@ -24,7 +24,7 @@ use Rattle.notation.specs.Host.{VALUES, partNumber, Small, Whole, NeverBites}
 use Rattle.notation.specs.declared.features.Features.{Features}
 use Rattle.numbers.proofs.Positional.{Below, below-nil, below-append, below-drop}
 use Rattle.record.specs.Range.{FitsSpan, FitsHead}
-use Rattle.record.proofs.RoundTrip.{length-record25, record25-below}
+use Rattle.record.proofs.RoundTrip.{length-headRecord, headRecord-below}
 use Rattle.laws.proofs.Bools.{no-refusal}
 use Rattle.laws.proofs.Outcomes.{same-result, after, held}
 use Rattle.laws.proofs.Packing.{length-pack, well-formed-packed}
@@ -77,7 +77,7 @@ step-at-most : (text tree : List ℕ) (k : ℕ) → AtMost RECORD (stepAt text t
 step-at-most text tree k l e =
     let s = after (steps text tree) e in
     let x = after (orRefuse NO-SUCH-PLACE (getElem? (s .0) k)) (s .2) in
-    omega (arith, ap length (same-result (x .2)), length-record25 (leafHead (x .0)))
+    omega (arith, ap length (same-result (x .2)), length-headRecord (leafHead (x .0)))
 
 -- Layer ranges: at most 16,384, counted in entries of four bytes.
 in-entries : (o : Outcome ℕ) → Small o → Small (_>>=_ o (λ n. result (n / 4)))
@@ -93,8 +93,8 @@ ranges-at-most text tree k n neg bytes e =
 mutual
   unfolding packNode packBody pack
   bytes-node : (n : Node Leaf) → Below 256 (packNode n)
-  bytes-node (leaf x) = record25-below (leafHead x)
-  bytes-node (block b m) = below-append 256 _ _ (record25-below (bodyHead b m)) (bytes-body b)
+  bytes-node (leaf x) = headRecord-below (leafHead x)
+  bytes-node (block b m) = below-append 256 _ _ (headRecord-below (bodyHead b m)) (bytes-body b)
 
   bytes-body : (b : Body Leaf) → Below 256 (packBody b)
   bytes-body (group k a) = bytes a
@@ -117,8 +117,8 @@ family-fits (leafHead pause) p h e = no-refusal e
 family-fits (leafHead (pair u d)) p h e = no-refusal e
 family-fits (leafHead slash) p h e = no-refusal e
 family-fits (leafHead (megaminx k)) p h e = no-refusal e
-family-fits (groupHead k n m) p h e = no-refusal e
-family-fits (binaryHead k n n′ m) p h e = no-refusal e
+family-fits (groupHead k n m c) p h e = no-refusal e
+family-fits (binaryHead k n n′ m c) p h e = no-refusal e
 
 part-fits : (text tree : List ℕ) (k : ℕ) (p : Span) → familySpan text tree k ≡ result p → FitsSpan p
 unfolding familySpan

@@ -11,7 +11,7 @@ use lib.IntN.{pos}
 use lib.ListN.{replicate}
 use Rattle.notation.specs.Features.{MAXIMAL}
 use Rattle.notation.specs.Tree.{span, rotation, move, pause, noLayers, layerSet}
-use Rattle.notation.specs.Packed.{leafRecord, record25, groupHead, binaryHead}
+use Rattle.notation.specs.Packed.{leafRecord, headRecord, groupHead, binaryHead}
 use Rattle.notation.specs.Refusals.{Outcome, refusal, result, _>>=_}
 use Rattle.notation.specs.Unroll.{copies}
 use Rattle.notation.specs.WellFormed.{wellFormed}
@@ -73,10 +73,10 @@ wellFormedOrNot : map (wellFormed (bytes "β{β}R{β}"))
     ∷ leafRecord (move false (layerSet (span 2 4)) (span 0 2) none (pos 1))
     ∷ leafRecord (rotation (span 3 0) none (pos 1))
     ∷ leafRecord (rotation (span 0 0) none (pos 0))
-    ∷ (record25 (groupHead Simple 1 (pos 1)) ++ record25 (groupHead Simple 1 (pos 1)) ++ leafRecord pause)
-    ∷ (record25 (groupHead Simple 2 (pos 1)) ++ record25 (groupHead Simple 1 (pos 1)) ++ leafRecord pause)
-    ∷ (record25 (binaryHead Commutator 0 1 (pos 1)) ++ leafRecord pause)
-    ∷ (record25 (binaryHead Commutator 1 65535 (pos 1)) ++ leafRecord pause)
+    ∷ (headRecord (groupHead Simple 1 (pos 1) 0) ++ headRecord (groupHead Simple 1 (pos 1) 1) ++ leafRecord pause)
+    ∷ (headRecord (groupHead Simple 2 (pos 1) 1) ++ headRecord (groupHead Simple 1 (pos 1) 1) ++ leafRecord pause)
+    ∷ (headRecord (binaryHead Commutator 0 1 (pos 1) 2) ++ leafRecord pause)
+    ∷ (headRecord (binaryHead Commutator 1 65535 (pos 1) 2) ++ leafRecord pause)
     ∷ [])
     ≡ true ∷ false ∷ false ∷ true ∷ false ∷ false ∷ false ∷ false ∷ true ∷ false ∷ true ∷ true ∷ false ∷ []
 unfolding opened bytes

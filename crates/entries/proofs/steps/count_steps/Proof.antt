@@ -33,24 +33,32 @@ returns-2 c =
     let k = count-refused (a .text .now) (a .tree .now) sound (visit .visit .result) (visit .visit .ensures) (c .if1 .taken) in
     (k .answer, k .counted)
 
+count-requires : tie.Need-count-requires
+count-requires c κs =
+    let visit = c .before .before in
+    let check = visit .before .before .before in
+    check .check .ensures .1 _ (ap outcome (visit .before .enum-told .given .1)) .packed
+
 returns-3 : tie.Need-returns-3
 returns-3 c =
-    let visit = c .before .before .before .before in
+    let count = c .before in
+    let visit = count .before .before .before in
     let check = visit .before .before .before in
     let a = check .before .before .before .args in
     let sound = check .check .ensures .1 _ (ap outcome (visit .before .enum-told .given .1)) in
-    let k = count-many (a .text .now) (a .tree .now) sound (visit .visit .result) (visit .visit .ensures) (c .before .before .if1 .left) (c .if2 .taken) in
+    let k = count-many (a .text .now) (a .tree .now) sound (visit .visit .result) (visit .visit .ensures) (count .count .result) (count .count .ensures) (count .before .if1 .left) (c .if2 .taken) in
     (k .answer, k .counted)
 
 returns-4 : tie.Need-returns-4
 returns-4 c =
-    let visit = c .before .before .before .before in
+    let count = c .before in
+    let visit = count .before .before .before in
     let check = visit .before .before .before in
     let a = check .before .before .before .args in
     let sound = check .check .ensures .1 _ (ap outcome (visit .before .enum-told .given .1)) in
-    let k = count-done (a .text .now) (a .tree .now) sound (visit .visit .result) (visit .visit .ensures) (c .before .before .if1 .left) (c .if2 .left) in
+    let k = count-done (a .text .now) (a .tree .now) sound (visit .visit .result) (visit .visit .ensures) (count .count .result) (count .count .ensures) (count .before .if1 .left) (c .if2 .left) in
     (k .answer, k .counted)
 
 pub count-steps-spec : {M : Type 1} → statement M
 count-steps-spec =
-    tie.close (tie.spec check-requires enum-told enum-told-2 returns visit-requires returns-2 returns-3 returns-4)
+    tie.close (tie.spec check-requires enum-told enum-told-2 returns visit-requires returns-2 count-requires returns-3 returns-4)

@@ -1,24 +1,28 @@
 -- `flatten::flatten` and `flatten::flatten_node` meet their contracts. The measures are those of a visit. Assumes nothing.
-use Prim.Native.Nat.{ℕ, _+_, _-_, _*_, _<_}
+use Prim.Native.Nat.{ℕ, _+_, _*_, _<_}
+use mathlib.Core.Logic.{⊎-elim}
 use borrow.Author.Needs.{needs}
 use native.Mathlib.Omega.{arith}
 use lib.Dec.{lit≤}
 use lib.ListN.{length}
+use Rattle.notation.specs.Packed.{RECORD}
 use Rattle.nodes.proofs.Nodes.{record-room, node-room, node-less, list-less, rest-less, first-leaf, leaf-record}
+use Rattle.expand.proofs.Shapes.{group-of}
 use Rattle.expand.proofs.Flattening.{
   Flattening,
   flattening-starts,
   flattening-goes-on,
+  flattening-passes,
+  flattening-carried,
   flattened,
   leaf-fits,
   node-fits,
+  node-steps,
   next-fits,
   wrote-fits,
-  group-of,
   node-written,
   leaf-room,
   leaf-written,
-  none-written,
   first-room,
   second-room,
   group-room,
@@ -40,6 +44,7 @@ use Rattle.expand.proofs.flatten.complete_binary.Reads as complete-bina
 use Rattle.expand.proofs.flatten.repeat_block.Reads as repeat-block-reads
 use Rattle.nodes.proofs.walk.first_end.Reads as first-end-reads
 use Rattle.nodes.proofs.walk.node_end.Reads as node-end-reads
+use Rattle.record.proofs.fields.count.Reads as count-reads
 use Rattle.record.proofs.fields.kind.Reads as kind-reads
 use Rattle.record.proofs.fields.number.Reads as number-reads
 use Rattle.expand.proofs.flatten.+flatten+flatten_node.{statement}
@@ -76,7 +81,7 @@ abbrev flatten-μ-loop : flatten-lts.MeasureT-loop
 flatten-μ-loop tree out₀ t₀ at₀ out t at = length t
 
 pub +flatten+flatten-node-spec : {M : Type 1} → statement M
-+flatten+flatten-node-spec = close μ-flatten μ-flatten-node (λ t. flatten-lts.spec (kind-reads.Asked, kind-reads.Learnt, copy-record-reads.Asked, copy-record-reads.Learnt, node-end-reads.Asked, node-end-reads.Learnt, flatten-node-below t, flatten-node.Post)
++flatten+flatten-node-spec = close μ-flatten μ-flatten-node (λ t. flatten-lts.spec (kind-reads.Asked, kind-reads.Learnt, copy-record-reads.Asked, copy-record-reads.Learnt, node-end-reads.Asked, node-end-reads.Learnt, count-reads.Asked, count-reads.Learnt, flatten-node-below t, flatten-node.Post)
     (flatten-at t)
     flatten.Post
     flatten-Inv-loop
@@ -89,30 +94,64 @@ pub +flatten+flatten-node-spec : {M : Type 1} → statement M
     (λ c. search needs)  -- flatten-sub-copy-record-2
     (λ c. search needs)  -- flatten-part-copy-record-start-2
     (λ c. search needs)  -- flatten-part-copy-record-end-2
-    (λ c κs. (leaf-record (first-leaf (c .before .before .before .before .before .loop .inv .packed) (c .before .before .before .before .loop-test .taken) (c .before .before .before .kind .ensures) (omega (arith, c .before .before .if1 .taken))), leaf-room (first-leaf (c .before .before .before .before .before .loop .inv .packed) (c .before .before .before .before .loop-test .taken) (c .before .before .before .kind .ensures) (omega (arith, c .before .before .if1 .taken))) (leaf-fits (c .before .before .before .before .before .loop .inv) ((first-leaf (c .before .before .before .before .before .loop .inv .packed) (c .before .before .before .before .loop-test .taken) (c .before .before .before .kind .ensures) (omega (arith, c .before .before .if1 .taken))) .first))))  -- flatten-copy-requires
-    (λ c. omega (arith, next-fits (c .before .before .before .before .before .before .before .before .loop .inv) ((first-leaf (c .before .before .before .before .before .before .before .before .loop .inv .packed) (c .before .before .before .before .before .before .before .loop-test .taken) (c .before .before .before .before .before .before .kind .ensures) (omega (arith, c .before .before .before .before .before .if1 .taken))) .first) (leaf-written (first-leaf (c .before .before .before .before .before .before .before .before .loop .inv .packed) (c .before .before .before .before .before .before .before .loop-test .taken) (c .before .before .before .before .before .before .kind .ensures) (omega (arith, c .before .before .before .before .before .if1 .taken))) (c .before .before .copy-record .ensures)), c .before .before .before .before .before .before .before .before .loop .inv .long, c .before .before .before .before .before .before .before .before .before .before .before .good))  -- flatten-add-at
-    (λ c. record-room _ (c .before .before .before .before .before .before .before .before .loop .inv .packed) (c .before .before .before .before .before .before .before .loop-test .taken))  -- flatten-sub-t
-    (λ c. record-room _ (c .before .before .before .before .before .before .before .before .loop .inv .packed) (c .before .before .before .before .before .before .before .loop-test .taken))  -- flatten-part-t-start
+    (λ c κs.
+    let kinded = c .before .before .before in
+    let at-loop = kinded .before .before in
+    let leaf = first-leaf (at-loop .loop .inv .packed) (kinded .before .loop-test .taken) (kinded .kind .ensures) (omega (arith, c .before .before .if1 .taken)) in
+    (leaf-record leaf, leaf-room leaf (leaf-fits (at-loop .loop .inv) (leaf .first))))  -- flatten-copy-record-requires
+    (λ c.
+    let kinded = c .before .before .before .before .before .before in
+    let at-loop = kinded .before .before in
+    let leaf = first-leaf (at-loop .loop .inv .packed) (kinded .before .loop-test .taken) (kinded .kind .ensures) (omega (arith, c .before .before .before .before .before .if1 .taken)) in
+    omega (arith, next-fits (at-loop .loop .inv) (leaf .first) (leaf-written leaf (c .before .before .copy-record .ensures)), at-loop .loop .inv .long, at-loop .before .before .before .good))  -- flatten-add-at
+    (λ c. let tested = c .before .before .before .before .before .before .before in record-room _ (tested .before .loop .inv .packed) (tested .loop-test .taken))  -- flatten-sub-t
+    (λ c. let tested = c .before .before .before .before .before .before .before in record-room _ (tested .before .loop .inv .packed) (tested .loop-test .taken))  -- flatten-part-t-start
     (λ c. search needs)  -- flatten-part-t-end
-    (λ c. rest-less (c .before .before .before .before .before .before .before .before .before .loop .t .now) 25 (lit≤ tt) (record-room _ (c .before .before .before .before .before .before .before .before .before .loop .inv .packed) (c .before .before .before .before .before .before .before .before .loop-test .taken)))  -- flatten-loop-less
-    (λ c. flattening-goes-on (c .before .before .before .before .before .before .before .before .before .loop .inv) ((first-leaf (c .before .before .before .before .before .before .before .before .before .loop .inv .packed) (c .before .before .before .before .before .before .before .before .loop-test .taken) (c .before .before .before .before .before .before .before .kind .ensures) (omega (arith, c .before .before .before .before .before .before .if1 .taken))) .first) (leaf-written (first-leaf (c .before .before .before .before .before .before .before .before .before .loop .inv .packed) (c .before .before .before .before .before .before .before .before .loop-test .taken) (c .before .before .before .before .before .before .before .kind .ensures) (omega (arith, c .before .before .before .before .before .before .if1 .taken))) (c .before .before .before .copy-record .ensures)) (c .before .before .before .copy-record .kept .1 .0))  -- flatten-loop-again
+    (λ c.
+    let tested = c .before .before .before .before .before .before .before .before in
+    rest-less (tested .before .loop .t .now) RECORD (lit≤ tt) (record-room _ (tested .before .loop .inv .packed) (tested .loop-test .taken)))  -- flatten-loop-less
+    (λ c.
+    let kinded = c .before .before .before .before .before .before .before in
+    let at-loop = kinded .before .before in
+    let leaf = first-leaf (at-loop .loop .inv .packed) (kinded .before .loop-test .taken) (kinded .kind .ensures) (omega (arith, c .before .before .before .before .before .before .if1 .taken)) in
+    flattening-goes-on (at-loop .loop .inv) (leaf .first) (leaf-written leaf (c .before .before .before .copy-record .ensures)) (c .before .before .before .copy-record .kept .1 .0))  -- flatten-loop-again
     (λ c κs. search needs)  -- flatten-node-end-requires
+    (λ c κs. search needs)  -- flatten-count-requires
     (λ c. search needs)  -- flatten-sub-flatten-node
     (λ c. search needs)  -- flatten-part-flatten-node-start
     (λ c. search needs)  -- flatten-part-flatten-node-end
     (λ c. search needs)  -- flatten-sub-flatten-node-2
     (λ c. search needs)  -- flatten-part-flatten-node-start-2
     (λ c. search needs)  -- flatten-part-flatten-node-end-2
-    (λ c κs. (
-      node-less (c .before .before .before .before .before .before .before .before .before .args .tree .now) (c .before .before .before .before .before .before .loop .t .now) (c .before .before .node-end .result) _ (c .before .before .before .before .before .before .loop .inv .shorter) (c .before .before .before .before .before .before .before .before .before .pre .0),
-      (group-of (c .before .before .node-end .ensures) (c .before .before .before .before .kind .ensures) (c .before .before .before .if1 .left), node-fits (c .before .before .before .before .before .before .loop .inv) (c .before .before .node-end .ensures)),
+    (λ c κs.
+    let first = c .before .before .before .before in
+    let kinded = first .before .before in
+    let at-loop = kinded .before .before in
+    let start = at-loop .before .before .before in
+    (
+      node-less (start .args .tree .now) (at-loop .loop .t .now) (first .node-end .result) _ (at-loop .loop .inv .shorter) (start .pre .0),
+      (
+        group-of (first .node-end .ensures) (kinded .kind .ensures) (first .before .if1 .left),
+        (node-steps (at-loop .loop .inv) (first .node-end .ensures) (c .before .before .before .count .ensures) (c .before .before .if2 .taken), node-fits (at-loop .loop .inv) (first .node-end .ensures)),
+      ),
     ))  -- flatten-flatten-node-requires
-    (λ c. omega (arith, next-fits (c .before .before .before .before .before .before .before .before .before .loop .inv) (c .before .before .before .before .before .node-end .ensures) (node-written (c .before .before .before .before .before .node-end .ensures .isNode) (c .before .before .flatten-node .ensures)), c .before .before .before .before .before .before .before .before .before .loop .inv .long, c .before .before .before .before .before .before .before .before .before .before .before .before .good))  -- flatten-add-at-2
+    (λ c.
+    let first = c .before .before .before .before .before .before .before in
+    let at-loop = first .before .before .before .before in
+    omega (arith, next-fits (at-loop .loop .inv) (first .node-end .ensures) (node-written (first .node-end .ensures .isNode) (c .before .before .flatten-node .ensures)), at-loop .loop .inv .long, at-loop .before .before .before .good))  -- flatten-add-at-2
     (λ c. search needs)  -- flatten-sub-t-2
     (λ c. search needs)  -- flatten-part-t-start-2
     (λ c. search needs)  -- flatten-part-t-end-2
-    (λ c. rest-less (c .before .before .before .before .before .before .before .before .before .before .loop .t .now) _ (c .before .before .before .before .before .before .node-end .ensures .least) (c .before .before .before .before .before .before .node-end .ensures .most))  -- flatten-loop-less-2
-    (λ c. flattening-goes-on (c .before .before .before .before .before .before .before .before .before .before .loop .inv) (c .before .before .before .before .before .before .node-end .ensures) (node-written (c .before .before .before .before .before .before .node-end .ensures .isNode) (c .before .before .before .flatten-node .ensures)) (c .before .before .before .flatten-node .kept .1 .0))  -- flatten-loop-again-2
+    (λ c.
+    let first = c .before .before .before in
+    rest-less (first .before .before .before .before .loop .t .now) _ (first .node-end .ensures .least) (first .node-end .ensures .most))  -- flatten-loop-less-2
+    (λ c.
+    let first = c .before .before .before in
+    let at-loop = first .before .before .before .before in
+    ⊎-elim
+    (λ w. flattening-carried (w .6) (w .7) (flattening-goes-on (at-loop .loop .inv) (first .node-end .ensures) (node-written (first .node-end .ensures .isNode) (w .3 .ensures)) (w .3 .kept .1 .0)))
+    (λ w. flattening-carried (w .1) (w .2) (flattening-passes (at-loop .loop .inv) (first .node-end .ensures) (c .before .before .count .ensures) (w .0 .left)))
+    (c .before .if2 .came))  -- flatten-loop-again-2
     (λ c. c .before .loop .inv .long)  -- flatten-same-length
     (λ c. flattened (c .before .loop .inv) (c .loop-test .left)))  -- flatten-returns
     λ t. flatten-node-lts.spec (kind-reads.Asked, kind-reads.Learnt, number-reads.Asked, number-reads.Learnt, first-end-reads.Asked, first-end-reads.Learnt, flatten-below t, flatten.Post, repeat-block-reads.Asked, repeat-block-reads.Learnt, complete-binary-reads.Asked, complete-binary-reads.Learnt)
@@ -120,27 +159,26 @@ pub +flatten+flatten-node-spec : {M : Type 1} → statement M
     flatten-node.Post
     (λ c κs. node-room (c .before .before .pre .1 .0 .isNode))  -- flatten-node-kind-requires
     (λ c κs. node-room (c .before .before .before .pre .1 .0 .isNode))  -- flatten-node-number-requires
-    (λ c. none-written (c .before .before .before .before .before .pre .1 .0) (c .before .before .kind .ensures) (c .before .number .ensures) (c .if1 .taken))  -- flatten-node-returns
-    (λ c κs. (c .before .before .before .before .before .pre .1 .0 .node, c .before .before .before .before .before .pre .1 .0 .isNode))  -- flatten-node-first-end-requires
+    (λ c κs. let start = c .before .before .before .before in (start .pre .1 .0 .node, start .pre .1 .0 .isNode))  -- flatten-node-first-end-requires
     (λ c. search needs)  -- flatten-node-sub-flatten
     (λ c. search needs)  -- flatten-node-part-flatten-start
     (λ c. search needs)  -- flatten-node-part-flatten-end
     (λ c κs.
     let lists = c .before .before in
-    let start = lists .before .before .before .before .before .before in
+    let start = lists .before .before .before .before .before in
     (
-      list-less (start .args .node .now) 25 (lists .first-end .result) _ (lit≤ tt) (node-room (start .pre .1 .0 .isNode)) (start .pre .0),
-      (lists .first-end .ensures .packedFirst, first-room (start .pre .1 .0) (lists .before .before .before .kind .ensures) (lists .before .before .number .ensures) (lists .before .before .number .ok) (lists .before .if1 .left) (lists .first-end .ensures) (start .pre .1 .1)),
+      list-less (start .args .node .now) RECORD (lists .first-end .result) _ (lit≤ tt) (node-room (start .pre .1 .0 .isNode)) (start .pre .0),
+      (lists .first-end .ensures .packedFirst, first-room (start .pre .1 .0) (start .pre .1 .1 .0) (lists .before .before .kind .ensures) (lists .before .number .ensures) (lists .first-end .ensures) (start .pre .1 .1 .1)),
     ))  -- flatten-node-flatten-requires
     (λ c κs.
     let lists = c .before .before .before .before .before .before .before in
-    let start = lists .before .before .before .before .before .before in
-    group-room (start .pre .1 .0) (lists .before .before .before .kind .ensures) (lists .before .before .number .ensures) (lists .before .before .number .ok) (lists .before .if1 .left) (lists .first-end .ensures) (c .before .before .before .before .flatten .ensures) (start .pre .1 .1) (c .before .if2 .taken))  -- flatten-node-repeat-block-requires
+    let start = lists .before .before .before .before .before in
+    group-room (start .pre .1 .0) (start .pre .1 .1 .0) (lists .before .before .kind .ensures) (lists .before .number .ensures) (lists .first-end .ensures) (c .before .before .before .before .flatten .ensures) (start .pre .1 .1 .1) (c .before .if1 .taken))  -- flatten-node-repeat-block-requires
     (λ c. search needs)  -- flatten-node-same-length
     (λ c.
     let lists = c .before .before .before .before .before .before .before .before .before .before in
-    let start = lists .before .before .before .before .before .before in
-    group-written (start .pre .1 .0) (lists .before .before .before .kind .ensures) (lists .before .before .number .ensures) (lists .before .before .number .ok) (lists .before .if1 .left) (lists .first-end .ensures) (c .before .before .before .before .before .before .before .flatten .ensures) (start .pre .1 .1) (c .before .before .before .before .if2 .taken) (c .before .before .repeat-block .ensures))  -- flatten-node-returns-2
+    let start = lists .before .before .before .before .before in
+    group-written (start .pre .1 .0) (start .pre .1 .1 .0) (lists .before .before .kind .ensures) (lists .before .number .ensures) (lists .first-end .ensures) (c .before .before .before .before .before .before .before .flatten .ensures) (start .pre .1 .1 .1) (c .before .before .before .before .if1 .taken) (c .before .before .repeat-block .ensures))  -- flatten-node-returns
     (λ c. search needs)  -- flatten-node-sub-flatten-2
     (λ c. search needs)  -- flatten-node-part-flatten-start-2
     (λ c. search needs)  -- flatten-node-part-flatten-end-2
@@ -149,21 +187,21 @@ pub +flatten+flatten-node-spec : {M : Type 1} → statement M
     (λ c. search needs)  -- flatten-node-part-flatten-end-3
     (λ c κs.
     let lists = c .before .before .before .before .before .before .before .before in
-    let start = lists .before .before .before .before .before .before in
+    let start = lists .before .before .before .before .before in
     (
       list-less (start .args .node .now) (lists .first-end .result) _ _ (lists .first-end .ensures .least) (node-room (start .pre .1 .0 .isNode)) (start .pre .0),
-      (lists .first-end .ensures .packedSecond, second-room (start .pre .1 .0) (lists .before .before .before .kind .ensures) (lists .before .before .number .ensures) (lists .before .before .number .ok) (lists .before .if1 .left) (lists .first-end .ensures) (c .before .before .before .before .before .flatten .ensures) (start .pre .1 .1)),
+      (lists .first-end .ensures .packedSecond, second-room (start .pre .1 .0) (start .pre .1 .1 .0) (lists .before .before .kind .ensures) (lists .before .number .ensures) (lists .first-end .ensures) (c .before .before .before .before .before .flatten .ensures) (start .pre .1 .1 .1)),
     ))  -- flatten-node-flatten-requires-2
     (λ c κs.
     let lists = c .before .before .before .before .before .before .before .before .before .before .before .before in
-    let start = lists .before .before .before .before .before .before in
-    binary-pair (start .pre .1 .0) (lists .before .before .before .kind .ensures) (lists .before .before .number .ensures) (lists .before .before .number .ok) (lists .before .if1 .left) (lists .first-end .ensures) (c .before .before .before .before .before .before .before .before .before .flatten .ensures) (start .pre .1 .1) (c .before .before .before .before .before .before .if2 .left) (c .before .before .before .flatten2 .ensures))  -- flatten-node-complete-binary-requires
+    let start = lists .before .before .before .before .before in
+    binary-pair (start .pre .1 .0) (start .pre .1 .1 .0) (lists .before .before .kind .ensures) (lists .before .number .ensures) (lists .first-end .ensures) (c .before .before .before .before .before .before .before .before .before .flatten .ensures) (start .pre .1 .1 .1) (c .before .before .before .before .before .before .if1 .left) (c .before .before .before .flatten2 .ensures))  -- flatten-node-complete-binary-requires
     (λ c κs.
     let lists = c .before .before .before .before .before .before .before .before .before .before .before .before .before .before .before .before in
-    let start = lists .before .before .before .before .before .before in
-    binary-room (start .pre .1 .0) (lists .before .before .before .kind .ensures) (lists .before .before .number .ensures) (lists .before .before .number .ok) (lists .before .if1 .left) (lists .first-end .ensures) (c .before .before .before .before .before .before .before .before .before .before .before .before .before .flatten .ensures) (start .pre .1 .1) (c .before .before .before .before .before .before .before .before .before .before .if2 .left) (c .before .before .before .before .before .before .before .flatten2 .ensures) (c .before .before .before .complete-binary .ensures))  -- flatten-node-repeat-block-requires-2
+    let start = lists .before .before .before .before .before in
+    binary-room (start .pre .1 .0) (start .pre .1 .1 .0) (lists .before .before .kind .ensures) (lists .before .number .ensures) (lists .first-end .ensures) (c .before .before .before .before .before .before .before .before .before .before .before .before .before .flatten .ensures) (start .pre .1 .1 .1) (c .before .before .before .before .before .before .before .before .before .before .if1 .left) (c .before .before .before .before .before .before .before .flatten2 .ensures) (c .before .before .before .complete-binary .ensures))  -- flatten-node-repeat-block-requires-2
     (λ c. search needs)  -- flatten-node-same-length-2
     (λ c.
     let lists = c .before .before .before .before .before .before .before .before .before .before .before .before .before .before .before .before .before .before .before in
-    let start = lists .before .before .before .before .before .before in
-    binary-written (start .pre .1 .0) (lists .before .before .before .kind .ensures) (lists .before .before .number .ensures) (lists .before .before .number .ok) (lists .before .if1 .left) (lists .first-end .ensures) (c .before .before .before .before .before .before .before .before .before .before .before .before .before .before .before .before .flatten .ensures) (start .pre .1 .1) (c .before .before .before .before .before .before .before .before .before .before .before .before .before .if2 .left) (c .before .before .before .before .before .before .before .before .before .before .flatten2 .ensures) (c .before .before .before .before .before .before .complete-binary .ensures) (c .before .before .repeat-block2 .ensures))  -- flatten-node-returns-3
+    let start = lists .before .before .before .before .before in
+    binary-written (start .pre .1 .0) (start .pre .1 .1 .0) (lists .before .before .kind .ensures) (lists .before .number .ensures) (lists .first-end .ensures) (c .before .before .before .before .before .before .before .before .before .before .before .before .before .before .before .before .flatten .ensures) (start .pre .1 .1 .1) (c .before .before .before .before .before .before .before .before .before .before .before .before .before .if1 .left) (c .before .before .before .before .before .before .before .before .before .before .flatten2 .ensures) (c .before .before .before .before .before .before .complete-binary .ensures) (c .before .before .repeat-block2 .ensures))  -- flatten-node-returns-2

@@ -1,5 +1,5 @@
 use borrow.Author.Needs.{needs}
-use Rattle.expand.proofs.Summaries.{first-taken}
+use Rattle.expand.proofs.Visiting.{first-taken}
 use Rattle.expand.proofs.visit.first.Statement.{statement}
 use Rattle.expand.proofs.visit.first.Tie as tie
 

@@ -1,13 +1,13 @@
 use mathlib.Core.Path.{refl}
-use Rattle.expand.proofs.Summaries.{same}
+use Rattle.expand.proofs.Visiting.{either-way}
 use Rattle.expand.proofs.visit.of_leaf.Statement.{statement}
 use Rattle.expand.proofs.visit.of_leaf.Tie as tie
 
 returns : tie.Need-returns
-returns c = rw (c .if1 .taken) (same refl refl refl)
+returns c = rw (c .if1 .taken) (either-way refl refl)
 
 returns-2 : tie.Need-returns-2
-returns-2 c = rw (c .if1 .left) (same refl refl refl)
+returns-2 c = rw (c .if1 .left) (either-way refl refl)
 
 pub of-leaf-spec : {M : Type 1} → statement M
 of-leaf-spec = tie.close (tie.spec returns returns-2)

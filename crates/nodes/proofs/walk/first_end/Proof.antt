@@ -1,5 +1,6 @@
 use Prim.Native.Nat.{ℕ, _+_, _*_}
 use mathlib.Core.Path.{sym, ap, subst, _∙_}
+use Rattle.notation.specs.Packed.{RECORD}
 use Rattle.nodes.specs.Nodes.{Lists}
 use Rattle.nodes.proofs.Nodes.{node-room, lists-of}
 use borrow.Author.Needs.{needs}
@@ -21,7 +22,7 @@ add-result c = search needs
 returns : tie.Need-returns
 returns c =
     subst (Lists _)
-    (ap (λ (k : ℕ). 25 + 25 * k) (sym (c .wide .ensures .0 ∙ c .before .first .ensures)))
+    (ap (λ (k : ℕ). RECORD + RECORD * k) (sym (c .wide .ensures .0 ∙ c .before .first .ensures)))
     (lists-of _ (c .before .before .before .pre .1))
 
 pub first-end-spec : {M : Type 1} → statement M

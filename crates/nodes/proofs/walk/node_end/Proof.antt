@@ -1,5 +1,6 @@
 use Prim.Native.Nat.{ℕ, _+_, _*_}
 use mathlib.Core.Path.{sym, ap₂, subst, _∙_}
+use Rattle.notation.specs.Packed.{RECORD}
 use Rattle.nodes.specs.Nodes.{FirstNode}
 use borrow.Author.Needs.{needs}
 use Rattle.nodes.proofs.Nodes.{record-room, first-of}
@@ -30,7 +31,7 @@ mul-result c = search needs
 returns : tie.Need-returns
 returns c =
     subst (FirstNode _)
-    (ap₂ (λ (a b : ℕ). 25 * (1 + (a + b))) (sym (c .before .before .wide .ensures .0 ∙ c .before .before .before .first .ensures)) (sym (c .wide2 .ensures .0 ∙ c .before .second .ensures)))
+    (ap₂ (λ (a b : ℕ). RECORD * (1 + (a + b))) (sym (c .before .before .wide .ensures .0 ∙ c .before .before .before .first .ensures)) (sym (c .wide2 .ensures .0 ∙ c .before .second .ensures)))
     (first-of _ (c .before .before .before .before .before .pre .0) (c .before .before .before .before .before .pre .1))
 
 pub node-end-spec : {M : Type 1} → statement M

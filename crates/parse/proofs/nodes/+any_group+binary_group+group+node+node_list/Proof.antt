@@ -32,6 +32,8 @@ use Rattle.parse.proofs.nodes.node_list.Reads as node-list
 use Rattle.parse.proofs.nodes.node_list.Kinds as node-list-kinds
 use Rattle.parse.proofs.nodes.+any_group+binary_group+group+node+node_list.Lts-node_list as node-list-lts
 use Rattle.charsets.proofs.whitespace_end.Reads as whitespace-end-reads
+use Rattle.counts.proofs.of_group.Reads as of-group-reads
+use Rattle.counts.proofs.sum.Reads as sum-reads
 use Rattle.parse.proofs.nodes.binary_group_kind.Reads as binary-group-kind-reads
 use Rattle.parse.proofs.nodes.close.Reads as close-reads
 use Rattle.parse.proofs.nodes.leaf_node.Reads as leaf-node-reads
@@ -39,7 +41,9 @@ use Rattle.parse.proofs.nodes.put_record.Reads as put-record-reads
 use Rattle.parse.proofs.look.has.Reads as has-reads
 use Rattle.parse.proofs.parse.group_kind.Reads as group-kind-reads
 use Rattle.record.proofs.encode.binary_group_fields.Reads as binary-group-fields-reads
+use Rattle.record.proofs.encode.binary_number.Reads as binary-number-reads
 use Rattle.record.proofs.encode.group_fields.Reads as group-fields-reads
+use Rattle.record.proofs.encode.group_number.Reads as group-number-reads
 use Rattle.parse.proofs.nodes.+any_group+binary_group+group+node+node_list.{statement}
 use Rattle.parse.proofs.nodes.+any_group+binary_group+group+node+node_list.Tie.{close}
 
@@ -101,6 +105,10 @@ binary-group-claims t = (
   binary-group-kind-reads.Learnt,
   close-reads.Asked,
   close-reads.Learnt,
+  binary-number-reads.Asked,
+  binary-number-reads.Learnt,
+  of-group-reads.Asked,
+  of-group-reads.Learnt,
   binary-group-fields-reads.Asked,
   binary-group-fields-reads.Learnt,
   put-record-reads.Asked,
@@ -117,6 +125,10 @@ group-claims t = (
   node-list.Post,
   close-reads.Asked,
   close-reads.Learnt,
+  group-number-reads.Asked,
+  group-number-reads.Learnt,
+  of-group-reads.Asked,
+  of-group-reads.Learnt,
   group-fields-reads.Asked,
   group-fields-reads.Learnt,
   put-record-reads.Asked,
@@ -127,7 +139,7 @@ abbrev node-claims : ℕ → node-lts.Claims
 node-claims t = (leaf-node-reads.Asked, leaf-node-reads.Learnt, any-group-below t, any-group.Post)
 
 abbrev node-list-claims : ℕ → node-list-lts.Claims
-node-list-claims t = (whitespace-end-reads.Asked, whitespace-end-reads.Learnt, node-below t, node.Post)
+node-list-claims t = (whitespace-end-reads.Asked, whitespace-end-reads.Learnt, node-below t, node.Post, sum-reads.Asked, sum-reads.Learnt)
 
 any-group-returns : (t : ℕ) → any-group-lts.Need-returns (any-group-claims t) (any-group-at t) any-group.Post
 any-group-returns t c =
@@ -213,7 +225,7 @@ binary-group-returns t c =
     let pre = s .pre .1 in
     let one = c .before .before .before .before .before .node-list in
     let opens = stands-first (a .text .now) (a .at) 91 (pre .1) (pre .2) in
-    unsigned-group (a .features) (a .text .now) (a .at) (a .slot) (a .tree .now) opens _ _ _ (one .ensures)
+    unsigned-group (a .features) (a .text .now) (a .at) (a .slot) (a .tree .now) opens _ _ _ _ (one .ensures)
     (rw (c .enum-told .given .1) at (c .before .before .binary-group-kind .ensures))
 
 binary-group-add-node-list-3 : (t : ℕ) → binary-group-lts.Need-add-node-list-3 (binary-group-claims t) (binary-group-at t) binary-group.Post
@@ -265,7 +277,7 @@ binary-group-returns-2 t c =
     let two = c .before .before .before .before .before .node-list2 in
     let kind = c .before .before .before .before .before .before .before .before .before .kind .given in
     let signs = rw (kind .1) at (c .before .before .before .before .before .before .before .before .before .before .before .binary-group-kind .ensures) in
-    open-binary (a .features) (a .text .now) (a .at) (a .slot) (a .tree .now) opens _ _ _ (one .ensures) (kind .0 .0) signs _ _ _ (two .ensures)
+    open-binary (a .features) (a .text .now) (a .at) (a .slot) (a .tree .now) opens _ _ _ _ (one .ensures) (kind .0 .0) signs _ _ _ _ (two .ensures)
     (rw (c .enum-told2 .given .1) at (c .before .before .close .ensures))
 
 binary-group-add-first : (t : ℕ) → binary-group-lts.Need-add-first (binary-group-claims t) (binary-group-at t) binary-group.Post
@@ -301,31 +313,42 @@ binary-group-cast-second t c =
     let two = c .before .before .before .before .before .before .before .before .before .node-list2 in
     omega (arith, two .ensures .slots, two .ensures .advances, two .ensures .inside, pre .0 .short)
 
+binary-group-binary-number-requires : (t : ℕ) → binary-group-lts.Need-binary-number-requires (binary-group-claims t) (binary-group-at t) binary-group.Post
+binary-group-binary-number-requires t c κs = search needs
+
+binary-group-of-group-requires : (t : ℕ) → binary-group-lts.Need-of-group-requires (binary-group-claims t) (binary-group-at t) binary-group.Post
+binary-group-of-group-requires t c κs =
+    let one = c .before .before .before .before .before .before .before .before .before .before .before .before .before .before .before .before .before .before .before .node-list in
+    let two = c .before .before .before .before .before .before .before .before .before .before .node-list2 in
+    (omega (arith, one .ensures .counts), omega (arith, two .ensures .counts))
+
 binary-group-binary-group-fields-requires : (t : ℕ) → binary-group-lts.Need-binary-group-fields-requires (binary-group-claims t) (binary-group-at t) binary-group.Post
 binary-group-binary-group-fields-requires t c κs = search needs
 
 binary-group-put-record-requires : (t : ℕ) → binary-group-lts.Need-put-record-requires (binary-group-claims t) (binary-group-at t) binary-group.Post
 binary-group-put-record-requires t c κs =
-    let s = c .before .before .before .before .before .before .before .before .before .before .before .before .before .before .before .before .before .before .before .before .before .before .before .before in
+    let s = c .before .before .before .before .before .before .before .before .before .before .before .before .before .before .before .before .before .before .before .before .before .before .before .before .before .before in
     let a = s .args in
     let pre = s .pre .1 in
     omega (arith, pre .0 .slots, pre .0 .inside, pre .0 .short)
 
 binary-group-returns-3 : (t : ℕ) → binary-group-lts.Need-returns-3 (binary-group-claims t) (binary-group-at t) binary-group.Post
 binary-group-returns-3 t c =
-    let s = c .before .before .before .before .before .before .before .before .before .before .before .before .before .before .before .before .before .before .before .before .before .before .before .before .before .before .before in
+    let s = c .before .before .before .before .before .before .before .before .before .before .before .before .before .before .before .before .before .before .before .before .before .before .before .before .before .before .before .before .before in
     let a = s .args in
     let pre = s .pre .1 in
-    let one = c .before .before .before .before .before .before .before .before .before .before .before .before .before .before .before .before .before .before .before .before .before .before .before .node-list in
+    let one = c .before .before .before .before .before .before .before .before .before .before .before .before .before .before .before .before .before .before .before .before .before .before .before .before .before .node-list in
     let opens = stands-first (a .text .now) (a .at) 91 (pre .1) (pre .2) in
-    let two = c .before .before .before .before .before .before .before .before .before .before .before .before .before .before .node-list2 in
-    let kind = c .before .before .before .before .before .before .before .before .before .before .before .before .before .before .before .before .before .before .kind .given in
-    let signs = rw (kind .1) at (c .before .before .before .before .before .before .before .before .before .before .before .before .before .before .before .before .before .before .before .before .binary-group-kind .ensures) in
-    let took = c .before .before .before .before .before .before .before .before .before .bits .given in
+    let two = c .before .before .before .before .before .before .before .before .before .before .before .before .before .before .before .before .node-list2 in
+    let kind = c .before .before .before .before .before .before .before .before .before .before .before .before .before .before .before .before .before .before .before .before .kind .given in
+    let signs = rw (kind .1) at (c .before .before .before .before .before .before .before .before .before .before .before .before .before .before .before .before .before .before .before .before .before .before .binary-group-kind .ensures) in
+    let took = c .before .before .before .before .before .before .before .before .before .before .before .bits .given in
+    let counts = c .before .before .before .before .before .of-group in
+    let counted = rw (c .before .before .before .before .before .before .binary-number .ensures) at (counts .ensures) in
     let fields = c .before .before .before .binary-group-fields in
     rw (c .before .before .put-record .ensures)
-    (closed-binary (a .features) (a .text .now) (a .at) (a .slot) (a .tree .now) opens _ _ _ (one .ensures) (kind .0 .0) signs _ _ _ (two .ensures)
-    (took .0 .0) (took .0 .1 .0) (listed (fields .result)) (fields .ensures) (rw (took .1) at (c .before .before .before .before .before .before .before .before .before .before .before .close .ensures)))
+    (closed-binary (a .features) (a .text .now) (a .at) (a .slot) (a .tree .now) opens _ _ _ _ (one .ensures) (kind .0 .0) signs _ _ _ _ (two .ensures)
+    (took .0 .0) (took .0 .1 .0) (counts .result) counted (listed (fields .result)) (fields .ensures) (rw (took .1) at (c .before .before .before .before .before .before .before .before .before .before .before .before .before .close .ensures)))
 
 binary-group-same-length-3 : (t : ℕ) → binary-group-lts.Need-same-length-3 (binary-group-claims t) (binary-group-at t) binary-group.Post
 binary-group-same-length-3 t c = binary-group-returns-3 t c .wrote .kept .long
@@ -389,7 +412,7 @@ group-returns t c =
     let opens = sym (c .before .before .before .before .before .before .before .before .has .ensures) ∙ c .before .before .before .before .before .before .before .if1 .taken in
     let later = within (a .text .now) (a .at) takes-kind (pre .0 .inside) (start .ensures) .0 in
     let list = c .before .before .before .before .before .node-list in
-    open-group (a .features) (a .text .now) (a .at) (a .slot) (a .tree .now) (start .result .kind) (start .result .next) (start .ensures) opens (omega (arith, later)) _ _ _
+    open-group (a .features) (a .text .now) (a .at) (a .slot) (a .tree .now) (start .result .kind) (start .result .next) (start .ensures) opens (omega (arith, later)) _ _ _ _
     (list .ensures) (rw (c .enum-told .given .1) at (c .before .before .close .ensures))
 
 group-add-first : (t : ℕ) → group-lts.Need-add-first (group-claims t) (group-at t) group.Post
@@ -412,12 +435,20 @@ group-cast-first t c =
     let list = c .before .before .before .before .before .before .before .node-list in
     omega (arith, list .ensures .slots, list .ensures .advances, list .ensures .inside, pre .0 .short)
 
+group-group-number-requires : (t : ℕ) → group-lts.Need-group-number-requires (group-claims t) (group-at t) group.Post
+group-group-number-requires t c κs = search needs
+
+group-of-group-requires : (t : ℕ) → group-lts.Need-of-group-requires (group-claims t) (group-at t) group.Post
+group-of-group-requires t c κs =
+    let list = c .before .before .before .before .before .before .before .before .node-list in
+    (omega (arith, list .ensures .counts), omega arith)
+
 group-group-fields-requires : (t : ℕ) → group-lts.Need-group-fields-requires (group-claims t) (group-at t) group.Post
 group-group-fields-requires t c κs = search needs
 
 group-put-record-requires : (t : ℕ) → group-lts.Need-put-record-requires (group-claims t) (group-at t) group.Post
 group-put-record-requires t c κs =
-    let s = c .before .before .before .before .before .before .before .before .before .before .before .before .before .before .before .before in
+    let s = c .before .before .before .before .before .before .before .before .before .before .before .before .before .before .before .before .before .before in
     let a = s .args in
     let pre = s .pre .1 in
     omega (arith, pre .0 .slots, pre .0 .inside, pre .0 .short)
@@ -427,18 +458,20 @@ group-same-length-2 t c = search needs
 
 group-returns-2 : (t : ℕ) → group-lts.Need-returns-2 (group-claims t) (group-at t) group.Post
 group-returns-2 t c =
-    let s = c .before .before .before .before .before .before .before .before .before .before .before .before .before .before .before .before .before .before .before in
+    let s = c .before .before .before .before .before .before .before .before .before .before .before .before .before .before .before .before .before .before .before .before .before in
     let a = s .args in
     let pre = s .pre .1 in
-    let start = c .before .before .before .before .before .before .before .before .before .before .before .before .before .before .before .before .group-kind in
-    let opens = sym (c .before .before .before .before .before .before .before .before .before .before .before .before .before .before .before .has .ensures) ∙ c .before .before .before .before .before .before .before .before .before .before .before .before .before .before .if1 .taken in
+    let start = c .before .before .before .before .before .before .before .before .before .before .before .before .before .before .before .before .before .before .group-kind in
+    let opens = sym (c .before .before .before .before .before .before .before .before .before .before .before .before .before .before .before .before .before .has .ensures) ∙ c .before .before .before .before .before .before .before .before .before .before .before .before .before .before .before .before .if1 .taken in
     let later = within (a .text .now) (a .at) takes-kind (pre .0 .inside) (start .ensures) .0 in
-    let list = c .before .before .before .before .before .before .before .before .before .before .before .before .node-list in
-    let took = c .before .before .before .before .before .before .before .bits .given in
+    let list = c .before .before .before .before .before .before .before .before .before .before .before .before .before .before .node-list in
+    let took = c .before .before .before .before .before .before .before .before .before .bits .given in
+    let counts = c .before .before .before .before .before .of-group in
+    let counted = rw (c .before .before .before .before .before .before .group-number .ensures) at (counts .ensures) in
     let fields = c .before .before .before .group-fields in
     rw (c .before .before .put-record .ensures)
-    (closed-group (a .features) (a .text .now) (a .at) (a .slot) (a .tree .now) (start .result .kind) (start .result .next) (start .ensures) opens (omega (arith, later)) _ _ _
-    (list .ensures) (took .0 .0) (took .0 .1 .0) (listed (fields .result)) (fields .ensures) (rw (took .1) at (c .before .before .before .before .before .before .before .before .before .close .ensures)))
+    (closed-group (a .features) (a .text .now) (a .at) (a .slot) (a .tree .now) (start .result .kind) (start .result .next) (start .ensures) opens (omega (arith, later)) _ _ _ _
+    (list .ensures) (took .0 .0) (took .0 .1 .0) (counts .result) counted (listed (fields .result)) (fields .ensures) (rw (took .1) at (c .before .before .before .before .before .before .before .before .before .before .before .close .ensures)))
 
 group-returns-3 : (t : ℕ) → group-lts.Need-returns-3 (group-claims t) (group-at t) group.Post
 group-returns-3 t c =
@@ -478,13 +511,13 @@ node-same-length-2 t c = search needs
 node-returns-2 : (t : ℕ) → node-lts.Need-returns-2 (node-claims t) (node-at t) node.Post
 node-returns-2 t c =
     let a = c .before .before .before .before .before .before .before .before .before .args in
-    leaf-first (a .text .now) (a .at) (a .slot) (a .features) (a .tree .now) _ _ _ (rw (c .before .next .given .1) at (c .before .before .before .before .before .leaf-node .ensures))
+    leaf-first (a .text .now) (a .at) (a .slot) (a .features) (a .tree .now) _ _ _ _ (rw (c .before .next .given .1) at (c .before .before .before .before .before .leaf-node .ensures))
 
 abbrev node-list-Inv-loop : node-list-lts.InvT-loop
-node-list-Inv-loop text at features tree₀ slot next₀ end₀ tree next end = Going features text at slot tree₀ next end tree
+node-list-Inv-loop text at features tree₀ slot next₀ end₀ count₀ tree next end count = Going features text at slot tree₀ next end count tree
 
 abbrev node-list-μ-loop : node-list-lts.MeasureT-loop
-node-list-μ-loop text at features tree₀ slot next₀ end₀ tree next end = length text - next
+node-list-μ-loop text at features tree₀ slot next₀ end₀ count₀ tree next end count = length text - next
 
 node-list-whitespace-end-requires : (t : ℕ) → node-list-lts.Need-whitespace-end-requires (node-list-claims t) (node-list-at t) node-list.Post node-list-Inv-loop node-list-μ-loop
 node-list-whitespace-end-requires t c κs = c .before .before .pre .1 .inside
@@ -518,49 +551,57 @@ node-list-returns t c =
     let a = s .args in
     let pre = s .pre .1 in
     let loop = c .before .before .before .before .before .before .loop in
-    list-ends (a .features) (a .text .now) (a .at) (a .slot) (a .tree .now) (loop .next) (loop .end) (loop .tree) _ (loop .inv) (rw (c .enum-told .given .1) at (c .before .before .before .before .node .ensures))
+    list-ends (a .features) (a .text .now) (a .at) (a .slot) (a .tree .now) (loop .next) (loop .end) (loop .count) (loop .tree) _ (loop .inv) (rw (c .enum-told .given .1) at (c .before .before .before .before .node .ensures))
 
 node-list-same-length : (t : ℕ) → node-list-lts.Need-same-length (node-list-claims t) (node-list-at t) node-list.Post node-list-Inv-loop node-list-μ-loop
 node-list-same-length t c = node-list-returns t c .wrote .kept .long
 
-node-list-whitespace-end-requires-2 : (t : ℕ) → node-list-lts.Need-whitespace-end-requires-2 (node-list-claims t) (node-list-at t) node-list.Post node-list-Inv-loop node-list-μ-loop
-node-list-whitespace-end-requires-2 t c κs =
+node-list-sum-requires : (t : ℕ) → node-list-lts.Need-sum-requires (node-list-claims t) (node-list-at t) node-list.Post node-list-Inv-loop node-list-μ-loop
+node-list-sum-requires t c κs =
     let took = c .before .after .given in
     let read = rw (took .1) at (c .before .before .before .before .before .node .ensures) in
+    (omega (arith, c .before .before .before .before .before .before .before .loop .inv .counts), omega (arith, read .counts))
+
+node-list-whitespace-end-requires-2 : (t : ℕ) → node-list-lts.Need-whitespace-end-requires-2 (node-list-claims t) (node-list-at t) node-list.Post node-list-Inv-loop node-list-μ-loop
+node-list-whitespace-end-requires-2 t c κs =
+    let took = c .before .before .after .given in
+    let read = rw (took .1) at (c .before .before .before .before .before .before .node .ensures) in
     read .inside
 
 node-list-returns-2 : (t : ℕ) → node-list-lts.Need-returns-2 (node-list-claims t) (node-list-at t) node-list.Post node-list-Inv-loop node-list-μ-loop
 node-list-returns-2 t c =
-    let s = c .before .before .before .before .before .before .before .before .before .before .before .before .before in
+    let s = c .before .before .before .before .before .before .before .before .before .before .before .before .before .before in
     let a = s .args in
     let pre = s .pre .1 in
-    let loop = c .before .before .before .before .before .before .before .before .before .loop in
-    let took = c .before .before .before .after .given in
-    let read = rw (took .1) at (c .before .before .before .before .before .before .before .node .ensures) in
-    rw (c .if1 .taken) (list-stops (a .features) (a .text .now) (a .at) (a .slot) (a .tree .now) (loop .next) (loop .end) (loop .tree) _ (loop .inv) (took .0 .0) (took .0 .1 .0) read (omega (arith, c .before .whitespace-end2 .ensures, c .if1 .taken)))
+    let loop = c .before .before .before .before .before .before .before .before .before .before .loop in
+    let took = c .before .before .before .before .after .given in
+    let sums = c .before .before .sum in
+    let read = rw (took .1) at (c .before .before .before .before .before .before .before .before .node .ensures) in
+    rw (c .if1 .taken) (list-stops (a .features) (a .text .now) (a .at) (a .slot) (a .tree .now) (loop .next) (loop .end) (loop .count) (loop .tree) _ (loop .inv) (took .0 .0) (took .0 .1 .0) (took .0 .1 .1 .0) read (sums .result) (sums .ensures) (omega (arith, c .before .whitespace-end2 .ensures, c .if1 .taken)))
 
 node-list-same-length-2 : (t : ℕ) → node-list-lts.Need-same-length-2 (node-list-claims t) (node-list-at t) node-list.Post node-list-Inv-loop node-list-μ-loop
 node-list-same-length-2 t c = node-list-returns-2 t c .wrote .kept .long
 
 node-list-loop-less : (t : ℕ) → node-list-lts.Need-loop-less (node-list-claims t) (node-list-at t) node-list.Post node-list-Inv-loop node-list-μ-loop
 node-list-loop-less t c =
-    let s = c .before .before .before .before .before .before .before .before .before .before .before .before .before in
+    let s = c .before .before .before .before .before .before .before .before .before .before .before .before .before .before in
     let a = s .args in
     let pre = s .pre .1 in
-    let loop = c .before .before .before .before .before .before .before .before .before .loop in
-    let took = c .before .before .before .after .given in
-    let read = rw (took .1) at (c .before .before .before .before .before .before .before .node .ensures) in
+    let loop = c .before .before .before .before .before .before .before .before .before .before .loop in
+    let took = c .before .before .before .before .after .given in
+    let read = rw (took .1) at (c .before .before .before .before .before .before .before .before .node .ensures) in
     omega (arith, c .before .whitespace-end2 .ensures, read .advances, read .inside, some-records (read .node))
 
 node-list-loop-again : (t : ℕ) → node-list-lts.Need-loop-again (node-list-claims t) (node-list-at t) node-list.Post node-list-Inv-loop node-list-μ-loop
 node-list-loop-again t c =
-    let s = c .before .before .before .before .before .before .before .before .before .before .before .before .before in
+    let s = c .before .before .before .before .before .before .before .before .before .before .before .before .before .before in
     let a = s .args in
     let pre = s .pre .1 in
-    let loop = c .before .before .before .before .before .before .before .before .before .loop in
-    let took = c .before .before .before .after .given in
-    let read = rw (took .1) at (c .before .before .before .before .before .before .before .node .ensures) in
-    going-on (a .features) (a .text .now) (a .at) (a .slot) (a .tree .now) (loop .next) (loop .end) (loop .tree) _ (loop .inv) (took .0 .0) (took .0 .1 .0) read (c .before .whitespace-end2 .result) (c .before .whitespace-end2 .ensures) (c .if1 .left)
+    let loop = c .before .before .before .before .before .before .before .before .before .before .loop in
+    let took = c .before .before .before .before .after .given in
+    let sums = c .before .before .sum in
+    let read = rw (took .1) at (c .before .before .before .before .before .before .before .before .node .ensures) in
+    going-on (a .features) (a .text .now) (a .at) (a .slot) (a .tree .now) (loop .next) (loop .end) (loop .count) (loop .tree) _ (loop .inv) (took .0 .0) (took .0 .1 .0) (took .0 .1 .1 .0) read (sums .result) (sums .ensures) (c .before .whitespace-end2 .result) (c .before .whitespace-end2 .ensures) (c .if1 .left)
 
 pub +any-group+binary-group+group+node+node-list-spec : {M : Type 1} → statement M
 +any-group+binary-group+group+node+node-list-spec =
@@ -596,6 +637,8 @@ pub +any-group+binary-group+group+node+node-list-spec : {M : Type 1} → stateme
     (binary-group-cast-first t)
     (binary-group-sub-second t)
     (binary-group-cast-second t)
+    (binary-group-binary-number-requires t)
+    (binary-group-of-group-requires t)
     (binary-group-binary-group-fields-requires t)
     (binary-group-put-record-requires t)
     (binary-group-same-length-3 t)
@@ -614,6 +657,8 @@ pub +any-group+binary-group+group+node+node-list-spec : {M : Type 1} → stateme
     (group-add-first t)
     (group-sub-first t)
     (group-cast-first t)
+    (group-group-number-requires t)
+    (group-of-group-requires t)
     (group-group-fields-requires t)
     (group-put-record-requires t)
     (group-same-length-2 t)
@@ -636,6 +681,7 @@ pub +any-group+binary-group+group+node+node-list-spec : {M : Type 1} → stateme
     (node-list-enum-told t)
     (node-list-same-length t)
     (node-list-returns t)
+    (node-list-sum-requires t)
     (node-list-whitespace-end-requires-2 t)
     (node-list-same-length-2 t)
     (node-list-returns-2 t)

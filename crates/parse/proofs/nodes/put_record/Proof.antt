@@ -8,7 +8,7 @@ use borrow.Rule.Slice.PartMut.{putMid}
 use Rattle.record.proofs.Cut.{length-layOut}
 use Rattle.record.specs.Meaning.{listed}
 use Rattle.parse.proofs.Buffers.{put-part, put-full}
-use Rattle.notation.specs.Packed.{widths, layOut}
+use Rattle.notation.specs.Packed.{RECORD, widths, layOut}
 use Rattle.parse.proofs.nodes.put_record.Statement.{statement}
 use Rattle.parse.proofs.nodes.put_record.Tie as tie
 
@@ -36,15 +36,15 @@ same-length c = search needs
 returns : tie.Need-returns
 returns c =
     let a = c .before .before .before .before .before .before .args in
-    let at = 25 * a .slot in
+    let at = RECORD * a .slot in
     let old = a .tree .now in
-    ap (λ (l : List ℕ). putMid at (at + 25 - at) old l) (c .before .before .put .ensures)
-    ∙ put-part at (at + 25) 25 (layOut widths (listed (a .f))) old (length-layOut widths (listed (a .f)) refl) refl (search needs)
+    ap (λ (l : List ℕ). putMid at (at + RECORD - at) old l) (c .before .before .put .ensures)
+    ∙ put-part at (at + RECORD) RECORD (layOut widths (listed (a .f))) old (length-layOut widths (listed (a .f)) refl) refl (search needs)
 
 returns-2 : tie.Need-returns-2
 returns-2 c =
     let a = c .before .before .args in
-    put-full (25 * a .slot) (layOut widths (listed (a .f))) (a .tree .now) (omega (arith, length-layOut widths (listed (a .f)) refl, c .if1 .left))
+    put-full (RECORD * a .slot) (layOut widths (listed (a .f))) (a .tree .now) (omega (arith, length-layOut widths (listed (a .f)) refl, c .if1 .left))
 
 pub put-record-spec : {M : Type 1} → statement M
 put-record-spec =

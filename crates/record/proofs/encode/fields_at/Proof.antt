@@ -28,11 +28,14 @@ constraints-requires c κs = search needs
 layer-set-requires : tie.Need-layer-set-requires
 layer-set-requires c κs = search needs
 
+count-requires : tie.Need-count-requires
+count-requires c κs = search needs
+
 returns : tie.Need-returns
 returns c =
-    let t = c .before .before .before .before .before .before .before .before .before .args .t .now in
-    all-fields t (c .before .before .before .before .before .before .before .small .ensures) (c .before .before .before .before .before .before .first .ensures) (c .before .before .before .before .before .second .ensures) (c .before .before .before .before .number .ensures) (c .before .before .before .other .ensures)
-    (c .before .before .family .ensures) (c .before .constraints .ensures) (c .layer-set .ensures)
+    let t = c .before .before .before .before .before .before .before .before .before .before .args .t .now in
+    all-fields t (c .before .before .before .before .before .before .before .before .small .ensures) (c .before .before .before .before .before .before .before .first .ensures) (c .before .before .before .before .before .before .second .ensures) (c .before .before .before .before .before .number .ensures) (c .before .before .before .before .other .ensures)
+    (c .before .before .before .family .ensures) (c .before .before .constraints .ensures) (c .before .layer-set .ensures) (c .count .ensures)
 
 pub fields-at-spec : {M : Type 1} → statement M
 fields-at-spec =
@@ -46,4 +49,5 @@ fields-at-spec =
     family-requires
     constraints-requires
     layer-set-requires
+    count-requires
     returns)

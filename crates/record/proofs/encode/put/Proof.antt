@@ -26,12 +26,16 @@ set-constraints-requires c κs = search needs
 set-layer-set-requires : tie.Need-set-layer-set-requires
 set-layer-set-requires c κs = search needs
 
+set-count-requires : tie.Need-set-count-requires
+set-count-requires c κs = search needs
+
 same-length : tie.Need-same-length
 same-length c = search needs
 
 returns : tie.Need-returns
 returns c =
-    let c₇ = c .before .before in
+    let c₈ = c .before .before in
+    let c₇ = c₈ .before .before .before .before in
     let c₆ = c₇ .before .before .before .before in
     let c₅ = c₆ .before .before .before .before in
     let c₄ = c₅ .before .before .before .before in
@@ -39,7 +43,7 @@ returns c =
     let c₂ = c₃ .before .before .before .before in
     let c₁ = c₂ .before .before .before .before in
     let entry = c₁ .before .before .before .before .before .before in
-    rw (c₇ .set-layer-set .ensures, c₆ .set-constraints .ensures, c₅ .set-family .ensures, c₄ .set-other .ensures, c₃ .set-number .ensures, c₂ .set-lists .ensures, c₁ .set-small .ensures)
+    rw (c₈ .set-count .ensures, c₇ .set-layer-set .ensures, c₆ .set-constraints .ensures, c₅ .set-family .ensures, c₄ .set-other .ensures, c₃ .set-number .ensures, c₂ .set-lists .ensures, c₁ .set-small .ensures)
     (stored (entry .args .out .now) (listed (entry .args .f)) refl (entry .pre))
 
 pub put-spec : {M : Type 1} → statement M
@@ -53,5 +57,6 @@ put-spec =
     set-family-requires
     set-constraints-requires
     set-layer-set-requires
+    set-count-requires
     same-length
     returns)

@@ -5,8 +5,8 @@ use native.Mathlib.Omega.{arith}
 use Rattle.record.proofs.encode.without_parts.Statement.{statement}
 use Rattle.record.proofs.encode.without_parts.Tie as tie
 
-mul-t6 : tie.Need-mul-t6
-mul-t6 c = search needs
+mul-t7 : tie.Need-mul-t7
+mul-t7 c = search needs
 
 returns : tie.Need-returns
 returns c =
@@ -15,4 +15,4 @@ returns c =
     rw small
 
 pub without-parts-spec : {M : Type 1} → statement M
-without-parts-spec = tie.close (tie.spec mul-t6 returns)
+without-parts-spec = tie.close (tie.spec mul-t7 returns)

@@ -41,6 +41,9 @@ multiplier-ok-requires c κs = search needs
 first-requires : tie.Need-first-requires
 first-requires c κs = search needs
 
+count-requires : tie.Need-count-requires
+count-requires c κs = search needs
+
 without-parts-requires : tie.Need-without-parts-requires
 without-parts-requires c κs = search needs
 
@@ -52,14 +55,15 @@ same-fields-requires c κs = search needs
 
 returns : tie.Need-returns
 returns c =
-    let n = c .before .before .before .first in
-    let m = c .before .before .before .before .before .multiplier-ok in
-    let start = c .before .before .before .before .before .before in
+    let steps = c .before .before .before .count in
+    let n = c .before .before .before .before .first in
+    let m = c .before .before .before .before .before .before .multiplier-ok in
+    let start = c .before .before .before .before .before .before .before in
     let number = start .before .before .number in
     let bs = start .before .before .before .before .before .before .args .t .now in
     group-written (told (start .before)) (start .if1 .taken)
-    (m .result) (multiplier-read bs (number .result) (m .result) (number .ensures) (m .ensures)) (c .before .before .before .before .if2 .taken)
-    (c .same-fields .result) (n .ensures) (number .ensures) (c .before .before .without-parts .ensures) (c .before .fields-at .ensures) (c .same-fields .ensures)
+    (m .result) (multiplier-read bs (number .result) (m .result) (number .ensures) (m .ensures)) (c .before .before .before .before .before .if2 .taken)
+    (c .same-fields .result) (n .ensures) (number .ensures) (steps .ensures) (c .before .before .without-parts .ensures) (c .before .fields-at .ensures) (c .same-fields .ensures)
 
 returns-2 : tie.Need-returns-2
 returns-2 c =
@@ -81,6 +85,7 @@ group-record-ok-spec =
     second-ok-requires
     multiplier-ok-requires
     first-requires
+    count-requires
     without-parts-requires
     fields-at-requires
     same-fields-requires

@@ -1,0 +1,50 @@
+// Step counts as records store them: a count above 4,294,967,295 is held at 4,294,967,296, and what is held stays held in sums and products.
+// Reading works them out by these two functions, and refusal 6 holds the stored ones against them.
+ghost use mathlib.Core.Path.{_≡_};
+ghost use Prim.Native.Nat.{_+_, _≤_};
+ghost use Rattle.notation.specs.Numbers.{fromBits};
+ghost use Rattle.notation.specs.Counts as rule;
+ghost use Rattle.counts.specs.Held.{inside as insideOf, groupCount};
+use numbers::signed::magnitude;
+use record::kinds;
+
+const HELD: u64 = 4294967296;
+
+// Of one list after another.
+pub fn sum(a: u64, b: u64) -> u64
+    requires { ⌜ (a ≤ rule.HELD) × (b ≤ rule.HELD) ⌝ }
+    ensures { λ r. ⌜ r ≡ rule.hold (a + b) ⌝ }
+{
+    hold(a + b)
+}
+
+// Of a group by those of its lists; one that is no binary group has one list. A NISS group counts 0.
+pub fn of_group(kind: u8, multiplier: u32, a: u64, b: u64) -> u64
+    requires { ⌜ (a ≤ rule.HELD) × (b ≤ rule.HELD) ⌝ }
+    ensures { λ r. ⌜ r ≡ groupCount kind (fromBits 32 multiplier) a b ⌝ }
+{
+    if kind == kinds::NISS {
+        return 0;
+    }
+    hold(magnitude(multiplier) as u64 * inside(kind, a, b))
+}
+
+// Of the contents once: A B A' B' of a commutator, A B A' of a conjugate.
+fn inside(kind: u8, a: u64, b: u64) -> u64
+    requires { ⌜ (a ≤ rule.HELD) × (b ≤ rule.HELD) ⌝ }
+    ensures { λ r. ⌜ r ≡ rule.hold (insideOf kind a b) ⌝ }
+{
+    if kind == kinds::COMMUTATOR {
+        return hold(2 * (a + b));
+    }
+    if kind == kinds::CONJUGATE {
+        return hold(2 * a + b);
+    }
+    a
+}
+
+fn hold(n: u64) -> u64
+    ensures { λ r. ⌜ r ≡ rule.hold n ⌝ }
+{
+    if n < HELD { n } else { HELD }
+}
