@@ -38,7 +38,7 @@ use Rattle.expand.specs.Places.{undoIf, found, Within, Goes, Leads, into
 use Rattle.expand.specs.declared.seek.Way.{Way}
 use Rattle.expand.specs.declared.seek.List.{List as ListAt}
 use Rattle.nodes.proofs.Nodes.{part-length, first-low, FirstLeaf, leaf-node}
-use Rattle.expand.proofs.Shapes.{Shape, isLeaf, isGroup, isBinary, shape-of, bodyOf, at-least, positive-right, block-is, times-are, steps-are, repeats-some, first-stored}
+use Rattle.expand.proofs.Shapes.{Shape, isLeaf, isGroup, isBinary, shape-of, bodyOf, at-least, positive-right, block-is, times-are, steps-are, repeats-some, first-stored, leaf-steps}
 use Rattle.expand.proofs.Steps.{fits-undoable}
 use Rattle.expand.proofs.Undoing.{step-starts, step-undone}
 
@@ -358,30 +358,22 @@ module _ {tree t : List ℕ} {place at e : ℕ} {inverted : Bool} (s : Sought tr
     sought-inside {w} h o c =
         record { packed = o .packed; below = o .below; few = o .few; same = in-node h ∙ ap (undoIf inverted) (o .same) ∙ c (seek false (unpack (part (w .from) (w .to) (part 0 e t))) (w .place)) }
 
--- a leaf is one step
-leaf-steps : {t : List ℕ} (l : FirstLeaf t) → 1 ≡ countNode (l .first .node)
-unfolding countNode
-leaf-steps l = sym (ap countNode (l .isStep))
-
--- and its record that of the step
+-- a leaf's record is that of the step
 pub leaf-step : {t : List ℕ} (l : FirstLeaf t) → Undoable (l .step) × (part 0 RECORD t ≡ leafRecord (l .step))
 unfolding packNode FitsNode
 leaf-step l = (fits-undoable (l .step) (leaf-node l .fits), sym (leaf-node l .bytes))
 
-pub found-leaf : {tree t : List ℕ} {place at : ℕ} {inverted : Bool} → Sought tree place t at inverted → (l : FirstLeaf t) → {steps : ℕ} → steps ≡ field 11 t → at < steps → (step : List ℕ) {now step′ : List ℕ} → now ≡ step →
+pub found-leaf : {tree t : List ℕ} {place at : ℕ} {inverted : Bool} → Sought tree place t at inverted → (l : FirstLeaf t) → at ≡ 0 → (step : List ℕ) {now step′ : List ℕ} → now ≡ step →
     ((x : Leaf) → Undoable x → part 0 RECORD t ≡ leafRecord x → step′ ≡ leafRecord (pick inverted (undo x) x) ++ drop RECORD now) →
     step′ ≡ found (seek false (unpack tree) place) ++ drop RECORD step
 unfolding seekNode
-found-leaf {tree} {t} {place} {at} {inverted} s l {steps} p h step w c =
+found-leaf {tree} {t} {place} {at} {inverted} s l z step w c =
     c x (leaf-step l .0) (leaf-step l .1)
     ∙ ap (λ (y : List ℕ). leafRecord (pick inverted (undo x) x) ++ drop RECORD y) w
-    ∙ ap (λ (o : Option Leaf). found o ++ drop RECORD step) (sym (in-node s (l .first) (leaf-steps l) (omega (arith, z)) ∙ ap (undoIf inverted) here))
+    ∙ ap (λ (o : Option Leaf). found o ++ drop RECORD step) (sym (in-node s (l .first) (leaf-steps l) (omega arith) ∙ ap (undoIf inverted) here))
   where
     x : Leaf
     x = l .step
-
-    z : at ≡ 0
-    z = omega (arith, steps-of s (l .first) p, leaf-steps l)
 
     here : seekNode false (l .first .node) at ≡ some x
     here = ap (λ (n : Node Leaf). seekNode false n at) (l .isStep) ∙ rw z

@@ -21,7 +21,7 @@ use Rattle.notation.specs.declared.common.BinaryGroupKind.the-variants.{Commuta
 use Rattle.record.specs.Meaning.{field}
 use Rattle.laws.proofs.Walking.{nodeHead}
 use Rattle.nodes.specs.Nodes.{IsNode, part, FirstNode}
-use Rattle.nodes.proofs.Nodes.{alone, fields-of, front-field, first-low, kind-of, leaf-kind, multiplier-of}
+use Rattle.nodes.proofs.Nodes.{alone, fields-of, front-field, first-low, kind-of, leaf-kind, multiplier-of, FirstLeaf}
 use Rattle.expand.specs.Meaning.{binaryKind}
 use Rattle.expand.specs.Steps.{IsGroup}
 
@@ -113,6 +113,11 @@ head-stored (block (binaryGroup g a b) m) = refl
 
 pub first-stored : {bs : List ℕ} {e : ℕ} (f : FirstNode bs e) → field 11 bs ≡ stored (f .node)
 first-stored {bs} {e} f = sym (front-field bs e (f .least) 11) ∙ fields-of (f .isNode) 11 ∙ head-stored (f .node)
+
+-- a leaf is one step
+pub leaf-steps : {t : List ℕ} (l : FirstLeaf t) → 1 ≡ countNode (l .first .node)
+unfolding countNode
+leaf-steps l = sym (ap countNode (l .isStep))
 
 -- a node's bytes have the steps of the node
 pub one-count : {bs : List ℕ} {n : Node Leaf} → IsNode bs n → count (unpack bs) ≡ countNode n

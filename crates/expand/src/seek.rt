@@ -1,5 +1,5 @@
-// The step at a place of the unrolled list, found by passing over whole nodes by the counts that they store, and over whole repeats:
-// the time depends neither on the number of steps nor on what is passed.
+// The step at a place of the unrolled list, found by passing over whole nodes, groups by the counts that they store, and over whole repeats:
+// the time depends neither on the number of steps nor on what stands inside a group that is passed.
 ghost use mathlib.Core.Path.{_≡_};
 ghost use mathlib.Core.Bool.{false};
 ghost use mathlib.Core.List.{_++_};
@@ -53,24 +53,29 @@ pub fn seek(tree: &[u8], place: u64, step: &mut [u8])
     let mut at = place;
     let mut inverted = false;
     loop {
-        let steps = fields::count(t);
-        let end = node_end(t);
-        if steps <= at {
-            at -= steps;
-            t = &t[end..];
-        } else {
-            // A leaf is one step.
-            if kinds::CONJUGATE < fields::kind(t) {
+        // A leaf is one record and one step: neither its count nor its lists need be read.
+        if kinds::CONJUGATE < fields::kind(t) {
+            if at == 0 {
                 write_step(&t[0..RECORD], inverted, step);
                 return;
             }
-            let node = &t[0..end];
-            let way = in_block(node, steps, at);
-            let from = way.from;
-            let to = way.to;
-            at = way.place;
-            inverted = differ(inverted, way.inverted);
-            t = &node[from..to];
+            at -= 1;
+            t = &t[RECORD..];
+        } else {
+            let steps = fields::count(t);
+            let end = node_end(t);
+            if steps <= at {
+                at -= steps;
+                t = &t[end..];
+            } else {
+                let node = &t[0..end];
+                let way = in_block(node, steps, at);
+                let from = way.from;
+                let to = way.to;
+                at = way.place;
+                inverted = differ(inverted, way.inverted);
+                t = &node[from..to];
+            }
         }
     }
 }

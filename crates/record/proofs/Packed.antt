@@ -1,12 +1,13 @@
 -- The packed record: where its fields stand, and that reading undoes writing.
-use Prim.Native.Nat.{ℕ, zero, suc, _+_, _/_, _<_, _≤_, zero-le}
+use Prim.Native.Nat.{ℕ, zero, suc, _+_, _*_, _/_, _<_, _≤_, zero-le}
 use mathlib.Core.Path.{_≡_, refl, sym, _∙_, ap, subst}
 use mathlib.Core.Bool.{Bool, true, false}
 use mathlib.Core.Option.{Option, none, some}
 use mathlib.Core.List.{List, [], _∷_, _++_}
 use native.Mathlib.Omega.{arith}
+use borrow.Author.Tests.{ne-eqb}
 use lib.Arith.{lt-of-le-ne}
-use lib.Dec.{lit<}
+use lib.Dec.{eqb, lit<}
 use lib.ListN.{length, getD, take, drop}
 use lib.Seq.{sets-eq}
 use mir.Val.{boolByte}
@@ -19,12 +20,27 @@ use Rattle.notation.specs.declared.common.MegaminxScrambleMove.{MegaminxScrambl
 use Rattle.notation.specs.declared.common.GroupKind.the-variants.{Simple, Macro, Simultaneous, Niss}
 use Rattle.notation.specs.declared.common.BinaryGroupKind.the-variants.{Commutator, Conjugate}
 use Rattle.notation.specs.declared.common.MegaminxScrambleMove.the-variants.{Rpp, Rmm, Dpp, Dmm}
+use Rattle.numbers.proofs.BigEndian.{two-parts}
 use Rattle.record.specs.Meaning.{start, field, groupAt, binaryAt, rotationAt, moveAt}
 use Rattle.record.proofs.Cut.{field-ends, cut-front, length-layOut, stores, stores-layOut}
 
 -- field i stands after the widths before it: what ties an offset of the code to the list of widths
 pub field-at : (bs : List ℕ) (i : ℕ) → i < length widths → field i bs ≡ fromBigEndian (take (getD widths i 0) (drop (start widths i) bs))
 field-at bs i h = cut-front widths bs RECORD i h (field-ends widths i h)
+
+-- the step count by the first of its five bytes and by the other four
+module _ (bs : List ℕ) (long : RECORD ≤ length bs) (high low : ℕ)
+    (e : high ≡ fromBigEndian (take 1 (drop (start widths 11) bs))) (f : low ≡ fromBigEndian (take 4 (drop (start widths 11 + 1) bs))) where
+  count-parts : field 11 bs ≡ high * 4294967296 + low
+  count-parts = field-at bs 11 (lit< tt) ∙ two-parts bs (start widths 11) 1 4 long ∙ rw (e, f)
+
+  pub more-than-one : (high ≡ 0 → ⊥) → eqb high 0 ≡ eqb (field 11 bs) 1
+  more-than-one n = ne-eqb high 0 n ∙ sym (ne-eqb (field 11 bs) 1 (λ z. n (omega (arith, count-parts))))
+
+  pub one-by-low : high ≡ 0 → eqb low 1 ≡ eqb (field 11 bs) 1
+  one-by-low z =
+      let same : low ≡ field 11 bs = omega (arith, count-parts) in
+      ap (λ (n : ℕ). eqb n 1) same
 
 -- what a record says, by its kind
 abbrev pub byKind : List ℕ → List Head

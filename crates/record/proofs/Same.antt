@@ -12,7 +12,8 @@ use Rattle.notation.specs.Basics.{sameList}
 use Rattle.notation.specs.Packed.{RECORD, widths, layOut, cut, Head, headFields, headRecord}
 use Rattle.notation.proofs.Bools.{false-true, and-left as left, and-right as right, and-both as both}
 use Rattle.numbers.proofs.Positional.{Below, below-take}
-use Rattle.record.specs.Meaning.{field, span, spanAt}
+use Rattle.record.specs.Meaning.{field, span, spanAt, uncounted, listed}
+use Rattle.record.specs.declared.encode.Fields.{Fields}
 use Rattle.record.specs.declared.spanned.Span.{Span}
 use Rattle.record.proofs.Cut.{Fits, cut-layOut, layOut-cut}
 
@@ -59,10 +60,6 @@ unfolding sameList
 after-five {a} {b} {c} {d} {e} {a′} {b′} {c′} {d′} {e′} s t p q r u v =
     rw (eq-eqb a a′ p, eq-eqb b b′ q, eq-eqb c c′ r, eq-eqb d d′ u, eq-eqb e e′ v)
 
-pub after-one : {a a′ : ℕ} (s t : List ℕ) → a ≡ a′ → sameList s t ≡ sameList (a ∷ s) (a′ ∷ t)
-unfolding sameList
-after-one {a} {a′} s t p = rw (eq-eqb a a′ p)
-
 pub one-same : (x y : ℕ) → eqb x y ≡ sameList (x ∷ []) (y ∷ [])
 unfolding sameList
 one-same x y = go (eqb x y)
@@ -85,3 +82,8 @@ pub same-record : (h : Head) (bs : List ℕ) → Fits widths (headFields h) → 
     sameList (headFields h) (cut widths (take RECORD bs)) ≡ sameList (headRecord h) (take RECORD bs)
 unfolding headRecord
 same-record h bs f b l = same-fields (headFields h) bs f b l
+
+-- fields that are compared without their step counts, which are the same
+pub counted-same : (f g : Fields) → f .count ≡ g .count → sameList (uncounted f) (uncounted g) ≡ sameList (listed f) (listed g)
+unfolding sameList
+counted-same f g e = rw (eq-eqb (f .count) (g .count) e)

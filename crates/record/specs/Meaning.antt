@@ -1,6 +1,6 @@
 -- What the crate's types mean in the rules, and a field of a record: one of `cut widths`.
 use Prim.Native.Nat.{ℕ, _+_, _/_, _%_}
-use mathlib.Core.List.{List, [], _∷_, foldr}
+use mathlib.Core.List.{List, [], _∷_, _++_, foldr}
 use mathlib.Core.Option.{Option, none, some}
 use lib.Dec.{eqb}
 use lib.ListN.{getD, take}
@@ -101,9 +101,12 @@ moveAt bs =
     leafHead
     (move (eqb (field 0 bs / 8 % 2) 1) (layersAt bs) (familyAt (field 5 bs) (field 6 bs)) (constraintsAt bs) (fromBits 32 (field 3 bs)))
 
--- the fields of a record in order
-abbrev pub listed : Fields → List ℕ
-listed f =
+-- the fields of a record in order; those before the step count
+abbrev pub uncounted : Fields → List ℕ
+uncounted f =
     f .small ∷ f .first ∷ f .second ∷ f .number ∷ f .other
     ∷ f .family .offset ∷ f .family .size ∷ f .constraints .offset ∷ f .constraints .size
-    ∷ f .«layer_set» .offset ∷ f .«layer_set» .size ∷ f .count ∷ []
+    ∷ f .«layer_set» .offset ∷ f .«layer_set» .size ∷ []
+
+abbrev pub listed : Fields → List ℕ
+listed f = uncounted f ++ (f .count ∷ [])

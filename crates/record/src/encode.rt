@@ -57,9 +57,9 @@ pub fn fields_at(t: &[u8]) -> Fields
     }
 }
 
-// Whether two records have the same fields.
+// Whether two records have the same fields but for the step count.
 pub fn same_fields(a: Fields, b: Fields) -> bool
-    ensures { λ r. ⌜ r ≡ sameList (meaning.listed a) (meaning.listed b) ⌝ }
+    ensures { λ r. ⌜ r ≡ sameList (meaning.uncounted a) (meaning.uncounted b) ⌝ }
 {
     if a.small != b.small {
         return false;
@@ -80,7 +80,7 @@ pub fn same_fields(a: Fields, b: Fields) -> bool
 }
 
 fn same_parts(a: Fields, b: Fields) -> bool
-    ensures { λ r. ⌜ r ≡ sameList (drop 5 (meaning.listed a)) (drop 5 (meaning.listed b)) ⌝ }
+    ensures { λ r. ⌜ r ≡ sameList (drop 5 (meaning.uncounted a)) (drop 5 (meaning.uncounted b)) ⌝ }
 {
     if a.family.offset != b.family.offset {
         return false;
@@ -97,10 +97,7 @@ fn same_parts(a: Fields, b: Fields) -> bool
     if a.layer_set.offset != b.layer_set.offset {
         return false;
     }
-    if a.layer_set.size != b.layer_set.size {
-        return false;
-    }
-    a.count == b.count
+    a.layer_set.size == b.layer_set.size
 }
 
 pub fn group_fields(kind: GroupKind, first: u16, multiplier: u32, count: u64) -> Fields

@@ -1,5 +1,5 @@
 -- What every entry comes to, case by case: a text or a tree that is refused, a buffer too short, a result. Assumes nothing.
-use Prim.Native.Nat.{ℕ, _/_, _≤_, _<_}
+use Prim.Native.Nat.{ℕ, _≤_, _<_}
 use mathlib.Core.Path.{_≡_, refl, sym, ap, _∙_}
 use mathlib.Core.Bool.{true, false}
 use mathlib.Core.List.{List, _++_}
@@ -9,17 +9,18 @@ use lib.ListN.{length, drop}
 use Rattle.notation.specs.Utf8.{utf8}
 use Rattle.notation.specs.Refusals.{Outcome, refusal, result, TOO-LONG, NOT-UTF8, NOT-WELL-FORMED, NO-ROOM}
 use Rattle.notation.specs.Tree.{Tree}
-use Rattle.notation.specs.Packed.{RECORD, unpack}
+use Rattle.notation.specs.Packed.{unpack}
+use Rattle.notation.specs.Counts.{hold, count}
 use Rattle.notation.specs.WellFormed.{wellFormed}
 use Rattle.notation.specs.Entries.{Lent, lend, checked, refusalNumber, value, MAX-TEXT}
 use Rattle.numbers.proofs.Positional.{Below}
 use Rattle.laws.proofs.Bools.{no-refusal}
 use Rattle.tree.proofs.Bytes.{accepted}
-use Rattle.sound.specs.Sound.{Sound, recordsIn}
+use Rattle.sound.specs.Sound.{Sound, stepsIn}
 
 -- What `check` promises of its answer.
 abbrev pub Checks : List ℕ → List ℕ → Outcome ℕ → Type 0
-Checks text tree o = (o ≡ recordsIn text tree) × ((n : ℕ) → o ≡ result n → Sound text tree)
+Checks text tree o = (o ≡ stepsIn text tree) × ((n : ℕ) → o ≡ result n → Sound text tree)
 
 module _ (text tree : List ℕ) where
   refuses : (r : ℕ) → checked text tree ≡ refusal r → Checks text tree (refusal r)
@@ -41,23 +42,23 @@ module _ (text tree : List ℕ) where
   unfolding checked
   is-checked h u w = rw (le-leb (length text) MAX-TEXT h, u, w)
 
-  pub is-sound : Below 256 tree → length text ≤ MAX-TEXT → utf8 text ≡ true → wellFormed text tree ≡ true → Checks text tree (result (length tree / RECORD))
-  is-sound b h u w =
+  pub is-sound : Below 256 tree → length text ≤ MAX-TEXT → utf8 text ≡ true → wellFormed text tree ≡ true → (n : ℕ) → n ≡ hold (count (unpack tree)) → Checks text tree (result n)
+  is-sound b h u w n e =
       let is = is-checked h u w in
       let a = accepted text tree b w in
-      (rw is, λ n q. record { short = h; packed = a .packed; ok = a .ok; is = is })
+      (rw (is, e), λ k q. record { short = h; packed = a .packed; ok = a .ok; is = is })
 
 -- What an entry learns by taking that answer apart.
 pub record Known (text tree : List ℕ) (n : ℕ) : Type 0 where
   pub sound : Sound text tree
-  pub records : n ≡ length tree / RECORD
+  pub steps : n ≡ hold (count (unpack tree))
 
 module _ {text tree : List ℕ} {o : Outcome ℕ} (c : Checks text tree o) where
   pub known : {n : ℕ} → o ≡ result n → Known text tree n
   known {n} q =
       let s = c .1 n q in
-      let w : o ≡ result (length tree / RECORD) = rw (s .is) at (c .0) in
-      record { sound = s; records = ap value (sym q ∙ w) }
+      let w : o ≡ result (hold (count (unpack tree))) = rw (s .is) at (c .0) in
+      record { sound = s; steps = ap value (sym q ∙ w) }
 
   pub refused : {r : ℕ} → o ≡ refusal r → checked text tree ≡ refusal r
   refused {r} q = go (checked text tree) refl
@@ -67,7 +68,7 @@ module _ {text tree : List ℕ} {o : Outcome ℕ} (c : Checks text tree o) where
           let w : o ≡ refusal k = rw z at (c .0) in
           z ∙ ap refusal (ap refusalNumber (sym w ∙ q))
       go (result t) z =
-          let w : o ≡ result (length tree / RECORD) = rw z at (c .0) in
+          let w : o ≡ result (hold (count t)) = rw z at (c .0) in
           no-refusal (sym q ∙ w)
 
 -- Lent buffers.

@@ -1,23 +1,23 @@
 -- What an entry knows of a text and a tree once they are not refused.
-use Prim.Native.Nat.{ℕ, _/_, _≤_}
+use Prim.Native.Nat.{ℕ, _≤_}
 use mathlib.Core.Path.{_≡_}
 use mathlib.Core.Bool.{Bool, true, false}
 use mathlib.Core.List.{List}
 use mathlib.Core.Option.{none}
 use lib.ListN.{length}
-use Rattle.notation.specs.Refusals.{Outcome, result, _>>=_, _>>_}
-use Rattle.notation.specs.Packed.{RECORD, unpack}
+use Rattle.notation.specs.Refusals.{Outcome, result, _>>=_}
+use Rattle.notation.specs.Packed.{unpack}
 use Rattle.notation.specs.WellFormed.{treeOk}
 use Rattle.notation.specs.Entries.{checked, MAX-TEXT, MAX-STEPS}
 use Rattle.laws.proofs.Walking.{Packed}
 use Rattle.laws.proofs.Unrolling.{firstRefusal}
-use Rattle.notation.specs.Counts.{count}
+use Rattle.notation.specs.Counts.{hold, count}
 
--- how many records a tree has: refusals 1, 2, 6
-abbrev pub recordsIn : List ℕ → List ℕ → Outcome ℕ
-recordsIn text tree = do
-  checked text tree
-  result (length tree / RECORD)
+-- how many steps a tree counts, held: refusals 1, 2, 6
+abbrev pub stepsIn : List ℕ → List ℕ → Outcome ℕ
+stepsIn text tree = do
+  t ← checked text tree
+  result (hold (count t))
 
 -- not refused 1, 2 or 6
 pub record Sound (text tree : List ℕ) : Type 0 where

@@ -3,19 +3,19 @@ ghost use mathlib.Core.Path.{_≡_};
 ghost use Prim.Native.Nat.{ℕ};
 ghost use Rattle.notation.specs.Refusals.{result};
 ghost use Rattle.notation.specs.Entries.{outcome};
-ghost use Rattle.sound.specs.Sound.{Sound, recordsIn};
+ghost use Rattle.sound.specs.Sound.{Sound, stepsIn};
 use charsets::is_utf8;
 use notation::answer::Answer;
 use notation::limits::MAX_TEXT;
 use notation::refusals::NOT_UTF8;
 use notation::refusals::NOT_WELL_FORMED;
 use notation::refusals::TOO_LONG;
-use record::RECORD;
-use tree::well_formed;
+use tree::Counted;
+use tree::steps;
 
-// How many records the tree has, or refusal 1, 2 or 6.
+// How many steps the tree counts, or refusal 1, 2 or 6.
 pub fn check(text: &[u8], tree: &[u8]) -> Answer
-    ensures { λ r. ⌜ outcome r ≡ recordsIn (now (text .entry)) (now (tree .entry)) ⌝ }
+    ensures { λ r. ⌜ outcome r ≡ stepsIn (now (text .entry)) (now (tree .entry)) ⌝ }
     ensures { λ r. ⌜ ((n : ℕ) → outcome r ≡ result n → Sound (now (text .entry)) (now (tree .entry))) ⌝ }
 {
     if MAX_TEXT < text.len() {
@@ -24,8 +24,8 @@ pub fn check(text: &[u8], tree: &[u8]) -> Answer
     if !is_utf8(text) {
         return Answer::Refused(NOT_UTF8);
     }
-    if !well_formed(text, tree) {
-        return Answer::Refused(NOT_WELL_FORMED);
+    match steps(text, tree) {
+        Counted::Steps(n) => Answer::Value(n),
+        Counted::Nothing => Answer::Refused(NOT_WELL_FORMED),
     }
-    Answer::Value((tree.len() / RECORD) as u64)
 }

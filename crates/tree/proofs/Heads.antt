@@ -19,10 +19,11 @@ use Rattle.notation.specs.declared.common.BinaryGroupKind.{BinaryGroupKind}
 use Rattle.notation.specs.declared.common.BinaryGroupKind.the-variants.{Commutator, Conjugate}
 use Rattle.numbers.proofs.Positional.{Below}
 use Rattle.numbers.proofs.TwosComplement.{toBits-fromBits}
-use Rattle.record.specs.Meaning.{field, groupAt, binaryAt}
+use Rattle.record.specs.Meaning.{field, groupAt, binaryAt, uncounted, listed}
+use Rattle.record.specs.declared.encode.Fields.{Fields}
 use Rattle.record.proofs.Packed.{by-kind}
 use Rattle.record.proofs.RoundTrip.{headFields-fit}
-use Rattle.record.proofs.Same.{same-eq, same-record}
+use Rattle.record.proofs.Same.{same-eq, same-record, counted-same}
 use Rattle.counts.specs.Held.{groupCount}
 use Rattle.counts.proofs.Held.{group-stored, binary-stored}
 use Rattle.tree.specs.Formed.{headOk, first, second, countOk}
@@ -140,8 +141,9 @@ module _ (bs : List ℕ) (below : Below 256 bs) (long : RECORD ≤ length bs) wh
   by-fields : sameList (headFields (headAt bs)) (cut widths (take RECORD bs)) ≡ sameList (headRecord (headAt bs)) (take RECORD bs)
   by-fields = same-record (headAt bs) bs (headFields-fit (headAt bs) (head-fits bs below)) below long
 
-  pub compared : (fs gs : List ℕ) (r : Bool) → fs ≡ headFields (headAt bs) → gs ≡ cut widths (take RECORD bs) → r ≡ sameList fs gs → r ≡ sameList (headRecord (headAt bs)) (take RECORD bs)
-  compared fs gs r p q e = e ∙ ap₂ sameList p q ∙ by-fields
+  pub compared : (f g : Fields) (r : Bool) → listed f ≡ headFields (headAt bs) → listed g ≡ cut widths (take RECORD bs) → f .count ≡ g .count →
+      r ≡ sameList (uncounted f) (uncounted g) → r ≡ sameList (headRecord (headAt bs)) (take RECORD bs)
+  compared f g r p q c e = e ∙ counted-same f g c ∙ ap₂ sameList p q ∙ by-fields
 
   -- a record that is what packing writes
   pub field-written : sameList (headRecord (headAt bs)) (take RECORD bs) ≡ true → (i : ℕ) → field i bs ≡ getD (headFields (headAt bs)) i 0

@@ -11,14 +11,15 @@ use lib.ListN.{length, take, drop, getD, length-drop}
 use lib.Seq.{take-all}
 use Rattle.notation.specs.Basics.{pick, sameList}
 use Rattle.notation.specs.Numbers.{fromBits}
-use Rattle.notation.specs.Tree.{Leaf, pause, pair, Node, Tree}
+use Rattle.notation.specs.Tree.{Leaf, rotation, move, pause, pair, slash, megaminx, Node, Tree}
 use Rattle.notation.specs.Counts.{HELD, hold, countNode, count, stored}
 use Rattle.notation.specs.Packed.{RECORD, widths, cut, inOrder, nowhere, Head, leafHead, headFields, headRecord, headAt, unpackFrom, unpack}
 use Rattle.notation.specs.WellFormed.{leafOk, multiplierOk}
 use Rattle.numbers.proofs.Positional.{Below, below-drop}
 use Rattle.numbers.proofs.TwosComplement.{toBits-fromBits}
 use Rattle.laws.proofs.Bools.{and-left, and-right, and-both, false-true}
-use Rattle.record.specs.Meaning.{field}
+use Rattle.record.specs.Meaning.{field, uncounted, listed}
+use Rattle.record.specs.declared.encode.Fields.{Fields}
 use Rattle.record.proofs.Packed.{headAt-kind}
 use Rattle.record.proofs.Same.{same-refl, same-eq, refuted}
 use Rattle.counts.specs.Held.{groupCount}
@@ -224,40 +225,66 @@ pub record LeafRead (bs : List ℕ) (k : ℕ) : Type 0 where
   pub long : RECORD ≤ length bs
   pub kind : k ≡ field 0 bs / 16
   pub leaf : 6 ≤ k
+  pub one : field 11 bs ≡ 1
+
+-- it counts 1
+leaf-one : (x : Leaf) → getD (headFields (leafHead x)) 11 0 ≡ 1
+leaf-one (rotation f c m) = refl
+leaf-one (move t l f c m) = refl
+leaf-one pause = refl
+leaf-one (pair u d) = refl
+leaf-one slash = refl
+leaf-one (megaminx m) = refl
+
+pub leaf-not-one : (text bs : List ℕ) → Below 256 bs → RECORD ≤ length bs → 6 ≤ field 0 bs / 16 → (one : Bool) → one ≡ eqb (field 11 bs) 1 → one ≡ false →
+    (d : ℕ) → false ≡ firstOk text d bs
+leaf-not-one text bs below long k one e f d =
+    let x = leaf-says bs (field 0 bs / 16) refl k in
+    let other : same bs ≡ false = sym (refuted (same bs) λ w.
+    eqb-false (field 11 bs) 1 (sym e ∙ f) (field-written bs below long w 11 ∙ ap (λ (h : Head). getD (headFields h) 11 0) (sym (x .1)) ∙ leaf-one (x .0)))
+    in
+    rw other
+
+-- the step count that was read with the other fields
+count-of : {f : Fields} {l : List ℕ} → listed f ≡ l → f .count ≡ getD l 11 0
+count-of p = ap (λ (l : List ℕ). getD l 11 0) p
 
 module _ {bs : List ℕ} {k : ℕ} (read : LeafRead bs k) where
-  module _ (text : List ℕ) (x : Leaf) (e : leafHead x ≡ headAt bs) {fs gs : List ℕ} (s : Bool) (p : fs ≡ headFields (leafHead x)) (o : gs ≡ cut widths (take RECORD bs)) (q : s ≡ sameList fs gs) where
+  module _ (text : List ℕ) (x : Leaf) (e : leafHead x ≡ headAt bs) {f g : Fields} (s : Bool) (p : listed f ≡ headFields (leafHead x)) (o : listed g ≡ cut widths (take RECORD bs))
+      (q : s ≡ sameList (uncounted f) (uncounted g)) where
     leaf-same : s ≡ same bs
-    leaf-same = compared bs (read .below) (read .long) fs gs s (p ∙ ap headFields e) o q
+    leaf-same =
+        compared bs (read .below) (read .long) f g s (p ∙ ap headFields e) o
+        (count-of {f = f} p ∙ leaf-one x ∙ sym (read .one) ∙ sym (count-of {f = g} o)) q
 
     pub leaf-passed : s ≡ true → (ok : Bool) → ok ≡ leafOk text x → (d : ℕ) → ok ≡ firstOk text d bs
     leaf-passed t ok z d = z ∙ ap (λ (b : Bool). b && leafOk text x) (sym t) ∙ leaf-decides text bs x e s leaf-same d
 
     pub leaf-refused : s ≡ false → (d : ℕ) → s ≡ firstOk text d bs
-    leaf-refused f d = f ∙ ap (λ (b : Bool). b && leafOk text x) (sym f) ∙ leaf-decides text bs x e s leaf-same d
+    leaf-refused z d = z ∙ ap (λ (b : Bool). b && leafOk text x) (sym z) ∙ leaf-decides text bs x e s leaf-same d
 
     leaf-alone : leafOk text x ≡ true → (d : ℕ) → s ≡ firstOk text d bs
     leaf-alone z d = and-true s (leafOk text x) z ∙ leaf-decides text bs x e s leaf-same d
 
-  pub pair-read : (text : List ℕ) {u v : ℕ} {fs gs : List ℕ} (s : Bool) → k ≡ 9 → u ≡ field 3 bs → v ≡ field 4 bs → fs ≡ inOrder 9 0 0 0 0 0 u v nowhere nowhere nowhere 1 →
-      gs ≡ cut widths (take RECORD bs) → s ≡ sameList fs gs → (d : ℕ) → s ≡ firstOk text d bs
+  pub pair-read : (text : List ℕ) {u v : ℕ} {f g : Fields} (s : Bool) → k ≡ 9 → u ≡ field 3 bs → v ≡ field 4 bs → listed f ≡ inOrder 9 0 0 0 0 0 u v nowhere nowhere nowhere 1 →
+      listed g ≡ cut widths (take RECORD bs) → s ≡ sameList (uncounted f) (uncounted g) → (d : ℕ) → s ≡ firstOk text d bs
   unfolding leafOk
-  pair-read text s z a b p o q =
+  pair-read text {f = f} {g = g} s z a b p o q =
       let n = field 3 bs in
       let n′ = field 4 bs in
-      leaf-alone text (pair (fromBits 32 n) (fromBits 32 n′)) (sym (headAt-kind bs 9 (sym z ∙ read .kind))) s
+      leaf-alone text (pair (fromBits 32 n) (fromBits 32 n′)) (sym (headAt-kind bs 9 (sym z ∙ read .kind))) {f = f} {g = g} s
       (p ∙ (λ i. inOrder 9 0 0 0 0 0 (a i) (b i) nowhere nowhere nowhere 1)
       ∙ rw (toBits-fromBits 32 n (field-lt bs (read .below) 3 (lit< tt)), toBits-fromBits 32 n′ (field-lt bs (read .below) 4 (lit< tt))))
       o q refl
 
-  pub alone-read : (text : List ℕ) {fs gs : List ℕ} (s : Bool) → (k ≡ 6 → ⊥) → (k ≡ 7 → ⊥) → (k ≡ 9 → ⊥) → (k ≡ 15 → ⊥) → fs ≡ inOrder k 0 0 0 0 0 0 0 nowhere nowhere nowhere 1 →
-      gs ≡ cut widths (take RECORD bs) → s ≡ sameList fs gs → (d : ℕ) → s ≡ firstOk text d bs
-  alone-read text s six seven nine last p o q =
+  pub alone-read : (text : List ℕ) {f g : Fields} (s : Bool) → (k ≡ 6 → ⊥) → (k ≡ 7 → ⊥) → (k ≡ 9 → ⊥) → (k ≡ 15 → ⊥) → listed f ≡ inOrder k 0 0 0 0 0 0 0 nowhere nowhere nowhere 1 →
+      listed g ≡ cut widths (take RECORD bs) → s ≡ sameList (uncounted f) (uncounted g) → (d : ℕ) → s ≡ firstOk text d bs
+  alone-read text {f = f} {g = g} s six seven nine last p o q =
       let x = leaf-says bs k (read .kind) (read .leaf) in
       let byte = field-lt bs (read .below) 0 (lit< tt) in
       let few : k < 15 = omega (arith, read .kind) in
       let says = alone-says bs k (read .kind) (read .leaf, few, six, seven, nine) in
-      leaf-alone text (x .0) (x .1) s (p ∙ sym (says .fields) ∙ ap headFields (sym (x .1))) o q (ap (headOk text 0) (x .1) ∙ says .asks text 0)
+      leaf-alone text (x .0) (x .1) {f = f} {g = g} s (p ∙ sym (says .fields) ∙ ap headFields (sym (x .1))) o q (ap (headOk text 0) (x .1) ∙ says .asks text 0)
 
   -- a pause has another kind
   pub no-kind : (text : List ℕ) → k ≡ 15 → (d : ℕ) → false ≡ firstOk text d bs
@@ -300,11 +327,12 @@ pub record GroupRead (bs : List ℕ) (k n : ℕ) (q : Bool) : Type 0 where
   pub may : q ≡ (leb 4 k || eqb n 0)
 
 pub group-written : {bs : List ℕ} {k n : ℕ} {q : Bool} → GroupRead bs k n q → q ≡ true → (m : Bool) → m ≡ multiplier bs → m ≡ true →
-    {n′ number steps : ℕ} {fs gs : List ℕ} (r : Bool) → n′ ≡ field 1 bs → number ≡ field 3 bs → steps ≡ field 11 bs →
-    fs ≡ inOrder k 0 0 0 n′ n number 0 nowhere nowhere nowhere steps → gs ≡ cut widths (take RECORD bs) → r ≡ sameList fs gs → r ≡ (same bs && multiplier bs)
-group-written {bs} {k} {n} {q} g t m e h {n′} {number} {steps} {fs} {gs} r a b c p o s =
+    {n′ number steps : ℕ} {f f′ : Fields} (r : Bool) → n′ ≡ field 1 bs → number ≡ field 3 bs → steps ≡ field 11 bs →
+    listed f ≡ inOrder k 0 0 0 n′ n number 0 nowhere nowhere nowhere steps → listed f′ ≡ cut widths (take RECORD bs) → r ≡ sameList (uncounted f) (uncounted f′) → r ≡ (same bs && multiplier bs)
+group-written {bs} {k} {n} {q} g t m e h {n′} {number} {steps} {f} {f′} r a b c p o s =
     let z = second-is bs k n (g .says) (g .count) q (g .may) t in
-    compared bs (g .below) (g .long) fs gs r (p ∙ (λ i. inOrder k 0 0 0 (a i) (z i) (b i) 0 nowhere nowhere nowhere (c i)) ∙ sym (g .says .fields)) o s
+    compared bs (g .below) (g .long) f f′ r (p ∙ (λ i. inOrder k 0 0 0 (a i) (z i) (b i) 0 nowhere nowhere nowhere (c i)) ∙ sym (g .says .fields)) o
+    (count-of {f = f} p ∙ c ∙ sym (count-of {f = f′} o)) s
     ∙ and-true (same bs) (multiplier bs) (sym e ∙ h)
 
 pub second-refused : {bs : List ℕ} {k n : ℕ} {q : Bool} → GroupRead bs k n q → q ≡ false → false ≡ (same bs && multiplier bs)

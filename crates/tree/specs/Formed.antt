@@ -9,16 +9,19 @@ use Rattle.notation.specs.Basics.{pick, sameList}
 use Rattle.notation.specs.Tree.{Tree, block, group, binaryGroup}
 use Rattle.notation.specs.Counts.{hold, count, stored}
 use Rattle.notation.specs.Packed.{RECORD, headRecord, pack, headAt, unpack, Head, leafHead, groupHead, binaryHead}
-use Rattle.notation.specs.WellFormed.{treeOk, depth, leafOk, multiplierOk}
+use Rattle.notation.specs.WellFormed.{treeOk, depth, leafOk, multiplierOk, wellFormed}
 
 unfoldable pub formed : List ℕ → ℕ → List ℕ → Bool
 formed text d bs =
     let t = unpack bs in
     sameList (pack t) bs && treeOk text t && leb (depth t) d
 
--- how many steps it has, held, if it is well formed
+-- how many steps it has, held, if it is well formed; and a whole tree
 abbrev pub formedCount : List ℕ → ℕ → List ℕ → Option ℕ
 formedCount text d bs = pick (formed text d bs) (some (hold (count (unpack bs)))) none
+
+abbrev pub stepsIn : List ℕ → List ℕ → Option ℕ
+stepsIn text tree = pick (wellFormed text tree) (some (hold (count (unpack tree)))) none
 
 -- what is asked of a head beside its lists: a group is a level of nesting
 abbrev pub headOk : List ℕ → ℕ → Head → Bool

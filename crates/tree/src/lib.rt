@@ -3,4 +3,5 @@
 pub mod leaf;
 pub mod walk;
 
-pub use walk::well_formed;
+pub use walk::Counted;
+pub use walk::steps;

@@ -25,24 +25,22 @@ ghost use lib.ListN.{length, take};
 ghost use Rattle.notation.specs.Basics.{sameList};
 ghost use Rattle.notation.specs.Numbers.{fromBits};
 ghost use Rattle.notation.specs.Packed.{RECORD, headRecord, headAt};
-ghost use Rattle.notation.specs.WellFormed.{multiplierOk, wellFormed};
+ghost use Rattle.notation.specs.WellFormed.{multiplierOk};
 ghost use Rattle.record.specs.Meaning.{field};
-ghost use Rattle.tree.specs.Formed.{formedCount, firstOk};
+ghost use Rattle.tree.specs.Formed.{stepsIn, formedCount, firstOk};
 ghost use Rattle.tree.specs.Meaning.{counted};
 
-pub fn well_formed(text: &[u8], tree: &[u8]) -> bool
-    ensures { λ r. ⌜ r ≡ wellFormed (now (text .entry)) (now (tree .entry)) ⌝ }
-{
-    match list_count(text, tree, MAX_NESTING) {
-        Counted::Steps(_) => true,
-        Counted::Nothing => false,
-    }
-}
-
-// How many steps a list has that is well formed.
-enum Counted {
+// How many steps a tree or a list has that is well formed.
+pub enum Counted {
     Steps(u64),
     Nothing,
+}
+
+// Of a whole tree.
+pub fn steps(text: &[u8], tree: &[u8]) -> Counted
+    ensures { λ r. ⌜ counted r ≡ stepsIn (now (text .entry)) (now (tree .entry)) ⌝ }
+{
+    list_count(text, tree, MAX_NESTING)
 }
 
 // Whether these records are a list of nodes in which groups are nested at most `depth` deep, and if so how many steps they are.
@@ -131,12 +129,15 @@ fn second_ok(kind: u8, second: u16) -> bool
     kinds::COMMUTATOR <= kind || second == 0
 }
 
-// Whether the first node, which is no group, is what packing writes and in bounds. Packing writes no kind above 14.
+// Whether the first node, which is no group, is what packing writes and in bounds. Packing writes no kind above 14, and counts a leaf 1.
 fn leaf_ok(text: &[u8], t: &[u8]) -> bool
     requires { ⌜ RECORD ≤ length (now t) ⌝ }
     requires { ⌜ 6 ≤ field 0 (now t) / 16 ⌝ }
     ensures { λ r. ⌜ ((depth : ℕ) → r ≡ firstOk (now (text .entry)) depth (now (t .entry))) ⌝ }
 {
+    if !fields::counts_one(t) {
+        return false;
+    }
     let kind = fields::kind(t);
     match kind {
         kinds::MOVE => {

@@ -1,8 +1,11 @@
 -- `count::count` meets its contract. Assumes nothing.
 use borrow.Author.Needs.{needs}
+use native.Mathlib.Omega.{arith}
+use lib.Dec.{lit≤}
 use lib.ListN.{length}
-use Rattle.nodes.proofs.Nodes.{record-room, rest-less, first-of}
-use Rattle.expand.proofs.Counting.{Counting, stored-most, counting-starts, counting-goes-on, counted}
+use Rattle.notation.specs.Packed.{RECORD}
+use Rattle.nodes.proofs.Nodes.{record-room, rest-less, first-of, first-leaf}
+use Rattle.expand.proofs.Counting.{Counting, group-counts, leaf-counts, stored-most, counting-starts, counting-goes-on, counted}
 use Rattle.expand.proofs.count.count.Statement.{statement}
 use Rattle.expand.proofs.count.count.Tie as tie
 
@@ -15,31 +18,61 @@ abbrev μ-loop : tie.MeasureT-loop
 loop-holds : tie.Need-loop-holds Inv-loop μ-loop
 loop-holds c = counting-starts _ (c .before .pre)
 
-count-requires : tie.Need-count-requires Inv-loop μ-loop
-count-requires c κs = record-room _ (c .before .loop .inv .packed) (c .loop-test .taken)
+kind-requires : tie.Need-kind-requires Inv-loop μ-loop
+kind-requires c κs = record-room _ (c .before .loop .inv .packed) (c .loop-test .taken)
 
 sum-requires : tie.Need-sum-requires Inv-loop μ-loop
-sum-requires c κs =
-    let at-loop = c .before .before in
-    (at-loop .loop .inv .held, stored-most (first-of _ (at-loop .loop .inv .packed) (c .before .loop-test .taken)) (c .count .ensures))
-
-node-end-requires : tie.Need-node-end-requires Inv-loop μ-loop
-node-end-requires c κs = search needs
+sum-requires c κs = (c .before .before .before .loop .inv .held, lit≤ tt)
 
 sub-t : tie.Need-sub-t Inv-loop μ-loop
-sub-t c = search needs
+sub-t c = let tested = c .before .before .before in record-room _ (tested .before .loop .inv .packed) (tested .loop-test .taken)
 
 part-t-start : tie.Need-part-t-start Inv-loop μ-loop
-part-t-start c = search needs
+part-t-start c = let tested = c .before .before .before in record-room _ (tested .before .loop .inv .packed) (tested .loop-test .taken)
 
 part-t-end : tie.Need-part-t-end Inv-loop μ-loop
 part-t-end c = search needs
 
 loop-less : tie.Need-loop-less Inv-loop μ-loop
-loop-less c = rest-less (c .before .before .before .before .before .loop .t .now) _ (c .before .node-end .ensures .least) (c .before .node-end .ensures .most)
+loop-less c =
+    let tested = c .before .before .before .before in
+    rest-less (tested .before .loop .t .now) RECORD (lit≤ tt) (record-room _ (tested .before .loop .inv .packed) (tested .loop-test .taken))
 
 loop-again : tie.Need-loop-again Inv-loop μ-loop
-loop-again c = counting-goes-on (c .before .before .before .before .before .loop .inv) (c .before .node-end .ensures) (c .before .before .before .count .ensures) (c .before .before .sum .ensures)
+loop-again c =
+    let kinded = c .before .before .before in
+    let at-loop = kinded .before .before in
+    let leaf = first-leaf (at-loop .loop .inv .packed) (kinded .before .loop-test .taken) (kinded .kind .ensures) (c .before .before .if1 .taken) in
+    counting-goes-on (at-loop .loop .inv) (leaf .first) (leaf-counts leaf) (c .before .sum .ensures)
+
+count-requires : tie.Need-count-requires Inv-loop μ-loop
+count-requires c κs = let tested = c .before .before in record-room _ (tested .before .loop .inv .packed) (tested .loop-test .taken)
+
+sum-requires-2 : tie.Need-sum-requires-2 Inv-loop μ-loop
+sum-requires-2 c κs =
+    let tested = c .before .before .before in
+    let at-loop = tested .before in
+    (omega (arith, at-loop .loop .inv .held), stored-most (first-of _ (at-loop .loop .inv .packed) (tested .loop-test .taken)) (c .count .ensures))
+
+node-end-requires : tie.Need-node-end-requires Inv-loop μ-loop
+node-end-requires c κs = search needs
+
+sub-t-2 : tie.Need-sub-t-2 Inv-loop μ-loop
+sub-t-2 c = search needs
+
+part-t-start-2 : tie.Need-part-t-start-2 Inv-loop μ-loop
+part-t-start-2 c = search needs
+
+part-t-end-2 : tie.Need-part-t-end-2 Inv-loop μ-loop
+part-t-end-2 c = search needs
+
+loop-less-2 : tie.Need-loop-less-2 Inv-loop μ-loop
+loop-less-2 c = rest-less (c .before .before .before .before .before .before .before .loop .t .now) _ (c .before .node-end .ensures .least) (c .before .node-end .ensures .most)
+
+loop-again-2 : tie.Need-loop-again-2 Inv-loop μ-loop
+loop-again-2 c =
+    let first = c .before .node-end .ensures in
+    counting-goes-on (c .before .before .before .before .before .before .before .loop .inv) first (group-counts first (c .before .before .before .count .ensures)) (c .before .before .sum2 .ensures)
 
 returns : tie.Need-returns Inv-loop μ-loop
 returns c = counted (c .before .loop .inv) (c .loop-test .left)
@@ -51,12 +84,19 @@ count-spec =
     Inv-loop
     μ-loop
     loop-holds
-    count-requires
+    kind-requires
     sum-requires
-    node-end-requires
     sub-t
     part-t-start
     part-t-end
     loop-less
     loop-again
+    count-requires
+    sum-requires-2
+    node-end-requires
+    sub-t-2
+    part-t-start-2
+    part-t-end-2
+    loop-less-2
+    loop-again-2
     returns)

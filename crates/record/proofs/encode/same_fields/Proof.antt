@@ -1,7 +1,7 @@
 -- `encode::same_fields` meets its contract: field by field. Assumes nothing.
 use mathlib.Core.Path.{_∙_}
 use lib.ListN.{drop}
-use Rattle.record.specs.Meaning.{listed}
+use Rattle.record.specs.Meaning.{uncounted}
 use borrow.Author.Needs.{needs}
 use Rattle.record.proofs.Same.{differs, after-five}
 use Rattle.record.proofs.encode.same_fields.Statement.{statement}
@@ -26,7 +26,7 @@ same-parts-requires : tie.Need-same-parts-requires
 same-parts-requires c κs = search needs
 
 returns-6 : tie.Need-returns-6
-returns-6 c = c .same-parts .ensures ∙ after-five (drop 5 (listed (c .before .before .before .before .before .before .before .before .before .before .before .before .before .before .before .before .args .a))) (drop 5 (listed (c .before .before .before .before .before .before .before .before .before .before .before .before .before .before .before .before .args .b))) (c .before .before .before .before .before .before .before .before .before .before .before .before .before .if1 .left) (c .before .before .before .before .before .before .before .before .before .before .if2 .left) (c .before .before .before .before .before .before .before .if3 .left) (c .before .before .before .before .if4 .left) (c .before .if5 .left)
+returns-6 c = c .same-parts .ensures ∙ after-five (drop 5 (uncounted (c .before .before .before .before .before .before .before .before .before .before .before .before .before .before .before .before .args .a))) (drop 5 (uncounted (c .before .before .before .before .before .before .before .before .before .before .before .before .before .before .before .before .args .b))) (c .before .before .before .before .before .before .before .before .before .before .before .before .before .if1 .left) (c .before .before .before .before .before .before .before .before .before .before .if2 .left) (c .before .before .before .before .before .before .before .if3 .left) (c .before .before .before .before .if4 .left) (c .before .if5 .left)
 
 pub same-fields-spec : {M : Type 1} → statement M
 same-fields-spec =

@@ -1,7 +1,7 @@
 -- `encode::same_parts` meets its contract: field by field. Assumes nothing.
 use mathlib.Core.Path.{_∙_}
 use mathlib.Core.List.{[], _∷_}
-use Rattle.record.proofs.Same.{differs, after-one, after-five, one-same}
+use Rattle.record.proofs.Same.{differs, after-five, one-same}
 use Rattle.record.proofs.encode.same_parts.Statement.{statement}
 use Rattle.record.proofs.encode.same_parts.Tie as tie
 
@@ -21,16 +21,10 @@ returns-5 : tie.Need-returns-5
 returns-5 c = differs _ _ 4 (c .if5 .taken)
 
 returns-6 : tie.Need-returns-6
-returns-6 c = differs _ _ 5 (c .if6 .taken)
-
-returns-7 : tie.Need-returns-7
-returns-7 c =
-    let five = c .before .before .before in
-    let a = five .before .before .before .before .before .before .before .before .before .before .before .before .before .before .before .before .before .args .a in
-    let b = five .before .before .before .before .before .before .before .before .before .before .before .before .before .before .before .before .before .args .b in
-    one-same (a .count) (b .count)
-    ∙ after-one (a .count ∷ []) (b .count ∷ []) (c .before .before .if6 .left)
-    ∙ after-five (a .«layer_set» .size ∷ a .count ∷ []) (b .«layer_set» .size ∷ b .count ∷ []) (five .before .before .before .before .before .before .before .before .before .before .before .before .before .before .if1 .left) (five .before .before .before .before .before .before .before .before .before .before .before .if2 .left) (five .before .before .before .before .before .before .before .before .if3 .left) (five .before .before .before .before .before .if4 .left) (five .before .before .if5 .left)
+returns-6 c =
+    let x = c .before .before .before .before .before .before .before .before .before .before .before .before .before .before .before .before .before .args .a .«layer_set» .size in
+    let y = c .before .before .before .before .before .before .before .before .before .before .before .before .before .before .before .before .before .args .b .«layer_set» .size in
+    one-same x y ∙ after-five (x ∷ []) (y ∷ []) (c .before .before .before .before .before .before .before .before .before .before .before .before .before .before .if1 .left) (c .before .before .before .before .before .before .before .before .before .before .before .if2 .left) (c .before .before .before .before .before .before .before .before .if3 .left) (c .before .before .before .before .before .if4 .left) (c .before .before .if5 .left)
 
 pub same-parts-spec : {M : Type 1} → statement M
-same-parts-spec = tie.close (tie.spec returns returns-2 returns-3 returns-4 returns-5 returns-6 returns-7)
+same-parts-spec = tie.close (tie.spec returns returns-2 returns-3 returns-4 returns-5 returns-6)
