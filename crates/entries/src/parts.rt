@@ -39,7 +39,7 @@ pub fn simplify(
     ensures { λ r. ⌜ record { answer = rule.outcome r; buffer = now (out .exit) } ≡ rule.simplifyBytes (now (text .entry)) (now (tree .entry)) «record» «max_layer» «allow_negatives» (now (out .entry)) ⌝ }
 {
     let checked = check(text, tree);
-    let Answer::Value(records) = checked else {
+    let Answer::Value(_) = checked else {
         return checked;
     };
     if max_layer == 0 {
@@ -48,7 +48,7 @@ pub fn simplify(
     if MAX_LAYER < max_layer {
         return Answer::Refused(NO_SUCH_LAYER_COUNT);
     }
-    if records <= record {
+    if (tree.len() / RECORD) as u64 <= record {
         return Answer::Refused(NO_SUCH_RECORD);
     }
     let from = RECORD * (record as usize);
@@ -76,10 +76,10 @@ pub fn family_part(text: &[u8], tree: &[u8], record: u64) -> PartAnswer
     ensures { λ r. ⌜ Inside (now (text .entry)) r ⌝ }
 {
     let checked = check(text, tree);
-    let Answer::Value(records) = checked else {
+    let Answer::Value(_) = checked else {
         return no_part(checked);
     };
-    if records <= record {
+    if (tree.len() / RECORD) as u64 <= record {
         return PartAnswer::Refused(NO_SUCH_RECORD);
     }
     let from = RECORD * (record as usize);

@@ -4,7 +4,6 @@ ghost use Prim.Native.Nat.{ℕ};
 ghost use Rattle.notation.specs.Refusals.{result};
 ghost use Rattle.notation.specs.Entries as rule;
 ghost use Rattle.sound.specs.Sound.{Counted};
-use expand::count::count;
 use expand::visit::visit;
 use notation::answer::Answer;
 use notation::limits::MAX_STEPS;
@@ -20,14 +19,13 @@ pub fn count_steps(text: &[u8], tree: &[u8]) -> Answer
     ensures { λ r. ⌜ ((n : ℕ) → rule.outcome r ≡ result n → Counted (now (text .entry)) (now (tree .entry)) n) ⌝ }
 {
     let checked = check(text, tree);
-    let Answer::Value(_) = checked else {
+    let Answer::Value(steps) = checked else {
         return checked;
     };
     let refusals = visit(tree);
     if refusals.forward != 0 {
         return Answer::Refused(refusals.forward);
     }
-    let steps = count(tree);
     if MAX_STEPS < steps {
         return Answer::Refused(TOO_MANY_STEPS);
     }

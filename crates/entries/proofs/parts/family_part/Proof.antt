@@ -18,11 +18,11 @@ use Rattle.entries.proofs.parts.family_part.Tie as tie
 check-requires : tie.Need-check-requires
 check-requires c κs = search needs
 
-enum-known-checked : tie.Need-enum-known-checked
-enum-known-checked c = search needs
-
 enum-told : tie.Need-enum-told
 enum-told c = search needs
+
+enum-told-2 : tie.Need-enum-told-2
+enum-told-2 c = search needs
 
 no-part-requires : tie.Need-no-part-requires
 no-part-requires c κs = search needs
@@ -31,78 +31,68 @@ returns : tie.Need-returns
 returns c =
     let check = c .before .before .before in
     let a = check .before .before .before .args in
-    let q = ap outcome (c .before .enum-told .given .1) in
+    let q = ap outcome (c .before .enum-told2 .given .1) in
     let is = c .no-part .ensures _ q in
     (ap partOutcome is ∙ family-unsound (a .text .now) (a .tree .now) (a .«record») (check .check .ensures) q, subst (Inside (a .text .now)) (sym is) tt)
 
 returns-2 : tie.Need-returns-2
 returns-2 c =
-    let value = c .before .before in
+    let value = c .before in
     let check = value .before .before in
     let a = check .before .before .before .args in
-    let k = known (check .check .ensures) (ap outcome (value .checked .given .1)) in
-    (family-none (a .text .now) (a .tree .now) (a .«record») (k .sound) (omega (arith, k .records, c .if1 .taken)), tt)
+    let k = known (check .check .ensures) (ap outcome (value .enum-told .given .1)) in
+    (family-none (a .text .now) (a .tree .now) (a .«record») (k .sound) (omega (arith, c .if1 .taken)), tt)
 
 mul-from : tie.Need-mul-from
-mul-from c =
-    let value = c .before .before in
-    search (needs, known (value .before .before .check .ensures) (ap outcome (value .checked .given .1)) .records)
+mul-from c = search needs
 
 sub-found : tie.Need-sub-found
-sub-found c =
-    let value = c .before .before in
-    search (needs, known (value .before .before .check .ensures) (ap outcome (value .checked .given .1)) .records)
+sub-found c = search needs
 
 part-found-start : tie.Need-part-found-start
-part-found-start c =
-    let value = c .before .before in
-    search (needs, known (value .before .before .check .ensures) (ap outcome (value .checked .given .1)) .records)
+part-found-start c = search needs
 
 part-found-end : tie.Need-part-found-end
 part-found-end c = search needs
 
 kind-requires : tie.Need-kind-requires
-kind-requires c κs =
-    let value = c .before .before .before in
-    search (needs, known (value .before .before .check .ensures) (ap outcome (value .checked .given .1)) .records)
+kind-requires c κs = search needs
 
 returns-3 : tie.Need-returns-3
 returns-3 c =
     let kind = c .before in
     let few = kind .before .before in
-    let value = few .before .before in
+    let value = few .before in
     let check = value .before .before in
     let a = check .before .before .before .args in
-    let k = known (check .check .ensures) (ap outcome (value .checked .given .1)) in
+    let k = known (check .check .ensures) (ap outcome (value .enum-told .given .1)) in
     (family-low (found (a .tree .now) (a .«record»)) (kind .kind .result) (kind .kind .ensures) (c .if2 .taken)
-      ∙ family-is (a .text .now) (a .tree .now) (a .«record») (k .sound) (omega (arith, k .records, few .if1 .left)), tt)
+      ∙ family-is (a .text .now) (a .tree .now) (a .«record») (k .sound) (omega (arith, few .if1 .left)), tt)
 
 returns-4 : tie.Need-returns-4
 returns-4 c =
     let kind = c .before .before in
     let few = kind .before .before in
-    let value = few .before .before in
+    let value = few .before in
     let check = value .before .before in
     let a = check .before .before .before .args in
-    let k = known (check .check .ensures) (ap outcome (value .checked .given .1)) in
+    let k = known (check .check .ensures) (ap outcome (value .enum-told .given .1)) in
     (family-high (found (a .tree .now) (a .«record»)) (kind .kind .result) (kind .kind .ensures) (c .if3 .taken)
-      ∙ family-is (a .text .now) (a .tree .now) (a .«record») (k .sound) (omega (arith, k .records, few .if1 .left)), tt)
+      ∙ family-is (a .text .now) (a .tree .now) (a .«record») (k .sound) (omega (arith, few .if1 .left)), tt)
 
 family-of-requires : tie.Need-family-of-requires
-family-of-requires c κs =
-    let value = c .before .before .before .before .before .before in
-    search (needs, known (value .before .before .check .ensures) (ap outcome (value .checked .given .1)) .records)
+family-of-requires c κs = search needs
 
 returns-5 : tie.Need-returns-5
 returns-5 c =
     let high = c .before in
     let kind = high .before .before in
     let few = kind .before .before in
-    let value = few .before .before in
+    let value = few .before in
     let check = value .before .before in
     let a = check .before .before .before .args in
-    let k = known (check .check .ensures) (ap outcome (value .checked .given .1)) in
-    let less : a .«record» < length (a .tree .now) / RECORD = omega (arith, k .records, few .if1 .left) in
+    let k = known (check .check .ensures) (ap outcome (value .enum-told .given .1)) in
+    let less : a .«record» < length (a .tree .now) / RECORD = omega (arith, few .if1 .left) in
     let low = high .before .if2 .left in
     (ap result (c .family-of .ensures) ∙ family-named (found (a .tree .now) (a .«record»)) (kind .kind .result) (kind .kind .ensures) low (high .if3 .left) ∙ family-is (a .text .now) (a .tree .now) (a .«record») (k .sound) less,
       ap (λ (p : Span). inside (a .text .now) p) (c .family-of .ensures)
@@ -113,8 +103,8 @@ family-part-spec =
     tie.close
     (tie.spec
     check-requires
-    enum-known-checked
     enum-told
+    enum-told-2
     no-part-requires
     returns
     returns-2

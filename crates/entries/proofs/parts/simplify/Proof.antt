@@ -19,81 +19,71 @@ use Rattle.entries.proofs.parts.simplify.Tie as tie
 check-requires : tie.Need-check-requires
 check-requires c κs = search needs
 
-enum-known-checked : tie.Need-enum-known-checked
-enum-known-checked c = search needs
-
 enum-told : tie.Need-enum-told
 enum-told c = search needs
+
+enum-told-2 : tie.Need-enum-told-2
+enum-told-2 c = search needs
 
 returns : tie.Need-returns
 returns c =
     let check = c .before .before in
     let a = check .before .before .before .before .args in
-    simplify-unsound (a .text .now) (a .tree .now) (a .«record») (a .max-layer) (a .allow-negatives) (a .out .now) (check .check .ensures) (ap outcome (c .enum-told .given .1))
+    simplify-unsound (a .text .now) (a .tree .now) (a .«record») (a .max-layer) (a .allow-negatives) (a .out .now) (check .check .ensures) (ap outcome (c .enum-told2 .given .1))
 
 returns-2 : tie.Need-returns-2
 returns-2 c =
-    let value = c .before .before in
+    let value = c .before in
     let check = value .before .before in
     let a = check .before .before .before .before .args in
-    let k = known (check .check .ensures) (ap outcome (value .checked .given .1)) in
+    let k = known (check .check .ensures) (ap outcome (value .enum-told .given .1)) in
     simplify-no-layers (a .text .now) (a .tree .now) (a .«record») (a .max-layer) (a .allow-negatives) (a .out .now) (k .sound) (c .if1 .taken)
 
 returns-3 : tie.Need-returns-3
 returns-3 c =
-    let value = c .before .before .before in
+    let value = c .before .before in
     let check = value .before .before in
     let a = check .before .before .before .before .args in
-    let k = known (check .check .ensures) (ap outcome (value .checked .given .1)) in
+    let k = known (check .check .ensures) (ap outcome (value .enum-told .given .1)) in
     simplify-many-layers (a .text .now) (a .tree .now) (a .«record») (a .max-layer) (a .allow-negatives) (a .out .now) (k .sound) (c .if2 .taken)
 
 returns-4 : tie.Need-returns-4
 returns-4 c =
-    let value = c .before .before .before .before in
+    let value = c .before .before .before in
     let check = value .before .before in
     let a = check .before .before .before .before .args in
-    let k = known (check .check .ensures) (ap outcome (value .checked .given .1)) in
-    simplify-none (a .text .now) (a .tree .now) (a .«record») (a .max-layer) (a .allow-negatives) (a .out .now) (k .sound) (c .before .before .if1 .left) (c .before .if2 .left) (omega (arith, k .records, c .if3 .taken))
+    let k = known (check .check .ensures) (ap outcome (value .enum-told .given .1)) in
+    simplify-none (a .text .now) (a .tree .now) (a .«record») (a .max-layer) (a .allow-negatives) (a .out .now) (k .sound) (c .before .before .if1 .left) (c .before .if2 .left) (omega (arith, c .if3 .taken))
 
 mul-from : tie.Need-mul-from
-mul-from c =
-    let value = c .before .before .before .before in
-    search (needs, known (value .before .before .check .ensures) (ap outcome (value .checked .given .1)) .records)
+mul-from c = search needs
 
 sub-found : tie.Need-sub-found
-sub-found c =
-    let value = c .before .before .before .before in
-    search (needs, known (value .before .before .check .ensures) (ap outcome (value .checked .given .1)) .records)
+sub-found c = search needs
 
 part-found-start : tie.Need-part-found-start
-part-found-start c =
-    let value = c .before .before .before .before in
-    search (needs, known (value .before .before .check .ensures) (ap outcome (value .checked .given .1)) .records)
+part-found-start c = search needs
 
 part-found-end : tie.Need-part-found-end
 part-found-end c = search needs
 
 kind-requires : tie.Need-kind-requires
-kind-requires c κs =
-    let value = c .before .before .before .before .before in
-    search (needs, known (value .before .before .check .ensures) (ap outcome (value .checked .given .1)) .records)
+kind-requires c κs = search needs
 
 returns-5 : tie.Need-returns-5
 returns-5 c =
     let kind = c .before in
     let few = kind .before .before in
-    let value = few .before .before .before .before in
+    let value = few .before .before .before in
     let check = value .before .before in
     let a = check .before .before .before .before .args in
-    let k = known (check .check .ensures) (ap outcome (value .checked .given .1)) in
-    let less : a .«record» < length (a .tree .now) / RECORD = omega (arith, k .records, few .if3 .left) in
+    let k = known (check .check .ensures) (ap outcome (value .enum-told .given .1)) in
+    let less : a .«record» < length (a .tree .now) / RECORD = omega (arith, few .if3 .left) in
     simplify-no-move (a .text .now) (a .tree .now) (a .«record») (a .max-layer) (a .allow-negatives) (a .out .now) (k .sound) (few .before .before .if1 .left) (few .before .if2 .left) less
     (no-layers (found (a .tree .now) (a .«record»)) (kind .kind .result) (kind .kind .ensures) (c .if4 .taken))
 
 layers-requires : tie.Need-layers-requires
-layers-requires c κs =
-    let value = c .before .before .before .before .before .before .before in
-    search (needs, known (value .before .before .check .ensures) (ap outcome (value .checked .given .1)) .records)
+layers-requires c κs = search needs
 
 cast-simplify : tie.Need-cast-simplify
 cast-simplify c = search needs
@@ -103,11 +93,11 @@ simplify-requires c κs =
     let named = c .before in
     let kind = named .before .before in
     let few = kind .before .before in
-    let value = few .before .before .before .before in
+    let value = few .before .before .before in
     let check = value .before .before in
     let a = check .before .before .before .before .args in
-    let k = known (check .check .ensures) (ap outcome (value .checked .given .1)) in
-    let less : a .«record» < length (a .tree .now) / RECORD = omega (arith, k .records, few .if3 .left) in
+    let k = known (check .check .ensures) (ap outcome (value .enum-told .given .1)) in
+    let less : a .«record» < length (a .tree .now) / RECORD = omega (arith, few .if3 .left) in
     let ok = sound-record (a .text .now) (a .tree .now) (a .«record») (k .sound) less in
     (record { low = omega (arith, few .before .before .if1 .left); high = few .before .if2 .left },
       (k .sound .short, ap (λ (l : Layers Span). layersOk (a .text .now) l) (named .layers .ensures)
@@ -122,11 +112,11 @@ returns-6 c =
     let named = call .before .before in
     let kind = named .before .before in
     let few = kind .before .before in
-    let value = few .before .before .before .before in
+    let value = few .before .before .before in
     let check = value .before .before in
     let a = check .before .before .before .before .args in
-    let k = known (check .check .ensures) (ap outcome (value .checked .given .1)) in
-    let less : a .«record» < length (a .tree .now) / RECORD = omega (arith, k .records, few .if3 .left) in
+    let k = known (check .check .ensures) (ap outcome (value .enum-told .given .1)) in
+    let less : a .«record» < length (a .tree .now) / RECORD = omega (arith, few .if3 .left) in
     simplify-move (a .text .now) (a .tree .now) (a .«record») (a .max-layer) (a .allow-negatives) (a .out .now) (k .sound) (few .before .before .if1 .left) (few .before .if2 .left) less
     _ (some-layers (found (a .tree .now) (a .«record»)) (kind .kind .result) (kind .kind .ensures) (named .before .if4 .left) ∙ ap result (sym (named .layers .ensures))) _ (call .simplify .ensures)
 
@@ -135,8 +125,8 @@ simplify-spec =
     tie.close
     (tie.spec
     check-requires
-    enum-known-checked
     enum-told
+    enum-told-2
     returns
     returns-2
     returns-3
