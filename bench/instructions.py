@@ -2,7 +2,7 @@
 """Counts the instructions of each call under callgrind, in two archives: instructions.py SRC BEFORE [SIZE], SRC the folder of the published Rust, BEFORE a checkout of
 another commit with its archive; the archive after is this checkout's. A busy machine does not change them, unlike times (turns.py).
 
-Prints a table of all operations on texts of so many bytes (64,000), then seeking the last place by depth and by groups: the whole call; what is left without the check of
+Prints a table of all operations on texts of so many bytes (64,000), then seeking the last place by depth, by groups to be passed over, and by what these hold: the whole call; what is left without the check of
 text and tree; and what is left of that without counting, so that it is seeking alone (which has no function of its own in the archive: it is put into its caller)."""
 import os
 import re
@@ -14,7 +14,11 @@ from turns import ROOT, program
 OUT = os.path.join(ROOT, "target", "bench")
 OPERATIONS = ("read", "check", "display", "inv", "inv_deep", "flatten", "count", "seek", "seek last", "ranges")
 KINDS = ("moves", "groups", "sets", "constraints", "square-1", "megaminx")
-PASSED = (("levels round 4,000 moves", (0, 8, 16, 32, 64)), ("groups of three records", (500, 1000, 2000, 4000, 8000)))
+PASSED = (
+    ("levels round 4,000 moves", (0, 8, 16, 32, 64)),
+    ("groups of three records", (500, 1000, 2000, 4000, 8000)),
+    ("moves in each of 20 groups", (100, 200, 400, 800, 1500)),
+)
 
 
 def driver(checkout, name):

@@ -277,15 +277,18 @@ fn read(text: &str) -> Vec<u8> {
 
 const LEVELS: [usize; 5] = [0, 8, 16, 32, 64];
 const GROUPS: [usize; 5] = [500, 1_000, 2_000, 4_000, 8_000];
+const MOVES: [usize; 5] = [100, 200, 400, 800, 1_500];
 
 const NESTED: &str = "levels round 4,000 moves";
 const BESIDE: &str = "groups of three records";
+const INSIDE: &str = "moves in each of 20 groups";
 
-/// A text of a kind: so many bytes, levels or groups.
+/// A text of a kind: so many bytes, levels, groups or moves.
 fn any_text(kind: &str, size: usize) -> String {
     match kind {
         NESTED => "(".repeat(size) + &vec!["R"; 4_000].join(" ") + &")".repeat(size),
         BESIDE => vec!["[R, U]"; size].join(" "),
+        INSIDE => vec![format!("({})", vec!["R"; size].join(" ")); 20].join(" ") + " U",
         _ => text(kind, size),
     }
 }
@@ -299,7 +302,7 @@ fn last_and_count(text: &str) -> (f64, f64) {
     (seek, count)
 }
 
-/// Seeking the last step by depth, and by groups to be passed over.
+/// Seeking the last step by depth, by groups to be passed over, and by what these hold.
 fn passed() {
     for levels in LEVELS {
         let (seek, count) = last_and_count(&any_text(NESTED, levels));
@@ -308,6 +311,10 @@ fn passed() {
     for groups in GROUPS {
         let (seek, count) = last_and_count(&any_text(BESIDE, groups));
         println!("Seeking the last step of {groups} groups: {} µs; counting them: {} µs.", shown(seek), shown(count));
+    }
+    for moves in MOVES {
+        let (seek, count) = last_and_count(&any_text(INSIDE, moves));
+        println!("Seeking the step after 20 groups of {moves} moves: {} µs; counting them: {} µs.", shown(seek), shown(count));
     }
 }
 
@@ -323,7 +330,7 @@ fn plain() {
             }
         }
     }
-    for (kind, sizes) in [(NESTED, LEVELS), (BESIDE, GROUPS)] {
+    for (kind, sizes) in [(NESTED, LEVELS), (BESIDE, GROUPS), (INSIDE, MOVES)] {
         for size in sizes {
             let (seek, count) = last_and_count(&any_text(kind, size));
             println!("seek last\t{kind}\t{size}\t{seek}\ncount\t{kind}\t{size}\t{count}");
