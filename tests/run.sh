@@ -49,6 +49,11 @@ lister() {
     for seed in 11 12 13 14 15; do python3 tests/reference/lister_cases.py target/bin/lister $seed || return 1; done
 }
 
+# The inputs over which it takes longest: none over 5 seconds.
+lister_worst() {
+    python3 bench/lister.py target/bin/lister 5
+}
+
 # Whether clang can link libFuzzer and AddressSanitizer.
 can_fuzz() {
     has clang && echo 'int LLVMFuzzerTestOneInput(const char *d, unsigned long n) { (void)d; (void)n; return 0; }' |
@@ -66,9 +71,9 @@ shown=12
 if has python3; then
     run vectors vectors
     run lister lister
+    run lister-worst lister_worst
 else
-    skip vectors "needs python3 (package python3)"
-    skip lister "needs python3 (package python3)"
+    for name in vectors lister lister-worst; do skip $name "needs python3 (package python3)"; done
 fi
 if has cc; then
     run host tests/host/run.sh

@@ -4,50 +4,27 @@ import itertools
 import notation as n
 
 MOST_TEXT = 3072
-MOST_STEPS = 4294967295
 SHOWN = 1000
 
 
-def contents(node, inverted):
-    """The lists of a group in the order in which they are unrolled once, each with its direction."""
-    d = inverted != (node.number < 0)
-    if node.kind == n.COMMUTATOR:
-        a, b = node.lists[::-1] if d else node.lists
-        return [(a, False), (b, False), (a, True), (b, True)]
-    if node.kind == n.CONJUGATE:
-        a, b = node.lists
-        return [(a, False), (b, d), (a, True)]
-    return [(node.lists[0], d)]
-
-
-def refuse(nodes, inverted=False):
-    """Raises the first refusal, 7 or 8, that unrolling meets."""
-    for node in reversed(nodes) if inverted else nodes:
-        if node.kind == n.NISS:
-            raise n.Refused(7)
-        if not node.lists:
-            if inverted:
-                n.undo(node)
-        elif node.number:
-            for part, d in contents(node, inverted):
-                refuse(part, d)
-
-
-def steps(nodes, inverted=False):
-    """The steps one by one, so that the first of very many can be had."""
+def steps(nodes, known, inverted=False):
+    """The steps one by one, so that the first of very many can be had. `known` has the counts of the groups met so far."""
     for node in reversed(nodes) if inverted else nodes:
         if not node.lists:
             yield n.undo(node) if inverted else node
-        elif n.count([node]):
+            continue
+        if id(node) not in known:
+            known[id(node)] = n.count([node])
+        if known[id(node)]:
             for _ in range(abs(node.number)):
-                for part, d in contents(node, inverted):
-                    yield from steps(part, d)
+                for part, d in n.repeated(node, inverted):
+                    yield from steps(part, known, d)
 
 
 def counted(nodes):
-    refuse(nodes)
+    n.unroll_check(nodes)
     total = n.count(nodes)
-    if total > MOST_STEPS:
+    if total > n.MOST_STEPS:
         raise n.Refused(9)
     return total
 
@@ -69,7 +46,7 @@ def lines(text, features):
         yield f"steps refused {r.number}"
         return
     yield f"steps {total}"
-    for place, step in enumerate(itertools.islice(steps(nodes), SHOWN)):
+    for place, step in enumerate(itertools.islice(steps(nodes, {}), SHOWN)):
         yield f"{place} {n.show(step)}"
 
 

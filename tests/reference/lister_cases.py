@@ -10,6 +10,25 @@ import reading_vectors as made
 WORD = b"m\n"
 
 
+def filled(start, unit, end):
+    """A text of as many bytes as the lister takes, or a few less: as many units as fit between a start and an end."""
+    return start + unit * ((lister.MOST_TEXT - len(start) - len(end)) // len(unit)) + end
+
+
+def heavy():
+    """Inputs over which a lister takes long, with names. The first was the worst found where each of 1,000 steps is sought by itself and seeking counts all that a group
+    holds again at each level: some 1.5 seconds before request 2. Lists that are passed over hold no step, a commutator is visited twice on the way in, and 31 of
+    them are as many as 4,294,967,295 steps allow."""
+    empty = b"((((((())))))) "
+    yield "empty groups, 64 deep", WORD + filled(b"[" * 31 + b"(" * 26, empty, b"R" + b")" * 26 + b",]" * 31)
+    yield "empty commutators, 64 deep", WORD + filled(b"(" * 63, b"[,] ", b"R" + b")" * 62 + b")1000")
+    yield "moves, 64 deep", WORD + filled(b"(" * 64, b"R ", b"R)1000" + b")" * 63)
+    yield "moves, the last one sought", WORD + filled(b"(", b"R0 ", b"[R0, ()]')1000'")
+    yield "groups, the last one sought", WORD + filled(b"", b"() ", b"(R U)500")
+    yield "a long layer set", WORD + filled(b"({", b"1,", b"1}R)1000")
+    yield "a long constraint set", WORD + filled(b"(R{", b"A,", b"A})1000'")
+
+
 def fixed():
     for t in ("", "w", "m", "w\n", "m\n", "x\n", "W\n", "M\nR", "mm\nR", " m\nR", "m R", "m\r\nR", "\nm\nR", "wm\n", "m\n\n", "w\n[R: U2 F]'", "m\n[R: U2 F]'"):
         yield t.encode()
@@ -29,6 +48,8 @@ def fixed():
         yield WORD + t
     yield b"x\n" + b"R" * 4000
     yield b"w\n" + b"R " * 2000
+    for _, data in heavy():
+        yield data
 
 
 def inputs():

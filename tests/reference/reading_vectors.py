@@ -82,7 +82,7 @@ def cases():
         yield MAX, t, ROOM
     for t in (b"R", b"R U", b"(R U)2 [F, .]"):
         size = len(n.pack(n.read(t, n.MAXIMAL)))
-        for room in (0, 1, n.RECORD - 1, n.RECORD, size - 1, size, size + 1, size + 30):
+        for room in (0, 1, n.RECORD - 1, n.RECORD, size - 1, size, size + 1, size + n.RECORD):
             yield MAX, t, room
     yield MAX, b"R)", 10
     yield MAX, b"", 0
