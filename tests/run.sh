@@ -49,9 +49,9 @@ lister() {
     for seed in 11 12 13 14 15; do python3 tests/reference/lister_cases.py target/bin/lister $seed || return 1; done
 }
 
-# The inputs over which it takes longest: none over 5 seconds.
+# The inputs over which it takes longest: none over a tenth of a second.
 lister_worst() {
-    python3 bench/lister.py target/bin/lister 5
+    python3 bench/lister.py target/bin/lister 0.1
 }
 
 # Whether clang can link libFuzzer and AddressSanitizer.
