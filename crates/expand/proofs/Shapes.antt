@@ -7,19 +7,18 @@ use native.Mathlib.Nat.{zero-mul, mul-comm}
 use native.Mathlib.Omega.{arith}
 use lib.Dec.{eqb}
 use lib.IntN.{ℤ, natAbs}
-use lib.ListN.{getD}
 use Rattle.notation.specs.Basics.{pick}
 use Rattle.notation.specs.Numbers.{fromBits}
 use Rattle.notation.specs.Unroll.{isNiss}
-use Rattle.notation.specs.Tree.{Leaf, rotation, move, pause, pair, slash, megaminx, Node, leaf, block, Body, group, binaryGroup, nil, Tree}
+use Rattle.notation.specs.Tree.{Leaf, Node, leaf, block, Body, group, binaryGroup, nil, Tree}
 use Rattle.notation.specs.Counts.{times, countNode, countBody, count, stored}
-use Rattle.notation.specs.Packed.{groupNumber, binaryNumber, leafHead, headFields, unpack}
+use Rattle.notation.specs.Packed.{groupNumber, binaryNumber, unpack}
 use Rattle.notation.specs.declared.common.GroupKind.{GroupKind}
 use Rattle.notation.specs.declared.common.GroupKind.the-variants.{Simple, Macro, Simultaneous, Niss}
 use Rattle.notation.specs.declared.common.BinaryGroupKind.{BinaryGroupKind}
 use Rattle.notation.specs.declared.common.BinaryGroupKind.the-variants.{Commutator, Conjugate}
 use Rattle.record.specs.Meaning.{field}
-use Rattle.laws.proofs.Walking.{nodeHead}
+use Rattle.laws.proofs.Walking.{head-stored}
 use Rattle.nodes.specs.Nodes.{IsNode, part, FirstNode}
 use Rattle.nodes.proofs.Nodes.{alone, fields-of, front-field, first-low, kind-of, leaf-kind, multiplier-of, FirstLeaf}
 use Rattle.expand.specs.Meaning.{binaryKind}
@@ -97,20 +96,6 @@ module _ {k : ℕ} {m : ℤ} {n : Node Leaf} (s : Shape k m n) (low : k ≤ 5) w
     repeats-some = positive-left (natAbs m) (countBody (bodyOf n)) 0 (omega (arith, steps-are))
 
 -- The record stores the count of the node, held.
-leaf-stored : (x : Leaf) → getD (headFields (leafHead x)) 11 0 ≡ 1
-leaf-stored (rotation f c m) = refl
-leaf-stored (move t l f c m) = refl
-leaf-stored pause = refl
-leaf-stored (pair u d) = refl
-leaf-stored slash = refl
-leaf-stored (megaminx k) = refl
-
-head-stored : (n : Node Leaf) → getD (headFields (nodeHead n)) 11 0 ≡ stored n
-unfolding countNode
-head-stored (leaf x) = leaf-stored x
-head-stored (block (group g a) m) = refl
-head-stored (block (binaryGroup g a b) m) = refl
-
 pub first-stored : {bs : List ℕ} {e : ℕ} (f : FirstNode bs e) → field 11 bs ≡ stored (f .node)
 first-stored {bs} {e} f = sym (front-field bs e (f .least) 11) ∙ fields-of (f .isNode) 11 ∙ head-stored (f .node)
 

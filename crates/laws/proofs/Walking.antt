@@ -11,6 +11,7 @@ use Rattle.notation.specs.Tree.{Leaf, rotation, move, pause, pair, slash, megam
 use Rattle.notation.specs.Packed.{
   RECORD, widths, cut, Head, leafHead, groupHead, binaryHead, headFields, headRecord, nodeSize, bodySize, size, bodyHead, packNode, packBody, pack, headAt, unpack
 }
+use Rattle.notation.specs.Counts.{countNode, stored}
 use Rattle.notation.specs.declared.common.GroupKind.{GroupKind}
 use Rattle.notation.specs.declared.common.BinaryGroupKind.{BinaryGroupKind}
 use Rattle.record.specs.Meaning.{field}
@@ -67,6 +68,21 @@ unfolding nodeSize bodySize
 node-counts (leaf x) = ap (λ (k : ℕ). 1 + k) (leaf-counts x)
 node-counts (block (group k a) m) = omega arith
 node-counts (block (binaryGroup k a b) m) = refl
+
+-- the record of a node stores its step count, that of a leaf 1
+pub leaf-stored : (x : Leaf) → getD (headFields (leafHead x)) 11 0 ≡ 1
+leaf-stored (rotation f c m) = refl
+leaf-stored (move t l f c m) = refl
+leaf-stored pause = refl
+leaf-stored (pair u d) = refl
+leaf-stored slash = refl
+leaf-stored (megaminx k) = refl
+
+pub head-stored : (n : Node Leaf) → getD (headFields (nodeHead n)) 11 0 ≡ stored n
+unfolding countNode
+head-stored (leaf x) = leaf-stored x
+head-stored (block (group g a) m) = refl
+head-stored (block (binaryGroup g a b) m) = refl
 
 abbrev pub nodeEnd : List ℕ → ℕ
 nodeEnd bs = RECORD * (1 + (field 1 bs + field 2 bs))
