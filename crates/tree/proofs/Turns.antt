@@ -355,12 +355,13 @@ pub record GroupTold (bs : List ℕ) : Type 0 where
   pub below : Below 256 bs
   pub long : RECORD ≤ length bs
   pub asks : (text : List ℕ) (d : ℕ) → headOk text d (headAt bs) ≡ (ltb 0 d && multiplier bs)
+  pub one : field 0 bs / 16 < 4 → second (headAt bs) ≡ 0
   pub counts : (a b : Tree) → countOk (headAt bs) a b ≡ eqb (field 11 bs) (groupCount (field 0 bs / 16) (fromBits 32 (field 3 bs)) (hold (count a)) (hold (count b)))
 
 pub group-told : (bs : List ℕ) → Below 256 bs → RECORD + RECORD * (field 1 bs + field 2 bs) ≤ length bs → field 0 bs / 16 < 6 → GroupTold bs
 group-told bs b l k =
     let says = group-says bs b (field 0 bs / 16) refl k in
-    record { below = b; long = omega arith; asks = says .asks; counts = says .counts }
+    record { below = b; long = omega arith; asks = says .asks; one = says .one; counts = says .counts }
 
 -- what a list's answer tells
 pub list-refused : (b : Bool) (k : ℕ) → none ≡ pick b (some k) none → b ≡ false
@@ -435,6 +436,22 @@ pub record SecondRead (text : List ℕ) (d : ℕ) (bs : List ℕ) (k : ℕ) (b :
   pub one : FirstRead text d bs n (some k)
   pub size : n′ ≡ field 2 bs
   pub answer : b ≡ formedCount text (d - 1) (take (RECORD + RECORD * n + RECORD * n′ - (RECORD + RECORD * n)) (drop (RECORD + RECORD * n) bs))
+
+-- A group that is not binary has an empty second list, which needs no walk to be answered.
+pub no-second : {text : List ℕ} {d : ℕ} {bs : List ℕ} {n k : ℕ} → FirstRead text d bs n (some k) → field 0 bs / 16 < 4 → SecondRead text d bs k (some 0)
+unfolding unpackFrom count
+no-second {text} {d} {bs} {n} {k} one l =
+    let empty : field 2 bs ≡ 0 = second-size one ∙ one .told .one l in
+    let z : 0 ≡ RECORD + RECORD * n + RECORD * field 2 bs - (RECORD + RECORD * n) = omega arith in
+    record {
+      n = n;
+      n′ = field 2 bs;
+      one = one;
+      size = refl;
+      answer =
+        ap (λ (b : Bool). pick b (some 0) none) (sym (formed-nil text (d - 1)))
+        ∙ ap (λ (i : ℕ). formedCount text (d - 1) (take i (drop (RECORD + RECORD * n) bs))) z;
+    }
 
 module _ {text : List ℕ} {d : ℕ} {bs : List ℕ} {k : ℕ} {b : Option ℕ} (two : SecondRead text d bs k b) where
   first-count : (formed text (d - 1) (firstBytes (headAt bs) bs) ≡ true) × (k ≡ hold (count (firstIn bs)))

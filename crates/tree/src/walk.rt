@@ -86,17 +86,23 @@ fn group_ok(text: &[u8], t: &[u8], depth: usize) -> bool
         return false;
     }
     if group_record_ok(t) {
+        let kind = fields::kind(t);
+        let number = fields::number(t);
         let first = fields::first(t);
-        let second = fields::second(t);
         let middle = RECORD + RECORD * first as usize;
-        let end = middle + RECORD * second as usize;
         let Counted::Steps(a) = list_count(text, &t[RECORD..middle], depth - 1) else {
             return false;
         };
+        // Without a second list there is nothing more to walk.
+        if kind < kinds::COMMUTATOR {
+            return fields::count(t) == of_group(kind, number, a, 0);
+        }
+        let second = fields::second(t);
+        let end = middle + RECORD * second as usize;
         let Counted::Steps(b) = list_count(text, &t[middle..end], depth - 1) else {
             return false;
         };
-        fields::count(t) == of_group(fields::kind(t), fields::number(t), a, b)
+        fields::count(t) == of_group(kind, number, a, b)
     } else {
         false
     }
