@@ -17,6 +17,7 @@ use Rattle.tree.proofs.walk.+group_ok+list_count.Lts-group_ok as group-
 use Rattle.tree.proofs.walk.list_count.Reads as list-count
 use Rattle.tree.proofs.walk.list_count.Kinds as list-count-kinds
 use Rattle.tree.proofs.walk.+group_ok+list_count.Lts-list_count as list-count-lts
+use Rattle.counts.proofs.hold.Reads as hold-reads
 use Rattle.counts.proofs.of_group.Reads as of-group-reads
 use Rattle.counts.proofs.sum.Reads as sum-reads
 use Rattle.record.proofs.fields.count.Reads as count-reads
@@ -55,7 +56,7 @@ abbrev group-claims : ℕ → group-ok-lts.Claims
 group-claims t = (group-record-ok-reads.Asked, group-record-ok-reads.Learnt, kind-reads.Asked, kind-reads.Learnt, number-reads.Asked, number-reads.Learnt, first-reads.Asked, first-reads.Learnt, list-count-below t, list-count.Post, count-reads.Asked, count-reads.Learnt, of-group-reads.Asked, of-group-reads.Learnt, second-reads.Asked, second-reads.Learnt)
 
 abbrev list-claims : ℕ → list-count-lts.Claims
-list-claims t = (kind-reads.Asked, kind-reads.Learnt, first-reads.Asked, first-reads.Learnt, second-reads.Asked, second-reads.Learnt, group-ok-below t, group-ok.Post, count-reads.Asked, count-reads.Learnt, sum-reads.Asked, sum-reads.Learnt, leaf-ok-reads.Asked, leaf-ok-reads.Learnt)
+list-claims t = (kind-reads.Asked, kind-reads.Learnt, first-reads.Asked, first-reads.Learnt, second-reads.Asked, second-reads.Learnt, group-ok-below t, group-ok.Post, count-reads.Asked, count-reads.Learnt, sum-reads.Asked, sum-reads.Learnt, leaf-ok-reads.Asked, leaf-ok-reads.Learnt, hold-reads.Asked, hold-reads.Learnt)
 
 -- what a group's record says
 told : (t : ℕ) (c : group-ok-lts.After-shared-slice-known2 (group-claims t) (group-ok-at t) group-ok.Post) → GroupTold (c .before .before .args .t .now)
@@ -289,9 +290,9 @@ list-count-sum-requires t c κs =
     let a = c .before .before .before .before .before .before .before .before .before .before .before .before .before .args in
     let ok = c .before .before .group-ok in
     let long = c .before .before .before .before .before .before .before .before .if1 .left in
-    let held = left .inv .held in
-    let held′ = count-held (a .text .now) (a .depth) (left .t .now) (left .inv .below) long (ok .result) (ok .ensures) (c .before .if4 .taken) (c .count .result) (c .count .ensures) in
-    (omega arith, omega arith)
+    let few = left .inv .few in
+    let held = count-held (a .text .now) (a .depth) (left .t .now) (left .inv .below) long (ok .result) (ok .ensures) (c .before .if4 .taken) (c .count .result) (c .count .ensures) in
+    omega arith
 
 list-count-sub-t : (t : ℕ) → list-count-lts.Need-sub-t (list-claims t) (list-count-at t) list-count.Post list-count-Inv-loop list-count-μ-loop
 list-count-sub-t t c = search needs
@@ -326,8 +327,8 @@ list-count-returns-3 t c =
 list-count-leaf-ok-requires : (t : ℕ) → list-count-lts.Need-leaf-ok-requires (list-claims t) (list-count-at t) list-count.Post list-count-Inv-loop list-count-μ-loop
 list-count-leaf-ok-requires t c κs = search needs
 
-list-count-sum-requires-2 : (t : ℕ) → list-count-lts.Need-sum-requires-2 (list-claims t) (list-count-at t) list-count.Post list-count-Inv-loop list-count-μ-loop
-list-count-sum-requires-2 t c κs = search needs
+list-count-add-count : (t : ℕ) → list-count-lts.Need-add-count (list-claims t) (list-count-at t) list-count.Post list-count-Inv-loop list-count-μ-loop
+list-count-add-count t c = search needs
 
 list-count-sub-t-2 : (t : ℕ) → list-count-lts.Need-sub-t-2 (list-claims t) (list-count-at t) list-count.Post list-count-Inv-loop list-count-μ-loop
 list-count-sub-t-2 t c = search needs
@@ -340,15 +341,15 @@ list-count-part-t-end-2 t c = search needs
 
 list-count-loop-less-2 : (t : ℕ) → list-count-lts.Need-loop-less-2 (list-claims t) (list-count-at t) list-count.Post list-count-Inv-loop list-count-μ-loop
 list-count-loop-less-2 t c =
-    shorter (c .before .before .before .before .before .before .before .before .loop .t .now) RECORD (omega arith) (c .before .before .before .before .before .before .if1 .left)
+    shorter (c .before .before .before .before .before .before .before .loop .t .now) RECORD (omega arith) (c .before .before .before .before .before .if1 .left)
 
 list-count-loop-again-2 : (t : ℕ) → list-count-lts.Need-loop-again-2 (list-claims t) (list-count-at t) list-count.Post list-count-Inv-loop list-count-μ-loop
 list-count-loop-again-2 t c =
-    let left = c .before .before .before .before .before .before .before .before .loop in
-    let a = c .before .before .before .before .before .before .before .before .before .before .before .args in
-    let ok = c .before .before .before .leaf-ok in
-    past-leaf (a .text .now) (a .depth) (a .list .now) (left .t .now) _ (left .inv) (ok .result) (ok .ensures (a .depth)) (c .before .before .if5 .taken)
-    (subst (λ (n : ℕ). 6 ≤ n) (c .before .before .before .before .before .kind .ensures) (c .before .before .before .before .if2 .left)) (c .before .before .before .before .before .before .if1 .left) (c .before .sum2 .result) (c .before .sum2 .ensures)
+    let left = c .before .before .before .before .before .before .before .loop in
+    let a = c .before .before .before .before .before .before .before .before .before .before .args in
+    let ok = c .before .before .leaf-ok in
+    past-leaf (a .text .now) (a .depth) (a .list .now) (left .t .now) _ (left .inv) (ok .result) (ok .ensures (a .depth)) (c .before .if5 .taken)
+    (subst (λ (n : ℕ). 6 ≤ n) (c .before .before .before .before .kind .ensures) (c .before .before .before .if2 .left)) (c .before .before .before .before .before .if1 .left)
 
 list-count-returns-4 : (t : ℕ) → list-count-lts.Need-returns-4 (list-claims t) (list-count-at t) list-count.Post list-count-Inv-loop list-count-μ-loop
 list-count-returns-4 t c =
@@ -358,11 +359,14 @@ list-count-returns-4 t c =
     refused (a .text .now) (a .depth) (a .list .now) (left .t .now) _ (left .inv)
     (bad-node (a .text .now) (a .depth) (left .t .now) (left .inv .below) (c .before .before .before .before .before .loop-test .taken) (ok .result) (ok .ensures (a .depth)) (c .if5 .left))
 
+list-count-hold-requires : (t : ℕ) → list-count-lts.Need-hold-requires (list-claims t) (list-count-at t) list-count.Post list-count-Inv-loop list-count-μ-loop
+list-count-hold-requires t c κs = search needs
+
 list-count-returns-5 : (t : ℕ) → list-count-lts.Need-returns-5 (list-claims t) (list-count-at t) list-count.Post list-count-Inv-loop list-count-μ-loop
 list-count-returns-5 t c =
-    let left = c .before .loop in
-    let a = c .before .before .before .before .args in
-    no-more (a .text .now) (a .depth) (a .list .now) (left .t .now) _ (left .inv) (c .loop-test .left)
+    let left = c .before .before .loop in
+    let a = c .before .before .before .before .before .args in
+    no-more (a .text .now) (a .depth) (a .list .now) (left .t .now) _ (left .inv) (c .before .loop-test .left) (c .hold .result) (c .hold .ensures)
 
 pub +group-ok+list-count-spec : {M : Type 1} → statement M
 +group-ok+list-count-spec = close μ-group-ok μ-list-count (λ t. group-ok-lts.spec (group-claims t)
@@ -429,11 +433,12 @@ pub +group-ok+list-count-spec : {M : Type 1} → statement M
     (list-count-loop-again t)
     (list-count-returns-3 t)
     (list-count-leaf-ok-requires t)
-    (list-count-sum-requires-2 t)
+    (list-count-add-count t)
     (list-count-sub-t-2 t)
     (list-count-part-t-start-2 t)
     (list-count-part-t-end-2 t)
     (list-count-loop-less-2 t)
     (list-count-loop-again-2 t)
     (list-count-returns-4 t)
+    (list-count-hold-requires t)
     (list-count-returns-5 t)
