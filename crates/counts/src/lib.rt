@@ -43,6 +43,7 @@ fn inside(kind: u8, a: u64, b: u64) -> u64
     a
 }
 
+// Of any sum or product that has room.
 pub fn hold(n: u64) -> u64
     ensures { λ r. ⌜ r ≡ rule.hold n ⌝ }
 {

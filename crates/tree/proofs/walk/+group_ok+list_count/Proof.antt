@@ -1,10 +1,10 @@
 -- The proof of the cycle of calls {group_ok, list_count}: a list calls on its groups, a group on its lists with one level less. Assumes nothing.
 use Prim.Native.Nat.{ℕ, _+_, _*_, _≤_, _<_}
 use mathlib.Core.Path.{refl, sym, ap, subst, _∙_}
+use mathlib.Core.Option.{some}
 use native.Mathlib.Omega.{arith}
 use borrow.Author.Needs.{needs}
 use lib.ListN.{length}
-use mathlib.Core.Option.{some}
 use Rattle.notation.specs.Packed.{RECORD}
 use Rattle.tree.specs.Meaning.{counted as answer}
 use Rattle.tree.proofs.Bytes.{slice-below}
