@@ -1,7 +1,7 @@
 // Step counts as records store them: a count above 4,294,967,295 is held at 4,294,967,296, and what is held stays held in sums and products.
-// Reading works them out by these two functions, and refusal 6 holds the stored ones against them.
+// Reading works them out by these functions, and refusal 6 holds the stored ones against them.
 ghost use mathlib.Core.Path.{_≡_};
-ghost use Prim.Native.Nat.{_+_, _≤_};
+ghost use Prim.Native.Nat.{_+_, _^_, _≤_, _<_};
 ghost use Rattle.notation.specs.Numbers.{fromBits};
 ghost use Rattle.notation.specs.Counts as rule;
 ghost use Rattle.counts.specs.Held.{inside as insideOf, groupCount};
@@ -12,7 +12,7 @@ const HELD: u64 = 4294967296;
 
 // Of one list after another.
 pub fn sum(a: u64, b: u64) -> u64
-    requires { ⌜ (a ≤ rule.HELD) × (b ≤ rule.HELD) ⌝ }
+    requires { ⌜ a + b < 2 ^ 64 ⌝ }
     ensures { λ r. ⌜ r ≡ rule.hold (a + b) ⌝ }
 {
     hold(a + b)
@@ -43,7 +43,8 @@ fn inside(kind: u8, a: u64, b: u64) -> u64
     a
 }
 
-fn hold(n: u64) -> u64
+// Of any sum or product that has room.
+pub fn hold(n: u64) -> u64
     ensures { λ r. ⌜ r ≡ rule.hold n ⌝ }
 {
     if n < HELD { n } else { HELD }

@@ -127,23 +127,24 @@ module _ (text : List ℕ) (d : ℕ) (bs : List ℕ) (below : Below 256 bs) (som
               rest = formed-fact text d (restBytes h bs) r;
             }))
 
--- What a turn leaves: the steps that are counted, n of them, and the bytes that are left decide.
+-- What a turn leaves: the steps that are counted, n of them, and the bytes that are left decide. A step that is not held took a byte or more.
 pub record Left (text : List ℕ) (d : ℕ) (list bs : List ℕ) (n : ℕ) : Type 0 where
   pub below : Below 256 bs
-  pub held : n ≤ HELD
+  pub within : length bs ≤ length list
+  pub few : n + length bs ≤ HELD + length list
   pub same : countFrom text d n bs ≡ formedCount text d list
 
 pub at-first : (text : List ℕ) (d : ℕ) (list : List ℕ) → Below 256 list → Left text d list list 0
 at-first text d list b =
     let z : 0 + count (unpack list) ≡ count (unpack list) = omega arith in
-    record { below = b; held = omega arith; same = ap (λ (k : ℕ). pick (formed text d list) (some (hold k)) none) z }
+    record { below = b; within = omega arith; few = omega arith; same = ap (λ (k : ℕ). pick (formed text d list) (some (hold k)) none) z }
 
-pub no-more : (text : List ℕ) (d : ℕ) (list bs : List ℕ) (n : ℕ) → Left text d list bs n → length bs ≤ 0 → some n ≡ formedCount text d list
+pub no-more : (text : List ℕ) (d : ℕ) (list bs : List ℕ) (n : ℕ) → Left text d list bs n → length bs ≤ 0 → (r : ℕ) → r ≡ hold n → some r ≡ formedCount text d list
 unfolding unpackFrom count
-no-more text d list [] n left h =
-    let same : n ≡ hold (n + count (unpack [])) = omega (arith, left .held) in
+no-more text d list [] n left h r e =
+    let same : r ≡ hold (n + count (unpack [])) = omega arith in
     ap₂ (λ (b : Bool) (k : ℕ). pick b (some k) none) (sym (formed-nil text d)) same ∙ left .same
-no-more text d list (b ∷ bs) n left h = absurd (omega arith)
+no-more text d list (b ∷ bs) n left h r e = absurd (omega arith)
 
 pub refused : (text : List ℕ) (d : ℕ) (list bs : List ℕ) (n : ℕ) → Left text d list bs n → false ≡ formed text d bs → none ≡ formedCount text d list
 refused text d list bs n left e = ap (λ (b : Bool). pick b (some (hold (n + count (unpack bs)))) none) e ∙ left .same
@@ -154,25 +155,27 @@ rest-is bs end = take-all (length bs - end) (drop end bs) (omega (arith, length-
 pub shorter : (bs : List ℕ) (end : ℕ) → 0 < end → end ≤ length bs → length (take (length bs - end) (drop end bs)) < length bs
 shorter bs end p l = omega (arith, ap length (rest-is bs end), length-drop end bs)
 
--- the first node's steps, c of them as it stores them, and those of the rest
-count-on : (bs : List ℕ) (n c : ℕ) → 0 < length bs → c ≡ stored (firstNode bs) → hold (hold (n + c) + count (unpack (restBytes (headAt bs) bs))) ≡ hold (n + count (unpack bs))
+-- the first node's steps, c of them as it stores them, are added to n and give n′, held or not; with those of the rest
+count-on : (bs : List ℕ) (n c n′ : ℕ) → 0 < length bs → c ≡ stored (firstNode bs) → hold n′ ≡ hold (n + c) → hold (n′ + count (unpack (restBytes (headAt bs) bs))) ≡ hold (n + count (unpack bs))
 unfolding count
-count-on bs n c p e =
+count-on bs n c n′ p e s =
     let whole : count (unpack bs) ≡ countNode (firstNode bs) + count (unpack (restBytes (headAt bs) bs)) = ap count (unpack-view bs p) in
     omega arith
 
 go-on : (text : List ℕ) (d : ℕ) (list bs : List ℕ) (n : ℕ) → Left text d list bs n → (ok : Bool) → ok ≡ firstOk text d bs → ok ≡ true →
-    (end : ℕ) → end ≡ RECORD + RECORD * both (headAt bs) → end ≤ length bs → (c n′ : ℕ) → c ≡ stored (firstNode bs) → n′ ≡ hold (n + c) →
-    Left text d list (take (length bs - end) (drop end bs)) n′
-go-on text d list bs n left ok o holds end z l c n′ e s =
+    (end : ℕ) → end ≡ RECORD + RECORD * both (headAt bs) → end ≤ length bs → (c n′ : ℕ) → c ≡ stored (firstNode bs) → hold n′ ≡ hold (n + c) →
+    n′ + (length bs - end) ≤ HELD + length list → Left text d list (take (length bs - end) (drop end bs)) n′
+go-on text d list bs n left ok o holds end z l c n′ e s few =
     let p : 0 < length bs = omega arith in
+    let rest = length-drop end bs in
     let steps : hold (n′ + count (unpack (drop end bs))) ≡ hold (n + count (unpack bs)) =
-    (λ i. hold (s i + count (unpack (drop (z i) bs)))) ∙ count-on bs n c p e
+    (λ i. hold (n′ + count (unpack (drop (z i) bs)))) ∙ count-on bs n c n′ p e s
     in
     subst (λ (r : List ℕ). Left text d list r n′) (sym (rest-is bs end))
     (record {
       below = below-drop 256 end bs (left .below);
-      held = omega arith;
+      within = omega (arith, left .within);
+      few = omega arith;
       same =
         ap₂ (λ (b : Bool) (k : ℕ). pick b (some k) none)
         (ap (λ (k : ℕ). formed text d (drop k bs)) z ∙ good-node text d bs (left .below) p ok o holds (omega arith)) steps
@@ -192,7 +195,7 @@ past-group text d list bs n left ok o holds end z l c n′ e s =
     let right = right-count text d bs (left .below) (omega arith) ok o holds in
     go-on text d list bs n left ok o holds end
     (omega (arith, both-sum (headAt bs), first-written bs (left .below) long w, second-written bs (left .below) long w)) l
-    c n′ (e ∙ count-written bs (left .below) long w (firstIn bs) (secondIn bs) right) s
+    c n′ (e ∙ count-written bs (left .below) long w (firstIn bs) (secondIn bs) right) (omega arith) (omega (arith, left .within))
 
 -- so that the sum has room
 pub count-held : (text : List ℕ) (d : ℕ) (bs : List ℕ) → Below 256 bs → RECORD ≤ length bs → (ok : Bool) → ok ≡ firstOk text d bs → ok ≡ true → (c : ℕ) → c ≡ field 11 bs → c ≤ HELD
@@ -201,12 +204,12 @@ count-held text d bs below long ok o holds c e =
     omega arith
 
 pub past-leaf : (text : List ℕ) (d : ℕ) (list bs : List ℕ) (n : ℕ) → Left text d list bs n → (ok : Bool) → ok ≡ firstOk text d bs → ok ≡ true →
-    6 ≤ field 0 bs / 16 → RECORD ≤ length bs → (n′ : ℕ) → n′ ≡ hold (n + 1) → Left text d list (take (length bs - RECORD) (drop RECORD bs)) n′
+    6 ≤ field 0 bs / 16 → RECORD ≤ length bs → Left text d list (take (length bs - RECORD) (drop RECORD bs)) (n + 1)
 unfolding countNode
-past-leaf text d list bs n left ok o holds k l n′ s =
+past-leaf text d list bs n left ok o holds k l =
     let leaf = leaf-says bs (field 0 bs / 16) refl k .1 in
     go-on text d list bs n left ok o holds RECORD (ap (λ (h : Head). RECORD + RECORD * both h) leaf) l
-    1 n′ (ap (λ (h : Head). stored (nodeOf h (firstIn bs) (secondIn bs))) leaf) s
+    1 (n + 1) (ap (λ (h : Head). stored (nodeOf h (firstIn bs) (secondIn bs))) leaf) refl (omega (arith, left .few))
 
 -- A leaf has no lists.
 leaf-lists : (text : List ℕ) (d : ℕ) (r b : Bool) → r ≡ b → r ≡ (b && (formed text d [] && (formed text d [] && true)))
@@ -355,12 +358,13 @@ pub record GroupTold (bs : List ℕ) : Type 0 where
   pub below : Below 256 bs
   pub long : RECORD ≤ length bs
   pub asks : (text : List ℕ) (d : ℕ) → headOk text d (headAt bs) ≡ (ltb 0 d && multiplier bs)
+  pub one : field 0 bs / 16 < 4 → second (headAt bs) ≡ 0
   pub counts : (a b : Tree) → countOk (headAt bs) a b ≡ eqb (field 11 bs) (groupCount (field 0 bs / 16) (fromBits 32 (field 3 bs)) (hold (count a)) (hold (count b)))
 
 pub group-told : (bs : List ℕ) → Below 256 bs → RECORD + RECORD * (field 1 bs + field 2 bs) ≤ length bs → field 0 bs / 16 < 6 → GroupTold bs
 group-told bs b l k =
     let says = group-says bs b (field 0 bs / 16) refl k in
-    record { below = b; long = omega arith; asks = says .asks; counts = says .counts }
+    record { below = b; long = omega arith; asks = says .asks; one = says .one; counts = says .counts }
 
 -- what a list's answer tells
 pub list-refused : (b : Bool) (k : ℕ) → none ≡ pick b (some k) none → b ≡ false
@@ -435,6 +439,22 @@ pub record SecondRead (text : List ℕ) (d : ℕ) (bs : List ℕ) (k : ℕ) (b :
   pub one : FirstRead text d bs n (some k)
   pub size : n′ ≡ field 2 bs
   pub answer : b ≡ formedCount text (d - 1) (take (RECORD + RECORD * n + RECORD * n′ - (RECORD + RECORD * n)) (drop (RECORD + RECORD * n) bs))
+
+-- A group that is not binary has an empty second list, which needs no walk to be answered.
+pub no-second : {text : List ℕ} {d : ℕ} {bs : List ℕ} {n k : ℕ} → FirstRead text d bs n (some k) → field 0 bs / 16 < 4 → SecondRead text d bs k (some 0)
+unfolding unpackFrom count
+no-second {text} {d} {bs} {n} {k} one l =
+    let empty : field 2 bs ≡ 0 = second-size one ∙ one .told .one l in
+    let z : 0 ≡ RECORD + RECORD * n + RECORD * field 2 bs - (RECORD + RECORD * n) = omega arith in
+    record {
+      n = n;
+      n′ = field 2 bs;
+      one = one;
+      size = refl;
+      answer =
+        ap (λ (b : Bool). pick b (some 0) none) (sym (formed-nil text (d - 1)))
+        ∙ ap (λ (i : ℕ). formedCount text (d - 1) (take i (drop (RECORD + RECORD * n) bs))) z;
+    }
 
 module _ {text : List ℕ} {d : ℕ} {bs : List ℕ} {k : ℕ} {b : Option ℕ} (two : SecondRead text d bs k b) where
   first-count : (formed text (d - 1) (firstBytes (headAt bs) bs) ≡ true) × (k ≡ hold (count (firstIn bs)))

@@ -3,6 +3,7 @@
 use crate::leaf::move_ok;
 use crate::leaf::multiplier_ok;
 use crate::leaf::rotation_ok;
+use counts::hold;
 use counts::of_group;
 use counts::sum;
 use notation::limits::MAX_NESTING;
@@ -48,6 +49,7 @@ fn list_count(text: &[u8], list: &[u8], depth: usize) -> Counted
     ensures { λ r. ⌜ counted r ≡ formedCount (now (text .entry)) depth (now (list .entry)) ⌝ }
 {
     let mut t = list;
+    // Leaves, which most nodes are, are added without holding: a list has fewer bytes than 2^63, so that ones cannot bring the sum past 64 bits.
     let mut count = 0;
     while 0 < t.len() {
         if t.len() < RECORD {
@@ -66,14 +68,14 @@ fn list_count(text: &[u8], list: &[u8], depth: usize) -> Counted
             }
         } else {
             if leaf_ok(text, t) {
-                count = sum(count, LEAF);
+                count += LEAF;
                 t = &t[RECORD..];
             } else {
                 return Counted::Nothing;
             }
         }
     }
-    Counted::Steps(count)
+    Counted::Steps(hold(count))
 }
 
 // Whether the first node, a group, is in bounds, its lists with one level less are well formed, and it stores the step count that they come to.
@@ -86,17 +88,23 @@ fn group_ok(text: &[u8], t: &[u8], depth: usize) -> bool
         return false;
     }
     if group_record_ok(t) {
+        let kind = fields::kind(t);
+        let number = fields::number(t);
         let first = fields::first(t);
-        let second = fields::second(t);
         let middle = RECORD + RECORD * first as usize;
-        let end = middle + RECORD * second as usize;
         let Counted::Steps(a) = list_count(text, &t[RECORD..middle], depth - 1) else {
             return false;
         };
+        // Without a second list there is nothing more to walk.
+        if kind < kinds::COMMUTATOR {
+            return fields::count(t) == of_group(kind, number, a, 0);
+        }
+        let second = fields::second(t);
+        let end = middle + RECORD * second as usize;
         let Counted::Steps(b) = list_count(text, &t[middle..end], depth - 1) else {
             return false;
         };
-        fields::count(t) == of_group(fields::kind(t), fields::number(t), a, b)
+        fields::count(t) == of_group(kind, number, a, b)
     } else {
         false
     }

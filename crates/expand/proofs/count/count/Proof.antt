@@ -22,7 +22,7 @@ kind-requires : tie.Need-kind-requires Inv-loop μ-loop
 kind-requires c κs = record-room _ (c .before .loop .inv .packed) (c .loop-test .taken)
 
 sum-requires : tie.Need-sum-requires Inv-loop μ-loop
-sum-requires c κs = (c .before .before .before .loop .inv .held, lit≤ tt)
+sum-requires c κs = omega (arith, c .before .before .before .loop .inv .held)
 
 sub-t : tie.Need-sub-t Inv-loop μ-loop
 sub-t c = let tested = c .before .before .before in record-room _ (tested .before .loop .inv .packed) (tested .loop-test .taken)
@@ -52,7 +52,7 @@ sum-requires-2 : tie.Need-sum-requires-2 Inv-loop μ-loop
 sum-requires-2 c κs =
     let tested = c .before .before .before in
     let at-loop = tested .before in
-    (omega (arith, at-loop .loop .inv .held), stored-most (first-of _ (at-loop .loop .inv .packed) (tested .loop-test .taken)) (c .count .ensures))
+    omega (arith, at-loop .loop .inv .held, stored-most (first-of _ (at-loop .loop .inv .packed) (tested .loop-test .taken)) (c .count .ensures))
 
 node-end-requires : tie.Need-node-end-requires Inv-loop μ-loop
 node-end-requires c κs = search needs

@@ -560,7 +560,7 @@ node-list-sum-requires : (t : ℕ) → node-list-lts.Need-sum-requires (node-lis
 node-list-sum-requires t c κs =
     let took = c .before .after .given in
     let read = rw (took .1) at (c .before .before .before .before .before .node .ensures) in
-    (omega (arith, c .before .before .before .before .before .before .before .loop .inv .counts), omega (arith, read .counts))
+    omega (arith, c .before .before .before .before .before .before .before .loop .inv .counts, read .counts)
 
 node-list-whitespace-end-requires-2 : (t : ℕ) → node-list-lts.Need-whitespace-end-requires-2 (node-list-claims t) (node-list-at t) node-list.Post node-list-Inv-loop node-list-μ-loop
 node-list-whitespace-end-requires-2 t c κs =

@@ -1,13 +1,14 @@
 -- The proof of the cycle of calls {group_ok, list_count}: a list calls on its groups, a group on its lists with one level less. Assumes nothing.
 use Prim.Native.Nat.{ℕ, _+_, _*_, _≤_, _<_}
 use mathlib.Core.Path.{refl, sym, ap, subst, _∙_}
+use mathlib.Core.Option.{some}
 use native.Mathlib.Omega.{arith}
 use borrow.Author.Needs.{needs}
 use lib.ListN.{length}
 use Rattle.notation.specs.Packed.{RECORD}
 use Rattle.tree.specs.Meaning.{counted as answer}
 use Rattle.tree.proofs.Bytes.{slice-below}
-use Rattle.tree.proofs.Turns.{GroupTold, group-told, counted, too-short, too-long, bad-node, no-more, refused, Left, at-first, shorter, past-group, past-leaf, count-held, no-level, group-refused, FirstRead, first-refused, first-held, SecondRead, second-list-refused, second-held, count-compared}
+use Rattle.tree.proofs.Turns.{GroupTold, group-told, counted, too-short, too-long, bad-node, no-more, refused, Left, at-first, shorter, past-group, past-leaf, count-held, no-level, group-refused, FirstRead, first-refused, first-held, SecondRead, no-second, second-list-refused, second-held, count-compared}
 use borrow.Fn.Kinds.{In}
 use borrow.Fn.PlainCycle.{Measures, is, falls, and}
 use Rattle.tree.proofs.walk.group_ok.Reads as group-ok
@@ -16,6 +17,7 @@ use Rattle.tree.proofs.walk.+group_ok+list_count.Lts-group_ok as group-
 use Rattle.tree.proofs.walk.list_count.Reads as list-count
 use Rattle.tree.proofs.walk.list_count.Kinds as list-count-kinds
 use Rattle.tree.proofs.walk.+group_ok+list_count.Lts-list_count as list-count-lts
+use Rattle.counts.proofs.hold.Reads as hold-reads
 use Rattle.counts.proofs.of_group.Reads as of-group-reads
 use Rattle.counts.proofs.sum.Reads as sum-reads
 use Rattle.record.proofs.fields.count.Reads as count-reads
@@ -51,10 +53,10 @@ list-count-below t =
 
 -- what the calls in each claim, those of the other function below the measure t
 abbrev group-claims : ℕ → group-ok-lts.Claims
-group-claims t = (group-record-ok-reads.Asked, group-record-ok-reads.Learnt, first-reads.Asked, first-reads.Learnt, second-reads.Asked, second-reads.Learnt, list-count-below t, list-count.Post, count-reads.Asked, count-reads.Learnt, kind-reads.Asked, kind-reads.Learnt, number-reads.Asked, number-reads.Learnt, of-group-reads.Asked, of-group-reads.Learnt)
+group-claims t = (group-record-ok-reads.Asked, group-record-ok-reads.Learnt, kind-reads.Asked, kind-reads.Learnt, number-reads.Asked, number-reads.Learnt, first-reads.Asked, first-reads.Learnt, list-count-below t, list-count.Post, count-reads.Asked, count-reads.Learnt, of-group-reads.Asked, of-group-reads.Learnt, second-reads.Asked, second-reads.Learnt)
 
 abbrev list-claims : ℕ → list-count-lts.Claims
-list-claims t = (kind-reads.Asked, kind-reads.Learnt, first-reads.Asked, first-reads.Learnt, second-reads.Asked, second-reads.Learnt, group-ok-below t, group-ok.Post, count-reads.Asked, count-reads.Learnt, sum-reads.Asked, sum-reads.Learnt, leaf-ok-reads.Asked, leaf-ok-reads.Learnt)
+list-claims t = (kind-reads.Asked, kind-reads.Learnt, first-reads.Asked, first-reads.Learnt, second-reads.Asked, second-reads.Learnt, group-ok-below t, group-ok.Post, count-reads.Asked, count-reads.Learnt, sum-reads.Asked, sum-reads.Learnt, leaf-ok-reads.Asked, leaf-ok-reads.Learnt, hold-reads.Asked, hold-reads.Learnt)
 
 -- what a group's record says
 told : (t : ℕ) (c : group-ok-lts.After-shared-slice-known2 (group-claims t) (group-ok-at t) group-ok.Post) → GroupTold (c .before .before .args .t .now)
@@ -65,28 +67,32 @@ told t c =
 
 -- what is known after each list
 one : (t : ℕ) (c : group-ok-lts.After-list-count (group-claims t) (group-ok-at t) group-ok.Post) →
-    let a = c .before .before .before .before .before .before .before .before .before .args in FirstRead (a .text .now) (a .depth) (a .t .now) (c .before .before .before .first .result) (answer (c .list-count .result))
+    let a = c .before .before .before .before .before .before .before .before .before .before .args in FirstRead (a .text .now) (a .depth) (a .t .now) (c .before .before .first .result) (answer (c .list-count .result))
 one t c =
-    let g = c .before .before .before .before .before in
+    let g = c .before .before .before .before .before .before in
     let deep = g .before .if1 .left in
     record {
       told = told t (g .before .before);
       level = omega arith;
-      passed = sym (g .group-record-ok .ensures) ∙ c .before .before .before .before .if2 .taken;
-      size = c .before .before .before .first .ensures;
+      passed = sym (g .group-record-ok .ensures) ∙ c .before .before .before .before .before .if2 .taken;
+      size = c .before .before .first .ensures;
       answer = c .list-count .ensures;
     }
 
+-- the first list has so many steps
+one-is : (t : ℕ) (c : group-ok-lts.After-a (group-claims t) (group-ok-at t) group-ok.Post) →
+    let list = c .before .before in
+    let a = list .before .before .before .before .before .before .before .before .before .before .args in FirstRead (a .text .now) (a .depth) (a .t .now) (list .before .before .first .result) (some (c .a .given .0 .0))
+one-is t c = subst (FirstRead _ _ _ _) (ap answer (c .a .given .1)) (one t (c .before .before))
+
 two : (t : ℕ) (c : group-ok-lts.After-list-count2 (group-claims t) (group-ok-at t) group-ok.Post) →
-    let a = c .before .before .before .before .before .before .before .before .before .before .before .before .before .before .args in SecondRead (a .text .now) (a .depth) (a .t .now) (c .before .before .before .a .given .0 .0) (answer (c .list-count2 .result))
+    let a = c .before .before .before .before .before .before .before .before .before .before .before .before .before .before .before .before .before .args in SecondRead (a .text .now) (a .depth) (a .t .now) (c .before .before .before .before .before .a .given .0 .0) (answer (c .list-count2 .result))
 two t c =
-    let first = c .before .before .before .before .before in
-    let bound = c .before .before .before .a in
     record {
-      n = first .before .before .before .first .result;
-      n′ = first .before .before .second .result;
-      one = subst (FirstRead _ _ _ _) (ap answer (bound .given .1)) (one t first);
-      size = first .before .before .second .ensures;
+      n = c .before .before .before .before .before .before .before .before .before .first .result;
+      n′ = c .before .before .second .result;
+      one = one-is t (c .before .before .before .before .before);
+      size = c .before .before .second .ensures;
       answer = c .list-count2 .ensures;
     }
 
@@ -98,11 +104,14 @@ group-ok-returns t c =
 group-ok-group-record-ok-requires : (t : ℕ) → group-ok-lts.Need-group-record-ok-requires (group-claims t) (group-ok-at t) group-ok.Post
 group-ok-group-record-ok-requires t c κs = search needs
 
+group-ok-kind-requires : (t : ℕ) → group-ok-lts.Need-kind-requires (group-claims t) (group-ok-at t) group-ok.Post
+group-ok-kind-requires t c κs = search needs
+
+group-ok-number-requires : (t : ℕ) → group-ok-lts.Need-number-requires (group-claims t) (group-ok-at t) group-ok.Post
+group-ok-number-requires t c κs = search needs
+
 group-ok-first-requires : (t : ℕ) → group-ok-lts.Need-first-requires (group-claims t) (group-ok-at t) group-ok.Post
 group-ok-first-requires t c κs = search needs
-
-group-ok-second-requires : (t : ℕ) → group-ok-lts.Need-second-requires (group-claims t) (group-ok-at t) group-ok.Post
-group-ok-second-requires t c κs = search needs
 
 group-ok-cast-middle : (t : ℕ) → group-ok-lts.Need-cast-middle (group-claims t) (group-ok-at t) group-ok.Post
 group-ok-cast-middle t c = search needs
@@ -112,15 +121,6 @@ group-ok-mul-middle t c = search needs
 
 group-ok-add-middle : (t : ℕ) → group-ok-lts.Need-add-middle (group-claims t) (group-ok-at t) group-ok.Post
 group-ok-add-middle t c = search needs
-
-group-ok-cast-end : (t : ℕ) → group-ok-lts.Need-cast-end (group-claims t) (group-ok-at t) group-ok.Post
-group-ok-cast-end t c = search needs
-
-group-ok-mul-end : (t : ℕ) → group-ok-lts.Need-mul-end (group-claims t) (group-ok-at t) group-ok.Post
-group-ok-mul-end t c = search needs
-
-group-ok-add-end : (t : ℕ) → group-ok-lts.Need-add-end (group-claims t) (group-ok-at t) group-ok.Post
-group-ok-add-end t c = search needs
 
 group-ok-sub-list-count : (t : ℕ) → group-ok-lts.Need-sub-list-count (group-claims t) (group-ok-at t) group-ok.Post
 group-ok-sub-list-count t c = search needs
@@ -147,6 +147,35 @@ group-ok-returns-2 : (t : ℕ) → group-ok-lts.Need-returns-2 (group-claims t) 
 group-ok-returns-2 t c =
     first-refused (one t (c .before .before)) (ap answer (c .enum-told .given .1))
 
+group-ok-count-requires : (t : ℕ) → group-ok-lts.Need-count-requires (group-claims t) (group-ok-at t) group-ok.Post
+group-ok-count-requires t c κs = search needs
+
+group-ok-of-group-requires : (t : ℕ) → group-ok-lts.Need-of-group-requires (group-claims t) (group-ok-at t) group-ok.Post
+group-ok-of-group-requires t c κs =
+    let held = first-held (one-is t (c .before .before .before)) _ refl in
+    (omega arith, omega arith)
+
+group-ok-returns-3 : (t : ℕ) → group-ok-lts.Need-returns-3 (group-claims t) (group-ok-at t) group-ok.Post
+group-ok-returns-3 t c =
+    let list = c .before .before .before .before .before .before in
+    let kind = list .before .before .before .before .kind in
+    let number = list .before .before .before .number in
+    count-compared (no-second (one-is t (c .before .before .before .before)) (subst (λ (k : ℕ). k < 4) (kind .ensures) (c .before .before .if3 .taken))) 0 refl
+    (kind .result) (number .result) (c .before .count .result) (c .of-group .result)
+    (kind .ensures) (number .ensures) (c .before .count .ensures) (c .of-group .ensures)
+
+group-ok-second-requires : (t : ℕ) → group-ok-lts.Need-second-requires (group-claims t) (group-ok-at t) group-ok.Post
+group-ok-second-requires t c κs = search needs
+
+group-ok-cast-end : (t : ℕ) → group-ok-lts.Need-cast-end (group-claims t) (group-ok-at t) group-ok.Post
+group-ok-cast-end t c = search needs
+
+group-ok-mul-end : (t : ℕ) → group-ok-lts.Need-mul-end (group-claims t) (group-ok-at t) group-ok.Post
+group-ok-mul-end t c = search needs
+
+group-ok-add-end : (t : ℕ) → group-ok-lts.Need-add-end (group-claims t) (group-ok-at t) group-ok.Post
+group-ok-add-end t c = search needs
+
 group-ok-sub-list-count-3 : (t : ℕ) → group-ok-lts.Need-sub-list-count-3 (group-claims t) (group-ok-at t) group-ok.Post
 group-ok-sub-list-count-3 t c = search needs
 
@@ -168,36 +197,33 @@ group-ok-enum-known-b t c = search needs
 group-ok-enum-told-2 : (t : ℕ) → group-ok-lts.Need-enum-told-2 (group-claims t) (group-ok-at t) group-ok.Post
 group-ok-enum-told-2 t c = search needs
 
-group-ok-returns-3 : (t : ℕ) → group-ok-lts.Need-returns-3 (group-claims t) (group-ok-at t) group-ok.Post
-group-ok-returns-3 t c =
+group-ok-returns-4 : (t : ℕ) → group-ok-lts.Need-returns-4 (group-claims t) (group-ok-at t) group-ok.Post
+group-ok-returns-4 t c =
     second-list-refused (two t (c .before .before)) (ap answer (c .enum-told2 .given .1))
 
-group-ok-count-requires : (t : ℕ) → group-ok-lts.Need-count-requires (group-claims t) (group-ok-at t) group-ok.Post
-group-ok-count-requires t c κs = search needs
+group-ok-count-requires-2 : (t : ℕ) → group-ok-lts.Need-count-requires-2 (group-claims t) (group-ok-at t) group-ok.Post
+group-ok-count-requires-2 t c κs = search needs
 
-group-ok-kind-requires : (t : ℕ) → group-ok-lts.Need-kind-requires (group-claims t) (group-ok-at t) group-ok.Post
-group-ok-kind-requires t c κs = search needs
-
-group-ok-number-requires : (t : ℕ) → group-ok-lts.Need-number-requires (group-claims t) (group-ok-at t) group-ok.Post
-group-ok-number-requires t c κs = search needs
-
-group-ok-of-group-requires : (t : ℕ) → group-ok-lts.Need-of-group-requires (group-claims t) (group-ok-at t) group-ok.Post
-group-ok-of-group-requires t c κs =
-    let lists = two t (c .before .before .before .before .before .before) in
-    let bound = c .before .before .before .before .b in
+group-ok-of-group-requires-2 : (t : ℕ) → group-ok-lts.Need-of-group-requires-2 (group-claims t) (group-ok-at t) group-ok.Post
+group-ok-of-group-requires-2 t c κs =
+    let lists = two t (c .before .before .before .before) in
+    let bound = c .before .before .b in
     let held = first-held (lists .one) _ refl in
     let held′ = second-held lists (bound .given .0 .0) (ap answer (bound .given .1)) in
     (omega arith, omega arith)
 
-group-ok-returns-4 : (t : ℕ) → group-ok-lts.Need-returns-4 (group-claims t) (group-ok-at t) group-ok.Post
-group-ok-returns-4 t c =
-    let bound = c .before .before .before .before .before .b in
-    count-compared (two t (c .before .before .before .before .before .before .before)) (bound .given .0 .0) (ap answer (bound .given .1))
-    (c .before .before .kind .result) (c .before .number .result) (c .before .before .before .count .result) (c .of-group .result)
-    (c .before .before .kind .ensures) (c .before .number .ensures) (c .before .before .before .count .ensures) (c .of-group .ensures)
-
 group-ok-returns-5 : (t : ℕ) → group-ok-lts.Need-returns-5 (group-claims t) (group-ok-at t) group-ok.Post
 group-ok-returns-5 t c =
+    let bound = c .before .before .before .b in
+    let lists = c .before .before .before .before .before in
+    let kind = lists .before .before .before .before .before .before .before .before .before .before .before .kind in
+    let number = lists .before .before .before .before .before .before .before .before .before .before .number in
+    count-compared (two t lists) (bound .given .0 .0) (ap answer (bound .given .1))
+    (kind .result) (number .result) (c .before .count2 .result) (c .of-group2 .result)
+    (kind .ensures) (number .ensures) (c .before .count2 .ensures) (c .of-group2 .ensures)
+
+group-ok-returns-6 : (t : ℕ) → group-ok-lts.Need-returns-6 (group-claims t) (group-ok-at t) group-ok.Post
+group-ok-returns-6 t c =
     let g = c .before in
     let start = g .before .before in
     let a = start .before .before .args in
@@ -264,9 +290,9 @@ list-count-sum-requires t c κs =
     let a = c .before .before .before .before .before .before .before .before .before .before .before .before .before .args in
     let ok = c .before .before .group-ok in
     let long = c .before .before .before .before .before .before .before .before .if1 .left in
-    let held = left .inv .held in
-    let held′ = count-held (a .text .now) (a .depth) (left .t .now) (left .inv .below) long (ok .result) (ok .ensures) (c .before .if4 .taken) (c .count .result) (c .count .ensures) in
-    (omega arith, omega arith)
+    let few = left .inv .few in
+    let held = count-held (a .text .now) (a .depth) (left .t .now) (left .inv .below) long (ok .result) (ok .ensures) (c .before .if4 .taken) (c .count .result) (c .count .ensures) in
+    omega arith
 
 list-count-sub-t : (t : ℕ) → list-count-lts.Need-sub-t (list-claims t) (list-count-at t) list-count.Post list-count-Inv-loop list-count-μ-loop
 list-count-sub-t t c = search needs
@@ -301,8 +327,8 @@ list-count-returns-3 t c =
 list-count-leaf-ok-requires : (t : ℕ) → list-count-lts.Need-leaf-ok-requires (list-claims t) (list-count-at t) list-count.Post list-count-Inv-loop list-count-μ-loop
 list-count-leaf-ok-requires t c κs = search needs
 
-list-count-sum-requires-2 : (t : ℕ) → list-count-lts.Need-sum-requires-2 (list-claims t) (list-count-at t) list-count.Post list-count-Inv-loop list-count-μ-loop
-list-count-sum-requires-2 t c κs = search needs
+list-count-add-count : (t : ℕ) → list-count-lts.Need-add-count (list-claims t) (list-count-at t) list-count.Post list-count-Inv-loop list-count-μ-loop
+list-count-add-count t c = search needs
 
 list-count-sub-t-2 : (t : ℕ) → list-count-lts.Need-sub-t-2 (list-claims t) (list-count-at t) list-count.Post list-count-Inv-loop list-count-μ-loop
 list-count-sub-t-2 t c = search needs
@@ -315,15 +341,15 @@ list-count-part-t-end-2 t c = search needs
 
 list-count-loop-less-2 : (t : ℕ) → list-count-lts.Need-loop-less-2 (list-claims t) (list-count-at t) list-count.Post list-count-Inv-loop list-count-μ-loop
 list-count-loop-less-2 t c =
-    shorter (c .before .before .before .before .before .before .before .before .loop .t .now) RECORD (omega arith) (c .before .before .before .before .before .before .if1 .left)
+    shorter (c .before .before .before .before .before .before .before .loop .t .now) RECORD (omega arith) (c .before .before .before .before .before .if1 .left)
 
 list-count-loop-again-2 : (t : ℕ) → list-count-lts.Need-loop-again-2 (list-claims t) (list-count-at t) list-count.Post list-count-Inv-loop list-count-μ-loop
 list-count-loop-again-2 t c =
-    let left = c .before .before .before .before .before .before .before .before .loop in
-    let a = c .before .before .before .before .before .before .before .before .before .before .before .args in
-    let ok = c .before .before .before .leaf-ok in
-    past-leaf (a .text .now) (a .depth) (a .list .now) (left .t .now) _ (left .inv) (ok .result) (ok .ensures (a .depth)) (c .before .before .if5 .taken)
-    (subst (λ (n : ℕ). 6 ≤ n) (c .before .before .before .before .before .kind .ensures) (c .before .before .before .before .if2 .left)) (c .before .before .before .before .before .before .if1 .left) (c .before .sum2 .result) (c .before .sum2 .ensures)
+    let left = c .before .before .before .before .before .before .before .loop in
+    let a = c .before .before .before .before .before .before .before .before .before .before .args in
+    let ok = c .before .before .leaf-ok in
+    past-leaf (a .text .now) (a .depth) (a .list .now) (left .t .now) _ (left .inv) (ok .result) (ok .ensures (a .depth)) (c .before .if5 .taken)
+    (subst (λ (n : ℕ). 6 ≤ n) (c .before .before .before .before .kind .ensures) (c .before .before .before .if2 .left)) (c .before .before .before .before .before .if1 .left)
 
 list-count-returns-4 : (t : ℕ) → list-count-lts.Need-returns-4 (list-claims t) (list-count-at t) list-count.Post list-count-Inv-loop list-count-μ-loop
 list-count-returns-4 t c =
@@ -333,11 +359,14 @@ list-count-returns-4 t c =
     refused (a .text .now) (a .depth) (a .list .now) (left .t .now) _ (left .inv)
     (bad-node (a .text .now) (a .depth) (left .t .now) (left .inv .below) (c .before .before .before .before .before .loop-test .taken) (ok .result) (ok .ensures (a .depth)) (c .if5 .left))
 
+list-count-hold-requires : (t : ℕ) → list-count-lts.Need-hold-requires (list-claims t) (list-count-at t) list-count.Post list-count-Inv-loop list-count-μ-loop
+list-count-hold-requires t c κs = search needs
+
 list-count-returns-5 : (t : ℕ) → list-count-lts.Need-returns-5 (list-claims t) (list-count-at t) list-count.Post list-count-Inv-loop list-count-μ-loop
 list-count-returns-5 t c =
-    let left = c .before .loop in
-    let a = c .before .before .before .before .args in
-    no-more (a .text .now) (a .depth) (a .list .now) (left .t .now) _ (left .inv) (c .loop-test .left)
+    let left = c .before .before .loop in
+    let a = c .before .before .before .before .before .args in
+    no-more (a .text .now) (a .depth) (a .list .now) (left .t .now) _ (left .inv) (c .before .loop-test .left) (c .hold .result) (c .hold .ensures)
 
 pub +group-ok+list-count-spec : {M : Type 1} → statement M
 +group-ok+list-count-spec = close μ-group-ok μ-list-count (λ t. group-ok-lts.spec (group-claims t)
@@ -345,14 +374,12 @@ pub +group-ok+list-count-spec : {M : Type 1} → statement M
     group-ok.Post
     (group-ok-returns t)
     (group-ok-group-record-ok-requires t)
+    (group-ok-kind-requires t)
+    (group-ok-number-requires t)
     (group-ok-first-requires t)
-    (group-ok-second-requires t)
     (group-ok-cast-middle t)
     (group-ok-mul-middle t)
     (group-ok-add-middle t)
-    (group-ok-cast-end t)
-    (group-ok-mul-end t)
-    (group-ok-add-end t)
     (group-ok-sub-list-count t)
     (group-ok-part-list-count-start t)
     (group-ok-part-list-count-end t)
@@ -361,6 +388,13 @@ pub +group-ok+list-count-spec : {M : Type 1} → statement M
     (group-ok-enum-known-a t)
     (group-ok-enum-told t)
     (group-ok-returns-2 t)
+    (group-ok-count-requires t)
+    (group-ok-of-group-requires t)
+    (group-ok-returns-3 t)
+    (group-ok-second-requires t)
+    (group-ok-cast-end t)
+    (group-ok-mul-end t)
+    (group-ok-add-end t)
     (group-ok-sub-list-count-3 t)
     (group-ok-part-list-count-start-2 t)
     (group-ok-part-list-count-end-2 t)
@@ -368,13 +402,11 @@ pub +group-ok+list-count-spec : {M : Type 1} → statement M
     (group-ok-list-count-requires-2 t)
     (group-ok-enum-known-b t)
     (group-ok-enum-told-2 t)
-    (group-ok-returns-3 t)
-    (group-ok-count-requires t)
-    (group-ok-kind-requires t)
-    (group-ok-number-requires t)
-    (group-ok-of-group-requires t)
     (group-ok-returns-4 t)
-    (group-ok-returns-5 t))
+    (group-ok-count-requires-2 t)
+    (group-ok-of-group-requires-2 t)
+    (group-ok-returns-5 t)
+    (group-ok-returns-6 t))
     λ t. list-count-lts.spec (list-claims t)
     (list-count-at t)
     list-count.Post
@@ -401,11 +433,12 @@ pub +group-ok+list-count-spec : {M : Type 1} → statement M
     (list-count-loop-again t)
     (list-count-returns-3 t)
     (list-count-leaf-ok-requires t)
-    (list-count-sum-requires-2 t)
+    (list-count-add-count t)
     (list-count-sub-t-2 t)
     (list-count-part-t-start-2 t)
     (list-count-part-t-end-2 t)
     (list-count-loop-less-2 t)
     (list-count-loop-again-2 t)
     (list-count-returns-4 t)
+    (list-count-hold-requires t)
     (list-count-returns-5 t)
