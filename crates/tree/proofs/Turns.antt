@@ -11,13 +11,14 @@ use lib.ListN.{length, take, drop, getD, length-drop}
 use lib.Seq.{take-all}
 use Rattle.notation.specs.Basics.{pick, sameList}
 use Rattle.notation.specs.Numbers.{fromBits}
-use Rattle.notation.specs.Tree.{Leaf, rotation, move, pause, pair, slash, megaminx, Node, Tree}
+use Rattle.notation.specs.Tree.{Leaf, pause, pair, Node, Tree}
 use Rattle.notation.specs.Counts.{HELD, hold, countNode, count, stored}
 use Rattle.notation.specs.Packed.{RECORD, widths, cut, inOrder, nowhere, Head, leafHead, headFields, headRecord, headAt, unpackFrom, unpack}
 use Rattle.notation.specs.WellFormed.{leafOk, multiplierOk}
 use Rattle.numbers.proofs.Positional.{Below, below-drop}
 use Rattle.numbers.proofs.TwosComplement.{toBits-fromBits}
 use Rattle.laws.proofs.Bools.{and-left, and-right, and-both, false-true}
+use Rattle.laws.proofs.Walking.{leaf-stored}
 use Rattle.record.specs.Meaning.{field, uncounted, listed}
 use Rattle.record.specs.declared.encode.Fields.{Fields}
 use Rattle.record.proofs.Packed.{headAt-kind}
@@ -231,20 +232,12 @@ pub record LeafRead (bs : List ℕ) (k : ℕ) : Type 0 where
   pub one : field 11 bs ≡ 1
 
 -- it counts 1
-leaf-one : (x : Leaf) → getD (headFields (leafHead x)) 11 0 ≡ 1
-leaf-one (rotation f c m) = refl
-leaf-one (move t l f c m) = refl
-leaf-one pause = refl
-leaf-one (pair u d) = refl
-leaf-one slash = refl
-leaf-one (megaminx m) = refl
-
 pub leaf-not-one : (text bs : List ℕ) → Below 256 bs → RECORD ≤ length bs → 6 ≤ field 0 bs / 16 → (one : Bool) → one ≡ eqb (field 11 bs) 1 → one ≡ false →
     (d : ℕ) → false ≡ firstOk text d bs
 leaf-not-one text bs below long k one e f d =
     let x = leaf-says bs (field 0 bs / 16) refl k in
     let other : same bs ≡ false = sym (refuted (same bs) λ w.
-    eqb-false (field 11 bs) 1 (sym e ∙ f) (field-written bs below long w 11 ∙ ap (λ (h : Head). getD (headFields h) 11 0) (sym (x .1)) ∙ leaf-one (x .0)))
+    eqb-false (field 11 bs) 1 (sym e ∙ f) (field-written bs below long w 11 ∙ ap (λ (h : Head). getD (headFields h) 11 0) (sym (x .1)) ∙ leaf-stored (x .0)))
     in
     rw other
 
@@ -258,7 +251,7 @@ module _ {bs : List ℕ} {k : ℕ} (read : LeafRead bs k) where
     leaf-same : s ≡ same bs
     leaf-same =
         compared bs (read .below) (read .long) f g s (p ∙ ap headFields e) o
-        (count-of {f = f} p ∙ leaf-one x ∙ sym (read .one) ∙ sym (count-of {f = g} o)) q
+        (count-of {f = f} p ∙ leaf-stored x ∙ sym (read .one) ∙ sym (count-of {f = g} o)) q
 
     pub leaf-passed : s ≡ true → (ok : Bool) → ok ≡ leafOk text x → (d : ℕ) → ok ≡ firstOk text d bs
     leaf-passed t ok z d = z ∙ ap (λ (b : Bool). b && leafOk text x) (sym t) ∙ leaf-decides text bs x e s leaf-same d
