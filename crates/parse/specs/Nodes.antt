@@ -5,8 +5,7 @@ use mathlib.Core.List.{List, _++_}
 use lib.IntN.{ℤ}
 use lib.ListN.{length, take, drop}
 use Rattle.notation.specs.Tree.{Leaf, Node, Tree}
-use Rattle.notation.specs.Packed.{RECORD, nodeSize, size, packNode, pack}
-use Rattle.notation.specs.Counts.{hold, count, stored}
+use Rattle.notation.specs.Packed.{RECORD, nodeSize, size}
 use Rattle.notation.specs.Grammar.{Reading, Reader, rejected, read, done, _>>=_, _or_, multiplier, groupNode, binaryGroupNode, nodeList}
 use Rattle.notation.specs.Entries.{MAX-TEXT}
 use Rattle.notation.specs.declared.features.Features.{Features}
@@ -16,6 +15,7 @@ use Rattle.notation.specs.Basics.{pick}
 use Rattle.notation.specs.Utf8.{byteAt}
 use Rattle.notation.specs.Numbers.{fromBits}
 use Rattle.notation.specs.declared.common.BinaryGroupKind.{BinaryGroupKind}
+use Rattle.tally.specs.Tallies.{tallyNode, tallyList}
 use Rattle.parse.specs.declared.nodes.Closing.{Closing}
 use Rattle.parse.specs.declared.nodes.Closing.the-variants as Closing′
 use Rattle.parse.specs.declared.nodes.BinaryKind.{BinaryKind}
@@ -23,11 +23,12 @@ use Rattle.parse.specs.declared.nodes.BinaryKind.the-variants as BinaryK
 use Rattle.parse.specs.declared.nodes.NodeAnswer.{NodeAnswer}
 use Rattle.parse.specs.declared.nodes.NodeAnswer.the-variants.{Took, Nothing}
 
--- Where a reader may start: no more records were read than bytes.
-pub record Within (text : List ℕ) (at slot : ℕ) : Type 0 where
+-- Where a reader may start: no more records were read than bytes, and a bracket stands for every two tallies.
+pub record Within (text : List ℕ) (at slot tally : ℕ) : Type 0 where
   pub inside : at ≤ length text
   pub short : length text ≤ MAX-TEXT
   pub slots : slot ≤ at
+  pub tallies : tally ≤ 2 * at
 
 -- The buffer: its length and what stands before p stay; xs stands at p where it fits.
 pub record Kept (p : ℕ) (old new : List ℕ) : Type 0 where
@@ -43,32 +44,30 @@ pub record Wrote (p : ℕ) (xs old new : List ℕ) : Type 0 where
   pub holds : p + length xs ≤ length old → take (p + length xs) new ≡ take p old ++ xs
 
 -- A list was read. The rule may be given any fuel that suffices.
-pub record ListRead (f : Features) (text : List ℕ) (at slot : ℕ) (old new : List ℕ) (next end steps : ℕ) : Type 0 where
+pub record ListRead (f : Features) (text : List ℕ) (at slot tally : ℕ) (old new : List ℕ) (next end : ℕ) : Type 0 where
   pub tree : Tree
   pub reads : (k : ℕ) → length text - at < k → nodeList f k at (drop at text) ≡ read tree next (drop next text)
   pub slots : end ≡ slot + size tree
-  pub counts : steps ≡ hold (count tree)
   pub advances : at + size tree ≤ next
   pub inside : next ≤ length text
-  pub wrote : Wrote (RECORD * slot) (pack tree) old new
+  pub wrote : Wrote (RECORD * slot) (tallyList tally tree) old new
 
 -- A node was read by a rule that is given some fuel, or none stands there.
-pub record NodeRead (rule : ℕ → Reader (Node Leaf)) (text : List ℕ) (at slot : ℕ) (old new : List ℕ) (next end steps : ℕ) : Type 0 where
+pub record NodeRead (rule : ℕ → Reader (Node Leaf)) (text : List ℕ) (at slot tally : ℕ) (old new : List ℕ) (next end : ℕ) : Type 0 where
   pub node : Node Leaf
   pub reads : (k : ℕ) → length text - at ≤ k → rule k at (drop at text) ≡ read node next (drop next text)
   pub slots : end ≡ slot + nodeSize node
-  pub counts : steps ≡ stored node
   pub advances : at + nodeSize node ≤ next
   pub inside : next ≤ length text
-  pub wrote : Wrote (RECORD * slot) (packNode node) old new
+  pub wrote : Wrote (RECORD * slot) (tallyNode tally node) old new
 
 pub record NoNode (rule : ℕ → Reader (Node Leaf)) (text : List ℕ) (at slot : ℕ) (old new : List ℕ) : Type 0 where
   pub rejects : (k : ℕ) → length text - at ≤ k → rule k at (drop at text) ≡ rejected
   pub kept : Kept (RECORD * slot) old new
 
-abbrev pub Told : (ℕ → Reader (Node Leaf)) → List ℕ → ℕ → ℕ → List ℕ → List ℕ → NodeAnswer → Type 0
-Told rule text at slot old new (Took next end steps) = NodeRead rule text at slot old new next end steps
-Told rule text at slot old new Nothing = NoNode rule text at slot old new
+abbrev pub Told : (ℕ → Reader (Node Leaf)) → List ℕ → (at slot tally : ℕ) → List ℕ → List ℕ → NodeAnswer → Type 0
+Told rule text at slot tally old new (Took next end) = NodeRead rule text at slot tally old new next end
+Told rule text at slot tally old new Nothing = NoNode rule text at slot old new
 
 -- a group or a bracket
 abbrev pub nested : Reader Tree → Reader (ℤ → Node Leaf)

@@ -1,5 +1,6 @@
 // Lists and nodes, which enter each other: `node_list` and `node` of the Rust's parse.rs. A slot is a place for a record, counted
-// from the start of the tree. A record is written only where the buffer has its slot: over an empty buffer a run only measures.
+// from the start of the tree. A record is written only where the buffer has its slot: over an empty buffer a run only measures. In the field of
+// the step count it gets the tally of its list, by which the count is filled in once all records stand (crate `tally`).
 ghost use mathlib.Core.Path.{_≡_};
 ghost use Prim.Native.Nat.{_+_, _*_, _≤_, _<_};
 ghost use lib.ListN.{length, drop, getD};
@@ -15,27 +16,23 @@ use crate::parts::LeafAnswer;
 use charsets::whitespace_end;
 use notation::common::BinaryGroupKind;
 use notation::features::Features;
-use counts::of_group;
-use counts::sum;
 use record::RECORD;
 use record::encode::Fields;
-use record::encode::LEAF;
 use record::encode::binary_group_fields;
-use record::encode::binary_number;
 use record::encode::group_fields;
-use record::encode::group_number;
 use record::encode::put;
+use tally::OF_FIRST;
+use tally::OF_SECOND;
 
-// Where a list ends in the text, the slot after its last record, and its step count.
+// Where a list ends in the text, and the slot after its last record.
 pub struct Listed {
     pub next: usize,
     pub slot: usize,
-    pub count: u64,
 }
 
 // The same for a node.
 pub enum NodeAnswer {
-    Took(usize, usize, u64),
+    Took(usize, usize),
     Nothing,
 }
 
@@ -87,81 +84,108 @@ fn put_record(tree: &mut [u8], slot: usize, f: Fields)
 }
 
 // A node that is no group.
-fn leaf_node(text: &[u8], at: usize, features: Features, tree: &mut [u8], slot: usize) -> NodeAnswer
-    requires { ⌜ nodes.Within (now text) at slot ⌝ }
-    ensures { λ r. ⌜ nodes.Told (λ _. rule.node features rule.fail) (now (text .entry)) at slot (now (tree .entry)) (now (tree .exit)) r ⌝ }
+fn leaf_node(
+    text: &[u8],
+    at: usize,
+    features: Features,
+    tree: &mut [u8],
+    slot: usize,
+    tally: u64,
+) -> NodeAnswer
+    requires { ⌜ nodes.Within (now text) at slot tally ⌝ }
+    ensures { λ r. ⌜ nodes.Told (λ _. rule.node features rule.fail) (now (text .entry)) at slot tally (now (tree .entry)) (now (tree .exit)) r ⌝ }
 {
-    let LeafAnswer::Took(f, next) = leaf(text, at, features) else {
+    let LeafAnswer::Took(leaf, next) = leaf(text, at, features) else {
         return NodeAnswer::Nothing;
     };
+    let mut f = leaf;
+    f.count = tally;
     put_record(tree, slot, f);
-    NodeAnswer::Took(next, slot + 1, LEAF)
+    NodeAnswer::Took(next, slot + 1)
 }
 
 // Nodes with white space between them. A list ends where no node follows, and takes the white space before that.
-pub fn node_list(text: &[u8], at: usize, features: Features, tree: &mut [u8], slot: usize) -> Listed
-    requires { ⌜ nodes.Within (now text) at slot ⌝ }
-    ensures { λ r. ⌜ nodes.ListRead features (now (text .entry)) at slot (now (tree .entry)) (now (tree .exit)) (r .next) (r .slot) (r .count) ⌝ }
+pub fn node_list(
+    text: &[u8],
+    at: usize,
+    features: Features,
+    tree: &mut [u8],
+    slot: usize,
+    tally: u64,
+) -> Listed
+    requires { ⌜ nodes.Within (now text) at slot tally ⌝ }
+    ensures { λ r. ⌜ nodes.ListRead features (now (text .entry)) at slot tally (now (tree .entry)) (now (tree .exit)) (r .next) (r .slot) ⌝ }
 {
     let mut next = whitespace_end(text, at);
     let mut end = slot;
-    let mut count = 0;
     loop {
-        let NodeAnswer::Took(after, filled, steps) = node(text, next, features, tree, end) else {
-            return Listed { next, slot: end, count };
+        let NodeAnswer::Took(after, filled) = node(text, next, features, tree, end, tally) else {
+            return Listed { next, slot: end };
         };
         end = filled;
-        count = sum(count, steps);
         next = whitespace_end(text, after);
         if next == after {
-            return Listed { next, slot: end, count };
+            return Listed { next, slot: end };
         }
     }
 }
 
 // A leaf is tried first: where one stands, no group does, so the rule's order does not matter, and most nodes are leaves.
-fn node(text: &[u8], at: usize, features: Features, tree: &mut [u8], slot: usize) -> NodeAnswer
-    requires { ⌜ nodes.Within (now text) at slot ⌝ }
-    ensures { λ r. ⌜ nodes.Told (λ k. rule.node features (rule.nodeList features k)) (now (text .entry)) at slot (now (tree .entry)) (now (tree .exit)) r ⌝ }
+fn node(text: &[u8], at: usize, features: Features, tree: &mut [u8], slot: usize, tally: u64) -> NodeAnswer
+    requires { ⌜ nodes.Within (now text) at slot tally ⌝ }
+    ensures { λ r. ⌜ nodes.Told (λ k. rule.node features (rule.nodeList features k)) (now (text .entry)) at slot tally (now (tree .entry)) (now (tree .exit)) r ⌝ }
 {
-    let NodeAnswer::Took(next, end, count) = leaf_node(text, at, features, tree, slot) else {
-        return any_group(text, at, features, tree, slot);
+    let NodeAnswer::Took(next, end) = leaf_node(text, at, features, tree, slot, tally) else {
+        return any_group(text, at, features, tree, slot, tally);
     };
-    NodeAnswer::Took(next, end, count)
+    NodeAnswer::Took(next, end)
 }
 
 // A group of either sort. The first byte tells which one it can be.
-fn any_group(text: &[u8], at: usize, features: Features, tree: &mut [u8], slot: usize) -> NodeAnswer
-    requires { ⌜ nodes.Within (now text) at slot ⌝ }
-    ensures { λ r. ⌜ nodes.Told (λ k. nodes.repeated (nodes.nested (rule.nodeList features k))) (now (text .entry)) at slot (now (tree .entry)) (now (tree .exit)) r ⌝ }
+fn any_group(
+    text: &[u8],
+    at: usize,
+    features: Features,
+    tree: &mut [u8],
+    slot: usize,
+    tally: u64,
+) -> NodeAnswer
+    requires { ⌜ nodes.Within (now text) at slot tally ⌝ }
+    ensures { λ r. ⌜ nodes.Told (λ k. nodes.repeated (nodes.nested (rule.nodeList features k))) (now (text .entry)) at slot tally (now (tree .entry)) (now (tree .exit)) r ⌝ }
 {
     if text.len() <= at {
         return NodeAnswer::Nothing;
     }
     match text[at] {
-        b'(' | b'!' | b'&' | b'^' => group(text, at, features, tree, slot),
-        b'[' => binary_group(text, at, features, tree, slot),
+        b'(' | b'!' | b'&' | b'^' => group(text, at, features, tree, slot, tally),
+        b'[' => binary_group(text, at, features, tree, slot, tally),
         _ => NodeAnswer::Nothing,
     }
 }
 
-// A group's record is written after its contents, which tell how many records it holds and how many steps they are.
-fn group(text: &[u8], at: usize, features: Features, tree: &mut [u8], slot: usize) -> NodeAnswer
-    requires { ⌜ nodes.Within (now text) at slot × (at < length (now text)) ⌝ }
-    ensures { λ r. ⌜ nodes.Told (λ k. nodes.repeated (rule.groupNode (rule.nodeList features k))) (now (text .entry)) at slot (now (tree .entry)) (now (tree .exit)) r ⌝ }
+// A group's record is written after its contents, which tell how many records it holds.
+fn group(
+    text: &[u8],
+    at: usize,
+    features: Features,
+    tree: &mut [u8],
+    slot: usize,
+    tally: u64,
+) -> NodeAnswer
+    requires { ⌜ nodes.Within (now text) at slot tally × (at < length (now text)) ⌝ }
+    ensures { λ r. ⌜ nodes.Told (λ k. nodes.repeated (rule.groupNode (rule.nodeList features k))) (now (text .entry)) at slot tally (now (tree .entry)) (now (tree .exit)) r ⌝ }
 {
     let start = group_kind(text, at);
     let kind = start.kind;
     let open = start.next;
     if has(text, open, b'(') {
-        let list = node_list(text, open + 1, features, tree, slot + 1);
+        let list = node_list(text, open + 1, features, tree, slot + 1, tally + OF_FIRST);
         let Closing::Took(bits, next) = close(text, list.next, b')') else {
             return NodeAnswer::Nothing;
         };
         let first = (list.slot - (slot + 1)) as u16;
-        let count = of_group(group_number(kind), bits, list.count, 0);
-        put_record(tree, slot, group_fields(kind, first, bits, count));
-        NodeAnswer::Took(next, list.slot, count)
+        put_record(tree, slot, group_fields(kind, first, bits, tally));
+        NodeAnswer::Took(next, list.slot)
     } else {
         NodeAnswer::Nothing
     }
@@ -174,21 +198,21 @@ fn binary_group(
     features: Features,
     tree: &mut [u8],
     slot: usize,
+    tally: u64,
 ) -> NodeAnswer
-    requires { ⌜ nodes.Within (now text) at slot × (at < length (now text)) × (getD (now text) at 0 ≡ 91) ⌝ }
-    ensures { λ r. ⌜ nodes.Told (λ k. nodes.repeated (rule.binaryGroupNode (rule.nodeList features k))) (now (text .entry)) at slot (now (tree .entry)) (now (tree .exit)) r ⌝ }
+    requires { ⌜ nodes.Within (now text) at slot tally × (at < length (now text)) × (getD (now text) at 0 ≡ 91) ⌝ }
+    ensures { λ r. ⌜ nodes.Told (λ k. nodes.repeated (rule.binaryGroupNode (rule.nodeList features k))) (now (text .entry)) at slot tally (now (tree .entry)) (now (tree .exit)) r ⌝ }
 {
-    let a = node_list(text, at + 1, features, tree, slot + 1);
+    let a = node_list(text, at + 1, features, tree, slot + 1, tally + OF_FIRST);
     let BinaryKind::Is(kind) = binary_group_kind(text, a.next) else {
         return NodeAnswer::Nothing;
     };
-    let b = node_list(text, a.next + 1, features, tree, a.slot);
+    let b = node_list(text, a.next + 1, features, tree, a.slot, tally + OF_SECOND);
     let Closing::Took(bits, next) = close(text, b.next, b']') else {
         return NodeAnswer::Nothing;
     };
     let first = (a.slot - (slot + 1)) as u16;
     let second = (b.slot - a.slot) as u16;
-    let count = of_group(binary_number(kind), bits, a.count, b.count);
-    put_record(tree, slot, binary_group_fields(kind, first, second, bits, count));
-    NodeAnswer::Took(next, b.slot, count)
+    put_record(tree, slot, binary_group_fields(kind, first, second, bits, tally));
+    NodeAnswer::Took(next, b.slot)
 }

@@ -19,6 +19,7 @@ use notation::refusals::NO_ROOM;
 use notation::refusals::TOO_LONG;
 use notation::refusals::TOO_NESTED;
 use record::RECORD;
+use tally::fill_counts;
 
 // So many bytes are counted at once.
 const BLOCK: usize = 32;
@@ -101,7 +102,7 @@ fn scan_ok(text: &[u8]) -> bool
 }
 
 // The tree of a text, written to the front of `tree`; the answer is its size in bytes. A refusal leaves the buffer as it was, so
-// the text is read twice: first to measure, then to write.
+// the text is read twice: first to measure, then to write. Step counts come last.
 pub fn parse_notation(text: &[u8], features: Features, tree: &mut [u8]) -> Answer
     ensures { λ r. ⌜ record { answer = rule.outcome r; buffer = now (tree .exit) } ≡ rule.parseNotation features (now (text .entry)) (now (tree .entry)) ⌝ }
 {
@@ -114,7 +115,7 @@ pub fn parse_notation(text: &[u8], features: Features, tree: &mut [u8]) -> Answe
     if !nesting_ok(text) {
         return Answer::Refused(TOO_NESTED);
     }
-    let measured = node_list(text, 0, features, &mut tree[0..0], 0);
+    let measured = node_list(text, 0, features, &mut tree[0..0], 0, 0);
     if measured.next < text.len() {
         return Answer::Refused(NOT_NOTATION);
     }
@@ -122,6 +123,7 @@ pub fn parse_notation(text: &[u8], features: Features, tree: &mut [u8]) -> Answe
     if tree.len() < size {
         return Answer::Refused(NO_ROOM);
     }
-    node_list(text, 0, features, &mut tree[0..size], 0);
+    node_list(text, 0, features, &mut tree[0..size], 0, 0);
+    fill_counts(&mut tree[0..size]);
     Answer::Value(size as u64)
 }

@@ -1,0 +1,73 @@
+// Step counts filled in from the end of a tree. Every list has a running sum, its tally; the lists that are open at a record have different ones, and until its
+// count is filled in, the field of the count holds the number of its list's tally.
+ghost use mathlib.Core.Path.{_≡_};
+ghost use Prim.Native.Nat.{_+_, _/_, _≤_, _<_};
+ghost use lib.ListN.{length, getD, set};
+ghost use Rattle.notation.specs.Tree.{Tree};
+ghost use Rattle.notation.specs.Numbers.{fromBits};
+ghost use Rattle.notation.specs.Packed.{RECORD as recordSize, pack};
+ghost use Rattle.counts.specs.Held.{groupCount};
+ghost use Rattle.record.specs.Meaning.{field, withField};
+ghost use Rattle.tally.specs.Tallies as tallies;
+use counts::of_group;
+use counts::sum;
+use notation::limits::MAX_NESTING;
+use record::RECORD;
+use record::encode::LEAF;
+use record::fields;
+use record::kinds;
+
+// The tallies of a group's lists, counted from that of the list in which it stands. A list behind another one of its group is met first, so both are open where the
+// first one is.
+pub const OF_FIRST: u64 = 2;
+
+pub const OF_SECOND: u64 = 1;
+
+// The tree's own list has tally 0.
+const TALLIES: usize = 1 + 2 * MAX_NESTING;
+
+// Fills in the count of each record, from the last to the first.
+pub fn fill_counts(tree: &mut [u8])
+    requires { ⌜ ((t : Tree) × tallies.Tallied t (now tree)) ⌝ }
+    ensures { λ _. ⌜ (t : Tree) → tallies.Tallied t (now (tree .entry)) → now (tree .exit) ≡ pack t ⌝ }
+{
+    let mut sums = [0; TALLIES];
+    let mut at = tree.len();
+    while 0 < at {
+        at -= RECORD;
+        fill_count(&mut tree[at..at + RECORD], &mut sums);
+    }
+}
+
+// The count of a record, which is added to its list's tally too. One byte of the field holds a tally's number.
+fn fill_count(t: &mut [u8], sums: &mut [u64; TALLIES])
+    requires { ⌜ tallies.Open (now t) × tallies.Held (now sums) ⌝ }
+    ensures { λ _. ⌜ now (t .exit) ≡ withField 11 (tallies.counted (now (t .entry)) (now (sums .entry))) (now (t .entry)) ⌝ }
+    ensures { λ _. ⌜ now (sums .exit) ≡ tallies.added (now (t .entry)) (now (sums .entry)) ⌝ }
+{
+    let tally = (fields::count(t) % 256) as usize;
+    if fields::kind(t) < kinds::ROTATION {
+        let count = group_count(t, tally, sums);
+        sums[tally] = sum(sums[tally], count);
+        fields::set_count(t, count);
+    } else {
+        sums[tally] = sum(sums[tally], LEAF);
+        fields::set_count(t, LEAF);
+    }
+}
+
+// Of a group, whose lists lie behind it. They have been added up, and their tallies start anew.
+fn group_count(t: &[u8], tally: usize, sums: &mut [u64; TALLIES]) -> u64
+    requires { ⌜ recordSize ≤ length (now t) ⌝ }
+    requires { ⌜ tally + 2 < length (now sums) ⌝ }
+    requires { ⌜ tallies.Held (now sums) ⌝ }
+    ensures { λ r. ⌜ r ≡ groupCount (field 0 (now (t .entry)) / 16) (fromBits 32 (field 3 (now (t .entry)))) (getD (now (sums .entry)) (tally + 2) 0) (getD (now (sums .entry)) (tally + 1) 0) ⌝ }
+    ensures { λ _. ⌜ now (sums .exit) ≡ set (set (now (sums .entry)) (tally + 2) 0) (tally + 1) 0 ⌝ }
+{
+    let first = tally + OF_FIRST as usize;
+    let second = tally + OF_SECOND as usize;
+    let count = of_group(fields::kind(t), fields::number(t), sums[first], sums[second]);
+    sums[first] = 0;
+    sums[second] = 0;
+    count
+}
