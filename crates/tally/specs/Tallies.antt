@@ -43,26 +43,26 @@ abbrev pub TALLIES : ℕ
 TALLIES = 1 + 2 * MAX-NESTING
 
 -- At one record, the sums being those of what lies behind it: the number of its list's tally, which one byte holds,
-abbrev pub tallyOf : List ℕ → ℕ
-tallyOf r = field 11 r % 256
+abbrev pub tallyAt : List ℕ → ℕ
+tallyAt r = field 11 r % 256
 
-abbrev pub kindOf : List ℕ → ℕ
-kindOf r = field 0 r / 16
+abbrev pub kindAt : List ℕ → ℕ
+kindAt r = field 0 r / 16
 
 -- its count, of a group by the sums of its lists,
 abbrev pub counted : List ℕ → List ℕ → ℕ
 counted r sums =
-    pick (ltb (kindOf r) 6)
-    (groupCount (kindOf r) (fromBits 32 (field 3 r)) (getD sums (tallyOf r + 2) 0) (getD sums (tallyOf r + 1) 0))
+    pick (ltb (kindAt r) 6)
+    (groupCount (kindAt r) (fromBits 32 (field 3 r)) (getD sums (tallyAt r + 2) 0) (getD sums (tallyAt r + 1) 0))
     1
 
 -- the sums, of which those of its lists start anew,
 abbrev pub freed : List ℕ → List ℕ → List ℕ
-freed r sums = pick (ltb (kindOf r) 6) (set (set sums (tallyOf r + 2) 0) (tallyOf r + 1) 0) sums
+freed r sums = pick (ltb (kindAt r) 6) (set (set sums (tallyAt r + 2) 0) (tallyAt r + 1) 0) sums
 
 -- and the sums with its count
 abbrev pub added : List ℕ → List ℕ → List ℕ
-added r sums = set (freed r sums) (tallyOf r) (hold (getD (freed r sums) (tallyOf r) 0 + counted r sums))
+added r sums = set (freed r sums) (tallyAt r) (hold (getD (freed r sums) (tallyAt r) 0 + counted r sums))
 
 -- what this asks of the record and the sums
 abbrev pub Held : List ℕ → Type 0
@@ -70,5 +70,5 @@ Held sums = (i : ℕ) → getD sums i 0 ≤ HELD
 
 pub record Open (r : List ℕ) : Type 0 where
   pub long : RECORD ≤ length r
-  pub list : tallyOf r < TALLIES
-  pub lists : kindOf r < 6 → tallyOf r + 2 < TALLIES
+  pub list : tallyAt r < TALLIES
+  pub lists : kindAt r < 6 → tallyAt r + 2 < TALLIES

@@ -29,7 +29,7 @@ const TALLIES: usize = 1 + 2 * MAX_NESTING;
 // Fills in the count of each record, from the last to the first.
 pub fn fill_counts(tree: &mut [u8])
     requires { ⌜ ((t : Tree) × tallies.Tallied t (now tree)) ⌝ }
-    ensures { λ _. ⌜ (t : Tree) → tallies.Tallied t (now (tree .entry)) → now (tree .exit) ≡ pack t ⌝ }
+    ensures { λ _. ⌜ ((t : Tree) → tallies.Tallied t (now (tree .entry)) → now (tree .exit) ≡ pack t) ⌝ }
 {
     let mut sums = [0; TALLIES];
     let mut at = tree.len();
@@ -59,7 +59,7 @@ fn fill_count(t: &mut [u8], sums: &mut [u64; TALLIES])
 // Of a group, whose lists lie behind it. They have been added up, and their tallies start anew.
 fn group_count(t: &[u8], tally: usize, sums: &mut [u64; TALLIES]) -> u64
     requires { ⌜ recordSize ≤ length (now t) ⌝ }
-    requires { ⌜ tally + 2 < length (now sums) ⌝ }
+    requires { ⌜ tally + 2 < tallies.TALLIES ⌝ }
     requires { ⌜ tallies.Held (now sums) ⌝ }
     ensures { λ r. ⌜ r ≡ groupCount (field 0 (now (t .entry)) / 16) (fromBits 32 (field 3 (now (t .entry)))) (getD (now (sums .entry)) (tally + 2) 0) (getD (now (sums .entry)) (tally + 1) 0) ⌝ }
     ensures { λ _. ⌜ now (sums .exit) ≡ set (set (now (sums .entry)) (tally + 2) 0) (tally + 1) 0 ⌝ }
