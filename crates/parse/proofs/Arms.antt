@@ -1,5 +1,5 @@
 -- What `node` and `any_group` return, by the first byte. Assumes nothing.
-use Prim.Native.Nat.{ℕ, suc, _+_, _*_, _-_, _<_, _≤_}
+use Prim.Native.Nat.{ℕ, suc, _*_, _-_, _<_, _≤_}
 use mathlib.Core.Path.{_≡_, refl, sym, ap, _∙_}
 use mathlib.Core.Bool.{false}
 use mathlib.Core.List.{List, [], _∷_, _++_}
@@ -15,7 +15,7 @@ use Rattle.charsets.proofs.Texts.{in-text, first-byte}
 use Rattle.notation.specs.Utf8.{byteAt}
 use Rattle.notation.specs.Tree.{Leaf, Node, Tree}
 use Rattle.notation.specs.Packed.{RECORD}
-use Rattle.notation.specs.Grammar.{Reading, rejected, read, Reader, fail, andThen, orElse, just, groupNode, binaryGroupNode, node, nodeList}
+use Rattle.notation.specs.Grammar.{Reading, rejected, Reader, fail, andThen, orElse, just, groupNode, binaryGroupNode, node, nodeList}
 use Rattle.notation.specs.declared.features.Features.{Features}
 use Rattle.tally.specs.Tallies.{tallyNode}
 use Rattle.parse.specs.declared.nodes.NodeAnswer.{NodeAnswer}

@@ -1,5 +1,5 @@
 -- What is read without a list is a leaf, of which the record says all. Assumes nothing.
-use Prim.Native.Nat.{ℕ, _+_, _*_, _-_, _<_, _≤_}
+use Prim.Native.Nat.{ℕ, _+_, _*_, _<_, _≤_}
 use mathlib.Core.Path.{_≡_, refl}
 use mathlib.Core.Bool.{Bool, true, false}
 use mathlib.Core.List.{List}
@@ -8,7 +8,7 @@ use lib.IntN.{ℤ}
 use lib.ListN.{length, drop, set}
 use Rattle.notation.specs.Tree.{Leaf, megaminx, Node, leaf, block}
 use Rattle.notation.specs.Packed.{RECORD, widths, layOut, leafFields, nodeSize}
-use Rattle.notation.specs.Grammar.{Reading, rejected, read, Reader, done, fail, andThen, _>>_, orElse, when, multiplier, just, constraints, tilde, family, layerPrefixContents, rotationNode, moveNode, groupKind, groupNode, binaryGroupNode, megaminxScrambleMove, sq1Move, node}
+use Rattle.notation.specs.Grammar.{Reading, rejected, read, Reader, done, fail, andThen, orElse, when, multiplier, just, constraints, tilde, family, layerPrefixContents, rotationNode, moveNode, groupKind, groupNode, binaryGroupNode, megaminxScrambleMove, sq1Move, node}
 use Rattle.notation.specs.declared.features.Features.{Features}
 use Rattle.tally.specs.Tallies.{tallyNode}
 use Rattle.parse.specs.Meaning.{nodeFields}
