@@ -1,5 +1,5 @@
 -- What `node` and `any_group` return, by the first byte. Assumes nothing.
-use Prim.Native.Nat.{ℕ, suc, _+_, _*_, _-_, _<_, _≤_}
+use Prim.Native.Nat.{ℕ, suc, _*_, _-_, _<_, _≤_}
 use mathlib.Core.Path.{_≡_, refl, sym, ap, _∙_}
 use mathlib.Core.Bool.{false}
 use mathlib.Core.List.{List, [], _∷_, _++_}
@@ -14,9 +14,10 @@ use lib.Seq.{drop-cons}
 use Rattle.charsets.proofs.Texts.{in-text, first-byte}
 use Rattle.notation.specs.Utf8.{byteAt}
 use Rattle.notation.specs.Tree.{Leaf, Node, Tree}
-use Rattle.notation.specs.Packed.{RECORD, packNode}
-use Rattle.notation.specs.Grammar.{Reading, rejected, read, Reader, fail, andThen, orElse, just, groupNode, binaryGroupNode, node, nodeList}
+use Rattle.notation.specs.Packed.{RECORD}
+use Rattle.notation.specs.Grammar.{Reading, rejected, Reader, fail, andThen, orElse, just, groupNode, binaryGroupNode, node, nodeList}
 use Rattle.notation.specs.declared.features.Features.{Features}
+use Rattle.tally.specs.Tallies.{tallyNode}
 use Rattle.parse.specs.declared.nodes.NodeAnswer.{NodeAnswer}
 use Rattle.parse.specs.declared.nodes.NodeAnswer.the-variants.{Took, Nothing}
 use Rattle.parse.specs.Nodes.{Kept, NodeRead, NoNode, Told, nested, repeated}
@@ -37,27 +38,26 @@ no-group : (list : Reader Tree) (at : ℕ) (s : List ℕ) → groupNode list at 
 unfolding groupNode just
 no-group list at s = refl
 
-module _ (text : List ℕ) (at slot : ℕ) where
+module _ (text : List ℕ) (at slot tally : ℕ) where
   -- a rule that says the same here
   pub told-as : (p q : ℕ → Reader (Node Leaf)) (old new : List ℕ) (r : NodeAnswer) →
-      ((k : ℕ) → length text - at ≤ k → q k at (drop at text) ≡ p k at (drop at text)) → Told p text at slot old new r → Told q text at slot old new r
-  told-as p q old new (Took next end steps) e t =
-      record { node = t .node; reads = λ k h. e k h ∙ t .reads k h; slots = t .slots; counts = t .counts; advances = t .advances; inside = t .inside; wrote = t .wrote }
+      ((k : ℕ) → length text - at ≤ k → q k at (drop at text) ≡ p k at (drop at text)) → Told p text at slot tally old new r → Told q text at slot tally old new r
+  told-as p q old new (Took next end) e t =
+      record { node = t .node; reads = λ k h. e k h ∙ t .reads k h; slots = t .slots; advances = t .advances; inside = t .inside; wrote = t .wrote }
   told-as p q old new Nothing e t = record { rejects = λ k h. e k h ∙ t .rejects k h; kept = t .kept }
 
   -- and a buffer of which nothing before the slot has changed
-  pub told-after : (p : ℕ → Reader (Node Leaf)) (old mid new : List ℕ) (r : NodeAnswer) → Kept (RECORD * slot) old mid → Told p text at slot mid new r → Told p text at slot old new r
-  told-after p old mid new (Took next end steps) k t =
+  pub told-after : (p : ℕ → Reader (Node Leaf)) (old mid new : List ℕ) (r : NodeAnswer) → Kept (RECORD * slot) old mid → Told p text at slot tally mid new r → Told p text at slot tally old new r
+  told-after p old mid new (Took next end) k t =
       record {
         node = t .node;
         reads = t .reads;
         slots = t .slots;
-        counts = t .counts;
         advances = t .advances;
         inside = t .inside;
         wrote = record {
           kept = kept-then (RECORD * slot) old mid new k (t .wrote .kept);
-          holds = λ h. t .wrote .holds (omega (arith, k .long)) ∙ ap (λ (l : List ℕ). l ++ packNode (t .node)) (k .before);
+          holds = λ h. t .wrote .holds (omega (arith, k .long)) ∙ ap (λ (l : List ℕ). l ++ tallyNode tally (t .node)) (k .before);
         };
       }
   told-after p old mid new Nothing k t = record { rejects = t .rejects; kept = kept-then (RECORD * slot) old mid new k (t .kept) }
@@ -102,13 +102,13 @@ module _ (text : List ℕ) (at slot : ℕ) where
           none (here 40 (λ q. e (inr (inr (inl q))))) (here 33 (λ q. e (inl q))) (here 38 (λ q. e (inr (inl q)))) (here 94 (λ q. e (inr (inr (inr q))))) (here 91 b) old
 
       -- or else what the one that can start returns.
-      pub a-group : (getD text at 0 ≡ 91 → ⊥) → (old new : List ℕ) (r : NodeAnswer) → Told groups text at slot old new r → Told either text at slot old new r
+      pub a-group : (getD text at 0 ≡ 91 → ⊥) → (old new : List ℕ) (r : NodeAnswer) → Told groups text at slot tally old new r → Told either text at slot tally old new r
       a-group e old new r =
           told-as groups either old new r
           (λ k _. ap (λ (r : Reading (ℤ → Node Leaf)). andThen r times)
           (or-last (groupNode (nodeList f k) at (drop at text)) (binaryGroupNode (nodeList f k)) at (drop at text) (no-binary (nodeList f k) at (drop at text) (here 91 e))))
 
-      pub a-bracket : getD text at 0 ≡ 91 → (old new : List ℕ) (r : NodeAnswer) → Told binaries text at slot old new r → Told either text at slot old new r
+      pub a-bracket : getD text at 0 ≡ 91 → (old new : List ℕ) (r : NodeAnswer) → Told binaries text at slot tally old new r → Told either text at slot tally old new r
       a-bracket e old new r =
           told-as binaries either old new r
           (λ k _. ap (λ (r : Reading (ℤ → Node Leaf)). andThen r times)
@@ -116,15 +116,15 @@ module _ (text : List ℕ) (at slot : ℕ) where
           (rw (drop-cons text at 0 h, e) (no-group (nodeList f k) at (drop (suc at) text)))))
 
     -- What `node` returns: a leaf, where no group stands, or else a group.
-    pub leaf-first : (old new : List ℕ) (next end steps : ℕ) → NodeRead leaves text at slot old new next end steps → NodeRead nodes text at slot old new next end steps
-    leaf-first old new next end steps t =
-        told-as leaves nodes old new (Took next end steps)
+    pub leaf-first : (old new : List ℕ) (next end : ℕ) → NodeRead leaves text at slot tally old new next end → NodeRead nodes text at slot tally old new next end
+    leaf-first old new next end t =
+        told-as leaves nodes old new (Took next end)
         (λ k l.
             node-choice f (nodeList f k) at (drop at text)
             ∙ ap (λ (r : Reading (ℤ → Node Leaf)). orElse (andThen r times) (node f fail) at (drop at text))
             (no-nested f k at (drop at text) (t .node) next (drop next text) (t .reads k l))) t
 
-    pub group-instead : (old mid new : List ℕ) (r : NodeAnswer) → NoNode leaves text at slot old mid → Told either text at slot mid new r → Told nodes text at slot old new r
+    pub group-instead : (old mid new : List ℕ) (r : NodeAnswer) → NoNode leaves text at slot old mid → Told either text at slot tally mid new r → Told nodes text at slot tally old new r
     group-instead old mid new r g t =
         told-after nodes old mid new r (g .kept)
         (told-as either nodes mid new r

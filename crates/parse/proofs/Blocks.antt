@@ -1,24 +1,21 @@
 -- What the readers of groups return. Assumes nothing.
 use Prim.Native.Nat.{ℕ, _+_, _*_, _-_, _≤_}
-use mathlib.Core.Path.{_≡_, ap, ap₂, _∙_}
+use mathlib.Core.Path.{_≡_}
 use mathlib.Core.Bool.{true, false}
 use mathlib.Core.List.{List, _++_}
 use native.Mathlib.Omega.{arith}
 use lib.Dec.{eqb}
-use lib.ListN.{length, drop}
-use Rattle.laws.proofs.Packing.{length-pack}
-use Rattle.record.proofs.RoundTrip.{length-headRecord}
-use Rattle.counts.specs.Held.{groupCount}
-use Rattle.counts.proofs.Held.{group-stored, binary-stored}
+use lib.ListN.{length, drop, set}
 use Rattle.notation.specs.Utf8.{byteAt}
 use Rattle.notation.specs.Numbers.{fromBits}
 use Rattle.notation.specs.Tree.{block, group, binaryGroup}
-use Rattle.notation.specs.Packed.{RECORD, widths, layOut, headFields, Head, groupHead, binaryHead, groupNumber, binaryNumber, headRecord, nodeSize, bodySize, size, packNode, packBody, pack}
-use Rattle.notation.specs.Counts.{stored}
+use Rattle.notation.specs.Packed.{RECORD, widths, layOut, headFields, Head, groupHead, binaryHead, bodyHead, nodeSize, bodySize, size}
 use Rattle.notation.specs.Grammar.{rejected, read, groupKind, groupNode, binaryGroupKind, binaryGroupNode, nodeList}
 use Rattle.notation.specs.declared.features.Features.{Features}
 use Rattle.notation.specs.declared.common.GroupKind.{GroupKind}
 use Rattle.notation.specs.declared.common.BinaryGroupKind.{BinaryGroupKind}
+use Rattle.tally.specs.Tallies.{tallyRecord, tallyNode, tallyBody, tallyList}
+use Rattle.tally.proofs.Sizes.{length-tallyRecord, length-tallyList}
 use Rattle.parse.specs.Nodes.{Kept, Wrote, put, ListRead, NodeRead, NoNode, CloseRead, repeated}
 use Rattle.parse.proofs.Buffers.{kept-all, kept-less, wrote-then, header}
 use Rattle.parse.proofs.Bytes.{seen}
@@ -28,17 +25,13 @@ use Rattle.parse.proofs.Groups.{group-unopened, group-unclosed, group-r
 inner-kept : (slot : ℕ) (xs old mid : List ℕ) → Wrote (RECORD * (slot + 1)) xs old mid → Kept (RECORD * slot) old mid
 inner-kept slot xs old mid w = kept-less (RECORD * slot) (RECORD * (slot + 1)) old mid (omega arith) (w .kept)
 
-laid : (fs : List ℕ) (h : Head) → fs ≡ headFields h → layOut widths fs ≡ headRecord h
-unfolding headRecord
-laid fs h e = ap (layOut widths) e
-
 -- a group's record, written by its fields, before those of its lists
-outer : (slot : ℕ) (fs : List ℕ) (h : Head) → fs ≡ headFields h → (xs old mid : List ℕ) → Wrote (RECORD * (slot + 1)) xs old mid →
-    Wrote (RECORD * slot) (headRecord h ++ xs) old (put (RECORD * slot) (layOut widths fs) mid)
-outer slot fs h e xs old mid w =
-    rw (laid fs h e) (header (RECORD * slot) (RECORD * (slot + 1)) (headRecord h) xs old mid (omega (arith, length-headRecord h)) w)
+outer : (slot tally : ℕ) (fs : List ℕ) (h : Head) → fs ≡ set (headFields h) 11 tally → (xs old mid : List ℕ) → Wrote (RECORD * (slot + 1)) xs old mid →
+    Wrote (RECORD * slot) (tallyRecord tally h ++ xs) old (put (RECORD * slot) (layOut widths fs) mid)
+outer slot tally fs h e xs old mid w =
+    rw e (header (RECORD * slot) (RECORD * (slot + 1)) (tallyRecord tally h) xs old mid (omega (arith, length-tallyRecord tally h)) w)
 
-module _ (f : Features) (text : List ℕ) (at slot : ℕ) (old : List ℕ) where
+module _ (f : Features) (text : List ℕ) (at slot tally : ℕ) (old : List ℕ) where
   module _ (kind : GroupKind) (bracket : ℕ) (starts : read kind bracket (drop bracket text) ≡ groupKind at (drop at text)) where
     pub no-group : eqb (byteAt text bracket) 40 ≡ false → NoNode (λ k. repeated (groupNode (nodeList f k))) text at slot old old
     no-group e =
@@ -47,8 +40,8 @@ module _ (f : Features) (text : List ℕ) (at slot : ℕ) (old : List ℕ) where
           kept = kept-all (RECORD * slot) old;
         }
 
-    module _ (opens : eqb (byteAt text bracket) 40 ≡ true) (later : at ≤ bracket) (mid : List ℕ) (close end steps : ℕ)
-        (list : ListRead f text (bracket + 1) (slot + 1) old mid close end steps) where
+    module _ (opens : eqb (byteAt text bracket) 40 ≡ true) (later : at ≤ bracket) (mid : List ℕ) (close end : ℕ)
+        (list : ListRead f text (bracket + 1) (slot + 1) (tally + 2) old mid close end) where
       lists : (k : ℕ) → length text - at ≤ k → nodeList f k (bracket + 1) (drop (bracket + 1) text) ≡ read (list .tree) close (drop close text)
       lists k h = list .reads k (omega (arith, seen text bracket 40 (omega arith) opens))
 
@@ -56,31 +49,28 @@ module _ (f : Features) (text : List ℕ) (at slot : ℕ) (old : List ℕ) where
       open-group e =
           record {
             rejects = λ k h. group-unclosed text at (nodeList f k) kind bracket starts opens (list .tree) close (lists k h) e;
-            kept = inner-kept slot (pack (list .tree)) old mid (list .wrote);
+            kept = inner-kept slot (tallyList (tally + 2) (list .tree)) old mid (list .wrote);
           }
 
-      pub closed-group : (bits next total : ℕ) → total ≡ groupCount (groupNumber kind) (fromBits 32 bits) steps 0 → (fs : List ℕ) →
-          fs ≡ headFields (groupHead kind (end - (slot + 1)) (fromBits 32 bits) total) → CloseRead text close 41 bits next →
-          NodeRead (λ k. repeated (groupNode (nodeList f k))) text at slot old (put (RECORD * slot) (layOut widths fs) mid) next end total
-      unfolding nodeSize bodySize packNode packBody
-      closed-group bits next total counted fs laid closes =
+      pub closed-group : (bits next : ℕ) (fs : List ℕ) → fs ≡ headFields (groupHead kind (end - (slot + 1)) (fromBits 32 bits) tally) →
+          CloseRead text close 41 bits next →
+          NodeRead (λ k. repeated (groupNode (nodeList f k))) text at slot tally old (put (RECORD * slot) (layOut widths fs) mid) next end
+      unfolding nodeSize bodySize tallyNode tallyBody
+      closed-group bits next fs laid closes =
           let m = fromBits 32 bits in
           let records : end - (slot + 1) ≡ size (list .tree) = omega (arith, list .slots) in
-          let held : total ≡ stored (block (group kind (list .tree)) m)
-          = counted ∙ ap (λ (c : ℕ). groupCount (groupNumber kind) m c 0) (list .counts) ∙ group-stored kind (list .tree) m 0 in
           record {
-            node = block (group kind (list .tree)) (fromBits 32 bits);
+            node = block (group kind (list .tree)) m;
             reads = λ k h.
-                group-read text at (nodeList f k) kind bracket starts opens (list .tree) close (lists k h) (fromBits 32 bits) next (closes .stands) (closes .reads);
+                group-read text at (nodeList f k) kind bracket starts opens (list .tree) close (lists k h) m next (closes .stands) (closes .reads);
             slots = omega (arith, list .slots);
-            counts = held;
             advances = omega (arith, list .advances, closes .advances);
             inside = closes .inside;
-            wrote = outer slot fs (groupHead kind (size (list .tree)) m (stored (block (group kind (list .tree)) m))) (rw (records, held) at laid) (pack (list .tree)) old mid (list .wrote);
+            wrote = outer slot tally fs (bodyHead (group kind (list .tree)) m) (rw records at laid) (tallyList (tally + 2) (list .tree)) old mid (list .wrote);
           }
 
-  module _ (opens : eqb (byteAt text at) 91 ≡ true) (mid : List ℕ) (sign middle steps : ℕ)
-      (a : ListRead f text (at + 1) (slot + 1) old mid sign middle steps) where
+  module _ (opens : eqb (byteAt text at) 91 ≡ true) (mid : List ℕ) (sign middle : ℕ)
+      (a : ListRead f text (at + 1) (slot + 1) (tally + 2) old mid sign middle) where
     first : (k : ℕ) → length text - at ≤ k → nodeList f k (at + 1) (drop (at + 1) text) ≡ read (a .tree) sign (drop sign text)
     first k h = a .reads k (omega (arith, seen text at 91 (omega arith) opens))
 
@@ -88,43 +78,40 @@ module _ (f : Features) (text : List ℕ) (at slot : ℕ) (old : List ℕ) where
     unsigned-group e =
         record {
           rejects = λ k h. binary-unsigned text at (nodeList f k) opens (a .tree) sign (first k h) e;
-          kept = inner-kept slot (pack (a .tree)) old mid (a .wrote);
+          kept = inner-kept slot (tallyList (tally + 2) (a .tree)) old mid (a .wrote);
         }
 
-    module _ (kind : BinaryGroupKind) (signs : read kind (sign + 1) (drop (sign + 1) text) ≡ binaryGroupKind sign (drop sign text)) (last : List ℕ) (close end more : ℕ)
-        (b : ListRead f text (sign + 1) middle mid last close end more) where
+    module _ (kind : BinaryGroupKind) (signs : read kind (sign + 1) (drop (sign + 1) text) ≡ binaryGroupKind sign (drop sign text)) (last : List ℕ) (close end : ℕ)
+        (b : ListRead f text (sign + 1) middle (tally + 1) mid last close end) where
       second : (k : ℕ) → length text - at ≤ k → nodeList f k (sign + 1) (drop (sign + 1) text) ≡ read (b .tree) close (drop close text)
       second k h = b .reads k (omega (arith, seen text at 91 (omega arith) opens, a .advances))
 
-      both : Wrote (RECORD * (slot + 1)) (pack (a .tree) ++ pack (b .tree)) old last
+      both : Wrote (RECORD * (slot + 1)) (tallyList (tally + 2) (a .tree) ++ tallyList (tally + 1) (b .tree)) old last
       both =
-          wrote-then (RECORD * (slot + 1)) (RECORD * middle) (pack (a .tree)) old mid last (omega (arith, length-pack (a .tree), a .slots)) (a .wrote) (pack (b .tree)) (b .wrote)
+          wrote-then (RECORD * (slot + 1)) (RECORD * middle) (tallyList (tally + 2) (a .tree)) old mid last
+          (omega (arith, length-tallyList (tally + 2) (a .tree), a .slots)) (a .wrote) (tallyList (tally + 1) (b .tree)) (b .wrote)
 
       pub open-binary : eqb (byteAt text close) 93 ≡ false → NoNode (λ k. repeated (binaryGroupNode (nodeList f k))) text at slot old last
       open-binary e =
           record {
             rejects = λ k h. binary-unclosed text at (nodeList f k) opens (a .tree) sign (first k h) kind signs (b .tree) close (second k h) e;
-            kept = inner-kept slot (pack (a .tree) ++ pack (b .tree)) old last both;
+            kept = inner-kept slot (tallyList (tally + 2) (a .tree) ++ tallyList (tally + 1) (b .tree)) old last both;
           }
 
-      pub closed-binary : (bits next total : ℕ) → total ≡ groupCount (binaryNumber kind) (fromBits 32 bits) steps more → (fs : List ℕ) →
-          fs ≡ headFields (binaryHead kind (middle - (slot + 1)) (end - middle) (fromBits 32 bits) total) → CloseRead text close 93 bits next →
-          NodeRead (λ k. repeated (binaryGroupNode (nodeList f k))) text at slot old
-          (put (RECORD * slot) (layOut widths fs) last) next end total
-      unfolding nodeSize bodySize packNode packBody
-      closed-binary bits next total counted fs laid closes =
+      pub closed-binary : (bits next : ℕ) (fs : List ℕ) → fs ≡ headFields (binaryHead kind (middle - (slot + 1)) (end - middle) (fromBits 32 bits) tally) →
+          CloseRead text close 93 bits next →
+          NodeRead (λ k. repeated (binaryGroupNode (nodeList f k))) text at slot tally old (put (RECORD * slot) (layOut widths fs) last) next end
+      unfolding nodeSize bodySize tallyNode tallyBody
+      closed-binary bits next fs laid closes =
           let m = fromBits 32 bits in
           let left : middle - (slot + 1) ≡ size (a .tree) = omega (arith, a .slots) in
           let right : end - middle ≡ size (b .tree) = omega (arith, b .slots) in
-          let held : total ≡ stored (block (binaryGroup kind (a .tree) (b .tree)) m)
-          = counted ∙ ap₂ (λ (c d : ℕ). groupCount (binaryNumber kind) m c d) (a .counts) (b .counts) ∙ binary-stored kind (a .tree) (b .tree) m in
           record {
-            node = block (binaryGroup kind (a .tree) (b .tree)) (fromBits 32 bits);
+            node = block (binaryGroup kind (a .tree) (b .tree)) m;
             reads = λ k h.
-                binary-read text at (nodeList f k) opens (a .tree) sign (first k h) kind signs (b .tree) close (second k h) (fromBits 32 bits) next (closes .stands) (closes .reads);
+                binary-read text at (nodeList f k) opens (a .tree) sign (first k h) kind signs (b .tree) close (second k h) m next (closes .stands) (closes .reads);
             slots = omega (arith, a .slots, b .slots);
-            counts = held;
             advances = omega (arith, a .advances, b .advances, closes .advances);
             inside = closes .inside;
-            wrote = outer slot fs (binaryHead kind (size (a .tree)) (size (b .tree)) m (stored (block (binaryGroup kind (a .tree) (b .tree)) m))) (rw (left, right, held) at laid) (pack (a .tree) ++ pack (b .tree)) old last both;
+            wrote = outer slot tally fs (bodyHead (binaryGroup kind (a .tree) (b .tree)) m) (rw (left, right) at laid) (tallyList (tally + 2) (a .tree) ++ tallyList (tally + 1) (b .tree)) old last both;
           }

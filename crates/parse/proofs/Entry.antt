@@ -6,7 +6,7 @@ use mathlib.Core.Option.{none, some}
 use mathlib.Core.List.{List, [], _∷_, _++_}
 use native.Mathlib.Omega.{arith}
 use borrow.Author.Tests.{le-leb, lt-leb}
-use borrow.Rule.Slice.PartMut.{midOf, postOf, putMid, post-is}
+use borrow.Rule.Slice.PartMut.{midOf}
 use lib.ListN.{length, drop, length-take, drop-of-length-le}
 use lib.Seq.{drop-cons, take-all}
 use Rattle.laws.proofs.Packing.{length-pack}
@@ -17,6 +17,8 @@ use Rattle.notation.specs.Refusals.{Outcome, refusal, result, TOO-LONG, NOT-UTF
 use Rattle.notation.specs.Grammar.{read, nodeList, notation}
 use Rattle.notation.specs.Entries.{Lent, lend, MAX-TEXT, nestingOk, treeIn, reading, parseNotation}
 use Rattle.notation.specs.declared.features.Features.{Features}
+use Rattle.tally.specs.Tallies.{tallyList}
+use Rattle.tally.proofs.Sizes.{length-tallyList}
 use Rattle.parse.specs.Nodes.{ListRead}
 
 -- the part of no bytes over which the text is measured comes back as it was
@@ -67,7 +69,7 @@ module _ (f : Features) (text old : List ℕ) where
         accepted t h = rw (le-leb (length text) MAX-TEXT short, isUtf8, nests, h)
 
         -- what the run that measures found
-        module _ (after : List ℕ) (next end steps : ℕ) (list : ListRead f text 0 0 [] after next end steps) where
+        module _ (after : List ℕ) (next end : ℕ) (list : ListRead f text 0 0 0 [] after next end) where
           unchanged : after ++ old ≡ old
           unchanged = empty-part old after (list .wrote .kept .long)
 
@@ -95,8 +97,8 @@ module _ (f : Features) (text old : List ℕ) where
             full : length old < RECORD * end → Answered (refusal NO-ROOM) old
             full h = sym (lent ∙ rw (lt-leb (length (pack (list .tree))) (length old) (omega (arith, bytes))))
 
-            module _ (fits : RECORD * end ≤ length old) (part : List ℕ) (next₂ end₂ steps₂ : ℕ)
-                (again : ListRead f text 0 0 (midOf 0 (RECORD * end - 0) old) part next₂ end₂ steps₂) where
+            module _ (fits : RECORD * end ≤ length old) (part : List ℕ) (next₂ end₂ : ℕ)
+                (again : ListRead f text 0 0 0 (midOf 0 (RECORD * end - 0) old) part next₂ end₂) where
               same : again .tree ≡ list .tree
               same =
                   let e : read (again .tree) next₂ (drop next₂ text) ≡ read (list .tree) next (drop next text)
@@ -106,27 +108,13 @@ module _ (f : Features) (text old : List ℕ) where
               room : length (midOf 0 (RECORD * end - 0) old) ≡ RECORD * end
               room = length-take (RECORD * end - 0) old ∙ omega arith
 
-              written : part ≡ pack (list .tree)
+              written : part ≡ tallyList 0 (list .tree)
               written =
-                  let n : length (pack (again .tree)) ≡ RECORD * end = ap (λ (t : Tree). length (pack t)) same ∙ bytes in
-                  sym (take-all (0 + length (pack (again .tree))) part (omega (arith, again .wrote .kept .long, room)))
+                  let n : length (tallyList 0 (again .tree)) ≡ RECORD * end
+                  = ap (λ (t : Tree). length (tallyList 0 t)) same ∙ omega (arith, length-tallyList 0 (list .tree), list .slots) in
+                  sym (take-all (0 + length (tallyList 0 (again .tree))) part (omega (arith, again .wrote .kept .long, room)))
                   ∙ again .wrote .holds (omega (arith, room))
-                  ∙ ap pack same
-
-              filled : Answered (result (RECORD * end)) (putMid 0 (RECORD * end - 0) old part)
-              filled =
-                  let t = list .tree in
-                  let fitted : lend (result (pack t)) old ≡ answering (result (length (pack t))) (pack t ++ drop (length (pack t)) old)
-                  = rw (le-leb (length (pack t)) (length old) (omega (arith, bytes))) in
-                  ap (λ (l : List ℕ). answering (result (RECORD * end)) (l ++ postOf 0 (RECORD * end - 0) old)) written
-                  ∙ ap (λ (l : List ℕ). answering (result (RECORD * end)) (pack t ++ l)) (post-is 0 (RECORD * end) old (omega arith))
-                  ∙ ap (λ (n : ℕ). answering (result n) (pack t ++ drop n old)) (sym bytes)
-                  ∙ sym (lent ∙ fitted)
+                  ∙ ap (tallyList 0) same
 
             pub no-room : length (after ++ old) < RECORD * end → Answered (refusal NO-ROOM) (after ++ old)
             no-room h = rw unchanged (full (rw unchanged at h))
-
-            -- the run that writes, over a part that the tree fills
-            pub wrote-tree : RECORD * end ≤ length (after ++ old) → (part : List ℕ) (next₂ end₂ steps₂ : ℕ) → ListRead f text 0 0 (midOf 0 (RECORD * end - 0) (after ++ old)) part next₂ end₂ steps₂ →
-                Answered (result (RECORD * end)) (putMid 0 (RECORD * end - 0) (after ++ old) part)
-            wrote-tree fits part next₂ end₂ steps₂ again = rw unchanged (filled (rw unchanged at fits) part next₂ end₂ steps₂ (rw unchanged at again))

@@ -1,16 +1,16 @@
 -- What is read without a list is a leaf, of which the record says all. Assumes nothing.
-use Prim.Native.Nat.{ℕ, _+_, _*_, _-_, _<_, _≤_}
+use Prim.Native.Nat.{ℕ, _+_, _*_, _<_, _≤_}
 use mathlib.Core.Path.{_≡_, refl}
 use mathlib.Core.Bool.{Bool, true, false}
 use mathlib.Core.List.{List}
 use native.Mathlib.Omega.{arith}
 use lib.IntN.{ℤ}
-use lib.ListN.{length, drop}
+use lib.ListN.{length, drop, set}
 use Rattle.notation.specs.Tree.{Leaf, megaminx, Node, leaf, block}
-use Rattle.notation.specs.Packed.{RECORD, widths, layOut, leafFields, headRecord, nodeSize, packNode}
-use Rattle.notation.specs.Counts.{countNode}
-use Rattle.notation.specs.Grammar.{Reading, rejected, read, Reader, done, fail, andThen, _>>_, orElse, when, multiplier, just, constraints, tilde, family, layerPrefixContents, rotationNode, moveNode, groupKind, groupNode, binaryGroupNode, megaminxScrambleMove, sq1Move, node}
+use Rattle.notation.specs.Packed.{RECORD, widths, layOut, leafFields, nodeSize}
+use Rattle.notation.specs.Grammar.{Reading, rejected, read, Reader, done, fail, andThen, orElse, when, multiplier, just, constraints, tilde, family, layerPrefixContents, rotationNode, moveNode, groupKind, groupNode, binaryGroupNode, megaminxScrambleMove, sq1Move, node}
 use Rattle.notation.specs.declared.features.Features.{Features}
+use Rattle.tally.specs.Tallies.{tallyNode}
 use Rattle.parse.specs.Meaning.{nodeFields}
 use Rattle.parse.specs.Nodes.{put, NodeRead, NoNode}
 use Rattle.parse.proofs.Buffers.{kept-all, put-wrote}
@@ -92,19 +92,19 @@ module _ (f : Features) (text : List ℕ) (at slot : ℕ) (old : List ℕ) where
   pub leaf-rejected : rejected ≡ andThen (node f fail at (drop at text)) (λ n. done (nodeFields n)) → NoNode (λ _. node f fail) text at slot old old
   leaf-rejected e = record { rejects = λ k h. no-leaf-of (node f fail at (drop at text)) e; kept = kept-all (RECORD * slot) old }
 
-  pub leaf-read : (fs : List ℕ) (next : ℕ) → read fs next (drop next text) ≡ andThen (node f fail at (drop at text)) (λ n. done (nodeFields n)) →
-      at < next → next ≤ length text → NodeRead (λ _. node f fail) text at slot old (put (RECORD * slot) (layOut widths fs) old) next (slot + 1) 1
-  unfolding nodeSize packNode headRecord countNode
-  leaf-read fs next e l i = go (leaf-of (node f fail at (drop at text)) fs next (drop next text) (node-leaf f at (drop at text)) e) where
+  pub leaf-read : (tally : ℕ) (fs : List ℕ) (next : ℕ) → read fs next (drop next text) ≡ andThen (node f fail at (drop at text)) (λ n. done (nodeFields n)) →
+      at < next → next ≤ length text →
+      NodeRead (λ _. node f fail) text at slot tally old (put (RECORD * slot) (layOut widths (set fs 11 tally)) old) next (slot + 1)
+  unfolding nodeSize tallyNode
+  leaf-read tally fs next e l i = go (leaf-of (node f fail at (drop at text)) fs next (drop next text) (node-leaf f at (drop at text)) e) where
     go : (x : Leaf) × (node f fail at (drop at text) ≡ read (leaf x) next (drop next text)) × (leafFields x ≡ fs) →
-        NodeRead (λ _. node f fail) text at slot old (put (RECORD * slot) (layOut widths fs) old) next (slot + 1) 1
+        NodeRead (λ _. node f fail) text at slot tally old (put (RECORD * slot) (layOut widths (set fs 11 tally)) old) next (slot + 1)
     go (x, r, is) =
         record {
           node = leaf x;
           reads = λ k _. r;
           slots = refl;
-          counts = refl;
           advances = omega arith;
           inside = i;
-          wrote = rw is (put-wrote (RECORD * slot) (layOut widths fs) old);
+          wrote = rw is (put-wrote (RECORD * slot) (layOut widths (set fs 11 tally)) old);
         }

@@ -1,6 +1,6 @@
 -- The loop of `node_list`: what its turns keep, and what each way out of it returns. Assumes nothing.
 use Prim.Native.Nat.{ℕ, zero, suc, _+_, _*_, _-_, _<_, _≤_}
-use mathlib.Core.Path.{_≡_, refl, sym, ap, ap₂, _∙_}
+use mathlib.Core.Path.{_≡_, refl, sym, ap, _∙_}
 use mathlib.Core.List.{List, _++_, append-assoc}
 use mathlib.Core.List as lists
 use native.Mathlib.Omega.{arith}
@@ -8,17 +8,16 @@ use native.Mathlib.Nat.{add-zero}
 use lib.ListN.{length, drop, length-drop}
 use lib.Seq.{drop-drop}
 use Rattle.charsets.proofs.Runs.{run-dropped, end-length}
-use Rattle.laws.proofs.Counting.{hold-plus}
 use Rattle.laws.proofs.Inverses.{append-nil-nodes}
-use Rattle.laws.proofs.Packing.{length-pack}
-use Rattle.laws.proofs.WellFormedInverses.{size-append, count-append}
+use Rattle.laws.proofs.WellFormedInverses.{size-append}
 use Rattle.notation.specs.Chars.{whiteSpace}
 use Rattle.notation.specs.Utf8.{run}
 use Rattle.notation.specs.Tree.{Leaf, Node, leaf, block, nil, cons, Tree, append}
-use Rattle.notation.specs.Packed.{RECORD, nodeSize, size, packNode, pack}
-use Rattle.notation.specs.Counts.{hold, countNode, count, stored}
+use Rattle.notation.specs.Packed.{RECORD, nodeSize, size}
 use Rattle.notation.specs.Grammar.{Reading, read, Reader, done, andThen, node, nodeList}
 use Rattle.notation.specs.declared.features.Features.{Features}
+use Rattle.tally.specs.Tallies.{tallyNode, tallyList}
+use Rattle.tally.proofs.Sizes.{length-tallyList}
 use Rattle.parse.specs.Nodes.{Wrote, ListRead, NodeRead, NoNode}
 use Rattle.parse.proofs.Buffers.{wrote-none, wrote-kept, wrote-then}
 use Rattle.parse.proofs.Lists.{rest, list-start, andThen-done, rest-none, rest-last, rest-more, then-append}
@@ -30,42 +29,29 @@ some-records (leaf x) = omega arith
 some-records (block b m) = omega arith
 
 -- one more node at the end
-pack-last : (a : Tree) (n : Node Leaf) → pack (append a (cons n nil)) ≡ pack a ++ packNode n
-unfolding append pack
-pack-last nil n = lists.append-nil (packNode n)
-pack-last (cons m a) n = ap (λ (l : List ℕ). packNode m ++ l) (pack-last a n) ∙ sym (append-assoc (packNode m) (pack a) (packNode n))
+tally-last : (h : ℕ) (a : Tree) (n : Node Leaf) → tallyList h (append a (cons n nil)) ≡ tallyList h a ++ tallyNode h n
+unfolding append tallyList
+tally-last h nil n = lists.append-nil (tallyNode h n)
+tally-last h (cons m a) n =
+    ap (λ (l : List ℕ). tallyNode h m ++ l) (tally-last h a n) ∙ sym (append-assoc (tallyNode h m) (tallyList h a) (tallyNode h n))
 
 size-last : (a : Tree) (n : Node Leaf) → size (append a (cons n nil)) ≡ size a + nodeSize n
 unfolding size
 size-last a n = size-append a (cons n nil) ∙ omega arith
 
-count-last : (a : Tree) (n : Node Leaf) → count (append a (cons n nil)) ≡ count a + countNode n
-unfolding count
-count-last a n = count-append a (cons n nil) ∙ omega arith
-
--- the count so far and what the node's record stores come to the count with the node
-held-last : (a : Tree) (n : Node Leaf) (steps more total : ℕ) → steps ≡ hold (count a) → more ≡ stored n → total ≡ hold (steps + more) →
-    total ≡ hold (count (append a (cons n nil)))
-held-last a n steps more total p q e =
-    e
-    ∙ ap₂ (λ (x y : ℕ). hold (x + y)) p q
-    ∙ hold-plus (count a) (countNode n)
-    ∙ ap hold (sym (count-last a n))
-
-module _ (f : Features) (text : List ℕ) (at slot : ℕ) (old : List ℕ) where
+module _ (f : Features) (text : List ℕ) (at slot tally : ℕ) (old : List ℕ) where
   -- `next` is where a node may stand, `front` what was read before, and the rest is read as it would be in the whole list
-  pub record Going (next end steps : ℕ) (new : List ℕ) : Type 0 where
+  pub record Going (next end : ℕ) (new : List ℕ) : Type 0 where
     pub front : Tree
     pub fuel : ℕ
     pub enough : length text - next ≤ fuel
     pub goes : (k : ℕ) → length text - at ≤ k →
         nodeList f (suc k) at (drop at text) ≡ andThen (rest (node f (nodeList f k)) fuel next (drop next text)) (λ l. done (append front l))
     pub slots : end ≡ slot + size front
-    pub counts : steps ≡ hold (count front)
     pub advances : at + size front ≤ next
     pub inside : next ≤ length text
     pub skipped : run whiteSpace (drop next text) ≡ 0
-    pub wrote : Wrote (RECORD * slot) (pack front) old new
+    pub wrote : Wrote (RECORD * slot) (tallyList tally front) old new
 
   skips : (from next : ℕ) → next ≡ from + run whiteSpace (drop from text) → run whiteSpace (drop next text) ≡ 0
   skips from next e =
@@ -73,8 +59,8 @@ module _ (f : Features) (text : List ℕ) (at slot : ℕ) (old : List ℕ) where
       ∙ ap (run whiteSpace) (sym (drop-drop (run whiteSpace (drop from text)) from text))
       ∙ run-dropped whiteSpace (drop from text)
 
-  pub going-start : (next : ℕ) → at ≤ length text → next ≡ at + run whiteSpace (drop at text) → Going next slot 0 old
-  unfolding append size pack count
+  pub going-start : (next : ℕ) → at ≤ length text → next ≡ at + run whiteSpace (drop at text) → Going next slot old
+  unfolding append size tallyList
   going-start next h e =
       record {
         front = nil;
@@ -82,28 +68,26 @@ module _ (f : Features) (text : List ℕ) (at slot : ℕ) (old : List ℕ) where
         enough = omega (arith, length-drop next text);
         goes = λ k _. list-start f k at next text e ∙ sym (andThen-done (rest (node f (nodeList f k)) (length (drop next text)) next (drop next text)));
         slots = omega arith;
-        counts = refl;
         advances = omega arith;
         inside = omega (arith, end-length whiteSpace text at h);
         skipped = skips at next e;
         wrote = wrote-none (RECORD * slot) old;
       }
 
-  module _ (next end steps : ℕ) (mid new : List ℕ) (g : Going next end steps mid) where
+  module _ (next end : ℕ) (mid new : List ℕ) (g : Going next end mid) where
     abbrev rule : ℕ → Reader (Node Leaf)
     rule k = node f (nodeList f k)
 
     -- no node follows
-    pub list-ends : NoNode rule text next end mid new → ListRead f text at slot old new next end steps
+    pub list-ends : NoNode rule text next end mid new → ListRead f text at slot tally old new next end
     list-ends none =
         record {
           tree = g .front;
           reads = λ k h. reads k h;
           slots = g .slots;
-          counts = g .counts;
           advances = g .advances;
           inside = g .inside;
-          wrote = wrote-kept (RECORD * slot) (RECORD * end) (pack (g .front)) old mid new (omega (arith, length-pack (g .front), g .slots)) (g .wrote) (none .kept);
+          wrote = wrote-kept (RECORD * slot) (RECORD * end) (tallyList tally (g .front)) old mid new (omega (arith, length-tallyList tally (g .front), g .slots)) (g .wrote) (none .kept);
         }
       where
         reads : (k : ℕ) → length text - at < k → nodeList f k at (drop at text) ≡ read (g .front) next (drop next text)
@@ -114,23 +98,19 @@ module _ (f : Features) (text : List ℕ) (at slot : ℕ) (old : List ℕ) where
             (rest-none (rule k) next (drop next text) (g .fuel) (none .rejects k (omega (arith, g .advances))) (g .skipped))
             ∙ ap (λ (t : Tree). read t next (drop next text)) (append-nil-nodes (g .front))
 
-    module _ (after filled more : ℕ) (took : NodeRead rule text next end mid new after filled more) (total : ℕ) (sums : total ≡ hold (steps + more)) where
-      counted : total ≡ hold (count (append (g .front) (cons (took .node) nil)))
-      counted = held-last (g .front) (took .node) steps more total (g .counts) (took .counts) sums
-
-      joined : Wrote (RECORD * slot) (pack (append (g .front) (cons (took .node) nil))) old new
+    module _ (after filled : ℕ) (took : NodeRead rule text next end tally mid new after filled) where
+      joined : Wrote (RECORD * slot) (tallyList tally (append (g .front) (cons (took .node) nil))) old new
       joined =
-          rw (pack-last (g .front) (took .node))
-          (wrote-then (RECORD * slot) (RECORD * end) (pack (g .front)) old mid new (omega (arith, length-pack (g .front), g .slots)) (g .wrote) (packNode (took .node)) (took .wrote))
+          rw (tally-last tally (g .front) (took .node))
+          (wrote-then (RECORD * slot) (RECORD * end) (tallyList tally (g .front)) old mid new (omega (arith, length-tallyList tally (g .front), g .slots)) (g .wrote) (tallyNode tally (took .node)) (took .wrote))
 
       -- the last node, which no white space follows
-      pub list-stops : run whiteSpace (drop after text) ≡ 0 → ListRead f text at slot old new after filled total
+      pub list-stops : run whiteSpace (drop after text) ≡ 0 → ListRead f text at slot tally old new after filled
       list-stops e =
           record {
             tree = append (g .front) (cons (took .node) nil);
             reads = λ k h. reads k h;
             slots = omega (arith, size-last (g .front) (took .node), g .slots, took .slots);
-            counts = counted;
             advances = omega (arith, size-last (g .front) (took .node), g .advances, took .advances);
             inside = took .inside;
             wrote = joined;
@@ -144,7 +124,7 @@ module _ (f : Features) (text : List ℕ) (at slot : ℕ) (old : List ℕ) where
               (rest-last (rule k) next (drop next text) (took .node) after (drop after text) (took .reads k (omega (arith, g .advances))) (g .fuel) e)
 
       -- a node that white space follows
-      pub going-on : (further : ℕ) → further ≡ after + run whiteSpace (drop after text) → (further ≡ after → ⊥) → Going further filled total new
+      pub going-on : (further : ℕ) → further ≡ after + run whiteSpace (drop after text) → (further ≡ after → ⊥) → Going further filled new
       going-on further e apart = go (g .fuel) refl
         where
           behind : drop (run whiteSpace (drop after text)) (drop after text) ≡ drop further text
@@ -157,7 +137,7 @@ module _ (f : Features) (text : List ℕ) (at slot : ℕ) (old : List ℕ) where
           past : next < after
           past = omega (arith, took .advances, some-records (took .node))
 
-          go : (fuel : ℕ) → g .fuel ≡ fuel → Going further filled total new
+          go : (fuel : ℕ) → g .fuel ≡ fuel → Going further filled new
           go zero q = absurd (omega (arith, g .enough, took .inside, past, q))
           go (suc fuel) q =
               record {
@@ -166,7 +146,6 @@ module _ (f : Features) (text : List ℕ) (at slot : ℕ) (old : List ℕ) where
                 enough = omega (arith, g .enough, past, e, q);
                 goes = λ k h. goes k h;
                 slots = omega (arith, size-last (g .front) (took .node), g .slots, took .slots);
-                counts = counted;
                 advances = omega (arith, size-last (g .front) (took .node), g .advances, took .advances);
                 inside = omega (arith, end-length whiteSpace text after (took .inside));
                 skipped = skips after further e;

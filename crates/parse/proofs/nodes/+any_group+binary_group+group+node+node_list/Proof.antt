@@ -32,8 +32,6 @@ use Rattle.parse.proofs.nodes.node_list.Reads as node-list
 use Rattle.parse.proofs.nodes.node_list.Kinds as node-list-kinds
 use Rattle.parse.proofs.nodes.+any_group+binary_group+group+node+node_list.Lts-node_list as node-list-lts
 use Rattle.charsets.proofs.whitespace_end.Reads as whitespace-end-reads
-use Rattle.counts.proofs.of_group.Reads as of-group-reads
-use Rattle.counts.proofs.sum.Reads as sum-reads
 use Rattle.parse.proofs.nodes.binary_group_kind.Reads as binary-group-kind-reads
 use Rattle.parse.proofs.nodes.close.Reads as close-reads
 use Rattle.parse.proofs.nodes.leaf_node.Reads as leaf-node-reads
@@ -41,9 +39,7 @@ use Rattle.parse.proofs.nodes.put_record.Reads as put-record-reads
 use Rattle.parse.proofs.look.has.Reads as has-reads
 use Rattle.parse.proofs.parse.group_kind.Reads as group-kind-reads
 use Rattle.record.proofs.encode.binary_group_fields.Reads as binary-group-fields-reads
-use Rattle.record.proofs.encode.binary_number.Reads as binary-number-reads
 use Rattle.record.proofs.encode.group_fields.Reads as group-fields-reads
-use Rattle.record.proofs.encode.group_number.Reads as group-number-reads
 use Rattle.parse.proofs.nodes.+any_group+binary_group+group+node+node_list.{statement}
 use Rattle.parse.proofs.nodes.+any_group+binary_group+group+node+node_list.Tie.{close}
 
@@ -105,10 +101,6 @@ binary-group-claims t = (
   binary-group-kind-reads.Learnt,
   close-reads.Asked,
   close-reads.Learnt,
-  binary-number-reads.Asked,
-  binary-number-reads.Learnt,
-  of-group-reads.Asked,
-  of-group-reads.Learnt,
   binary-group-fields-reads.Asked,
   binary-group-fields-reads.Learnt,
   put-record-reads.Asked,
@@ -125,10 +117,6 @@ group-claims t = (
   node-list.Post,
   close-reads.Asked,
   close-reads.Learnt,
-  group-number-reads.Asked,
-  group-number-reads.Learnt,
-  of-group-reads.Asked,
-  of-group-reads.Learnt,
   group-fields-reads.Asked,
   group-fields-reads.Learnt,
   put-record-reads.Asked,
@@ -139,12 +127,12 @@ abbrev node-claims : ℕ → node-lts.Claims
 node-claims t = (leaf-node-reads.Asked, leaf-node-reads.Learnt, any-group-below t, any-group.Post)
 
 abbrev node-list-claims : ℕ → node-list-lts.Claims
-node-list-claims t = (whitespace-end-reads.Asked, whitespace-end-reads.Learnt, node-below t, node.Post, sum-reads.Asked, sum-reads.Learnt)
+node-list-claims t = (whitespace-end-reads.Asked, whitespace-end-reads.Learnt, node-below t, node.Post)
 
 any-group-returns : (t : ℕ) → any-group-lts.Need-returns (any-group-claims t) (any-group-at t) any-group.Post
 any-group-returns t c =
     let a = c .before .before .before .args in
-    none-at-end (a .text .now) (a .at) (a .slot) (a .features) (a .tree .now) (c .if1 .taken)
+    none-at-end (a .text .now) (a .at) (a .slot) (a .tally) (a .features) (a .tree .now) (c .if1 .taken)
 
 any-group-shared-slice-read-match : (t : ℕ) → any-group-lts.Need-shared-slice-read-match (any-group-claims t) (any-group-at t) any-group.Post
 any-group-shared-slice-read-match t c = search needs
@@ -165,7 +153,7 @@ any-group-same-length t c = search needs
 any-group-returns-2 : (t : ℕ) → any-group-lts.Need-returns-2 (any-group-claims t) (any-group-at t) any-group.Post
 any-group-returns-2 t c =
     let a = c .before .before .before .before .before .before .before .before .before .args in
-    a-group (a .text .now) (a .at) (a .slot) (a .features) (c .before .before .before .before .before .before .if1 .left) (no-bracket-byte _ (c .before .before .before .before .match .keys1)) (a .tree .now) _ (c .before .before .group .result)
+    a-group (a .text .now) (a .at) (a .slot) (a .tally) (a .features) (c .before .before .before .before .before .before .if1 .left) (no-bracket-byte _ (c .before .before .before .before .match .keys1)) (a .tree .now) _ (c .before .before .group .result)
     (c .before .before .group .ensures)
 
 any-group-same-length-2 : (t : ℕ) → any-group-lts.Need-same-length-2 (any-group-claims t) (any-group-at t) any-group.Post
@@ -174,13 +162,13 @@ any-group-same-length-2 t c = search needs
 any-group-returns-3 : (t : ℕ) → any-group-lts.Need-returns-3 (any-group-claims t) (any-group-at t) any-group.Post
 any-group-returns-3 t c =
     let a = c .before .before .before .before .before .before .before .before .before .args in
-    a-bracket (a .text .now) (a .at) (a .slot) (a .features) (c .before .before .before .before .before .before .if1 .left) (c .before .before .before .before .match .keys2) (a .tree .now) _ (c .before .before .binary-group .result)
+    a-bracket (a .text .now) (a .at) (a .slot) (a .tally) (a .features) (c .before .before .before .before .before .before .if1 .left) (c .before .before .before .before .match .keys2) (a .tree .now) _ (c .before .before .binary-group .result)
     (c .before .before .binary-group .ensures)
 
 any-group-returns-4 : (t : ℕ) → any-group-lts.Need-returns-4 (any-group-claims t) (any-group-at t) any-group.Post
 any-group-returns-4 t c =
     let a = c .before .before .before .before .before .args in
-    none-opened (a .text .now) (a .at) (a .slot) (a .features) (c .before .before .if1 .left) (c .match .rest .0 .1) (c .match .rest .1) (a .tree .now)
+    none-opened (a .text .now) (a .at) (a .slot) (a .tally) (a .features) (c .before .before .if1 .left) (c .match .rest .0 .1) (c .match .rest .1) (a .tree .now)
 
 binary-group-add-node-list : (t : ℕ) → binary-group-lts.Need-add-node-list (binary-group-claims t) (binary-group-at t) binary-group.Post
 binary-group-add-node-list t c =
@@ -196,13 +184,18 @@ binary-group-add-node-list-2 t c =
     let pre = s .pre .1 in
     omega (arith, pre .0 .slots, pre .0 .inside, pre .0 .short)
 
+binary-group-add-node-list-3 : (t : ℕ) → binary-group-lts.Need-add-node-list-3 (binary-group-claims t) (binary-group-at t) binary-group.Post
+binary-group-add-node-list-3 t c =
+    let pre = c .before .before .before .pre .1 in
+    omega (arith, pre .0 .tallies, pre .0 .inside, pre .0 .short)
+
 binary-group-node-list-requires : (t : ℕ) → binary-group-lts.Need-node-list-requires (binary-group-claims t) (binary-group-at t) binary-group.Post
 binary-group-node-list-requires t c κs =
     let s = c .before .before .before in
     let a = s .args in
     let pre = s .pre .1 in (
       omega (arith, s .pre .0, pre .1),
-      record { inside = omega (arith, pre .1); short = pre .0 .short; slots = omega (arith, pre .0 .slots) },
+      record { inside = omega (arith, pre .1); short = pre .0 .short; slots = omega (arith, pre .0 .slots); tallies = omega (arith, pre .0 .tallies) },
     )
 
 binary-group-binary-group-kind-requires : (t : ℕ) → binary-group-lts.Need-binary-group-kind-requires (binary-group-claims t) (binary-group-at t) binary-group.Post
@@ -225,11 +218,11 @@ binary-group-returns t c =
     let pre = s .pre .1 in
     let one = c .before .before .before .before .before .node-list in
     let opens = stands-first (a .text .now) (a .at) 91 (pre .1) (pre .2) in
-    unsigned-group (a .features) (a .text .now) (a .at) (a .slot) (a .tree .now) opens _ _ _ _ (one .ensures)
+    unsigned-group (a .features) (a .text .now) (a .at) (a .slot) (a .tally) (a .tree .now) opens _ _ _ (one .ensures)
     (rw (c .enum-told .given .1) at (c .before .before .binary-group-kind .ensures))
 
-binary-group-add-node-list-3 : (t : ℕ) → binary-group-lts.Need-add-node-list-3 (binary-group-claims t) (binary-group-at t) binary-group.Post
-binary-group-add-node-list-3 t c =
+binary-group-add-node-list-4 : (t : ℕ) → binary-group-lts.Need-add-node-list-4 (binary-group-claims t) (binary-group-at t) binary-group.Post
+binary-group-add-node-list-4 t c =
     let s = c .before .before .before .before .before .before .before .before .before .before .before in
     let a = s .args in
     let pre = s .pre .1 in
@@ -239,6 +232,11 @@ binary-group-add-node-list-3 t c =
     let signs = rw (kind .1) at (c .before .before .before .before .binary-group-kind .ensures) in
     let sign = signed (a .text .now) (one .result .next) _ (one .ensures .inside) signs in
     omega (arith, sign, pre .0 .short)
+
+binary-group-add-node-list-5 : (t : ℕ) → binary-group-lts.Need-add-node-list-5 (binary-group-claims t) (binary-group-at t) binary-group.Post
+binary-group-add-node-list-5 t c =
+    let pre = c .before .before .before .before .before .before .before .before .before .before .before .before .pre .1 in
+    omega (arith, pre .0 .tallies, pre .0 .inside, pre .0 .short)
 
 binary-group-node-list-requires-2 : (t : ℕ) → binary-group-lts.Need-node-list-requires-2 (binary-group-claims t) (binary-group-at t) binary-group.Post
 binary-group-node-list-requires-2 t c κs =
@@ -251,7 +249,12 @@ binary-group-node-list-requires-2 t c κs =
     let signs = rw (kind .1) at (c .before .before .before .before .before .binary-group-kind .ensures) in
     let sign = signed (a .text .now) (one .result .next) _ (one .ensures .inside) signs in (
       omega (arith, s .pre .0, sign, one .ensures .advances, pre .1),
-      record { inside = omega (arith, sign); short = pre .0 .short; slots = omega (arith, pre .0 .slots, one .ensures .slots, one .ensures .advances) },
+      record {
+        inside = omega (arith, sign);
+        short = pre .0 .short;
+        slots = omega (arith, pre .0 .slots, one .ensures .slots, one .ensures .advances);
+        tallies = omega (arith, pre .0 .tallies, one .ensures .advances);
+      },
     )
 
 binary-group-close-requires : (t : ℕ) → binary-group-lts.Need-close-requires (binary-group-claims t) (binary-group-at t) binary-group.Post
@@ -277,7 +280,7 @@ binary-group-returns-2 t c =
     let two = c .before .before .before .before .before .node-list2 in
     let kind = c .before .before .before .before .before .before .before .before .before .kind .given in
     let signs = rw (kind .1) at (c .before .before .before .before .before .before .before .before .before .before .before .binary-group-kind .ensures) in
-    open-binary (a .features) (a .text .now) (a .at) (a .slot) (a .tree .now) opens _ _ _ _ (one .ensures) (kind .0 .0) signs _ _ _ _ (two .ensures)
+    open-binary (a .features) (a .text .now) (a .at) (a .slot) (a .tally) (a .tree .now) opens _ _ _ (one .ensures) (kind .0 .0) signs _ _ _ (two .ensures)
     (rw (c .enum-told2 .given .1) at (c .before .before .close .ensures))
 
 binary-group-add-first : (t : ℕ) → binary-group-lts.Need-add-first (binary-group-claims t) (binary-group-at t) binary-group.Post
@@ -313,42 +316,31 @@ binary-group-cast-second t c =
     let two = c .before .before .before .before .before .before .before .before .before .node-list2 in
     omega (arith, two .ensures .slots, two .ensures .advances, two .ensures .inside, pre .0 .short)
 
-binary-group-binary-number-requires : (t : ℕ) → binary-group-lts.Need-binary-number-requires (binary-group-claims t) (binary-group-at t) binary-group.Post
-binary-group-binary-number-requires t c κs = search needs
-
-binary-group-of-group-requires : (t : ℕ) → binary-group-lts.Need-of-group-requires (binary-group-claims t) (binary-group-at t) binary-group.Post
-binary-group-of-group-requires t c κs =
-    let one = c .before .before .before .before .before .before .before .before .before .before .before .before .before .before .before .before .before .before .before .node-list in
-    let two = c .before .before .before .before .before .before .before .before .before .before .node-list2 in
-    (omega (arith, one .ensures .counts), omega (arith, two .ensures .counts))
-
 binary-group-binary-group-fields-requires : (t : ℕ) → binary-group-lts.Need-binary-group-fields-requires (binary-group-claims t) (binary-group-at t) binary-group.Post
 binary-group-binary-group-fields-requires t c κs = search needs
 
 binary-group-put-record-requires : (t : ℕ) → binary-group-lts.Need-put-record-requires (binary-group-claims t) (binary-group-at t) binary-group.Post
 binary-group-put-record-requires t c κs =
-    let s = c .before .before .before .before .before .before .before .before .before .before .before .before .before .before .before .before .before .before .before .before .before .before .before .before .before .before in
+    let s = c .before .before .before .before .before .before .before .before .before .before .before .before .before .before .before .before .before .before .before .before .before .before .before .before in
     let a = s .args in
     let pre = s .pre .1 in
     omega (arith, pre .0 .slots, pre .0 .inside, pre .0 .short)
 
 binary-group-returns-3 : (t : ℕ) → binary-group-lts.Need-returns-3 (binary-group-claims t) (binary-group-at t) binary-group.Post
 binary-group-returns-3 t c =
-    let s = c .before .before .before .before .before .before .before .before .before .before .before .before .before .before .before .before .before .before .before .before .before .before .before .before .before .before .before .before .before in
+    let s = c .before .before .before .before .before .before .before .before .before .before .before .before .before .before .before .before .before .before .before .before .before .before .before .before .before .before .before in
     let a = s .args in
     let pre = s .pre .1 in
-    let one = c .before .before .before .before .before .before .before .before .before .before .before .before .before .before .before .before .before .before .before .before .before .before .before .before .before .node-list in
+    let one = c .before .before .before .before .before .before .before .before .before .before .before .before .before .before .before .before .before .before .before .before .before .before .before .node-list in
     let opens = stands-first (a .text .now) (a .at) 91 (pre .1) (pre .2) in
-    let two = c .before .before .before .before .before .before .before .before .before .before .before .before .before .before .before .before .node-list2 in
-    let kind = c .before .before .before .before .before .before .before .before .before .before .before .before .before .before .before .before .before .before .before .before .kind .given in
-    let signs = rw (kind .1) at (c .before .before .before .before .before .before .before .before .before .before .before .before .before .before .before .before .before .before .before .before .before .before .binary-group-kind .ensures) in
-    let took = c .before .before .before .before .before .before .before .before .before .before .before .bits .given in
-    let counts = c .before .before .before .before .before .of-group in
-    let counted = rw (c .before .before .before .before .before .before .binary-number .ensures) at (counts .ensures) in
+    let two = c .before .before .before .before .before .before .before .before .before .before .before .before .before .before .node-list2 in
+    let kind = c .before .before .before .before .before .before .before .before .before .before .before .before .before .before .before .before .before .before .kind .given in
+    let signs = rw (kind .1) at (c .before .before .before .before .before .before .before .before .before .before .before .before .before .before .before .before .before .before .before .before .binary-group-kind .ensures) in
+    let took = c .before .before .before .before .before .before .before .before .before .bits .given in
     let fields = c .before .before .before .binary-group-fields in
     rw (c .before .before .put-record .ensures)
-    (closed-binary (a .features) (a .text .now) (a .at) (a .slot) (a .tree .now) opens _ _ _ _ (one .ensures) (kind .0 .0) signs _ _ _ _ (two .ensures)
-    (took .0 .0) (took .0 .1 .0) (counts .result) counted (listed (fields .result)) (fields .ensures) (rw (took .1) at (c .before .before .before .before .before .before .before .before .before .before .before .before .before .close .ensures)))
+    (closed-binary (a .features) (a .text .now) (a .at) (a .slot) (a .tally) (a .tree .now) opens _ _ _ (one .ensures) (kind .0 .0) signs _ _ _ (two .ensures)
+    (took .0 .0) (took .0 .1 .0) (listed (fields .result)) (fields .ensures) (rw (took .1) at (c .before .before .before .before .before .before .before .before .before .before .before .close .ensures)))
 
 binary-group-same-length-3 : (t : ℕ) → binary-group-lts.Need-same-length-3 (binary-group-claims t) (binary-group-at t) binary-group.Post
 binary-group-same-length-3 t c = binary-group-returns-3 t c .wrote .kept .long
@@ -377,6 +369,11 @@ group-add-node-list-2 t c =
     let pre = s .pre .1 in
     omega (arith, pre .0 .slots, pre .0 .inside, pre .0 .short)
 
+group-add-node-list-3 : (t : ℕ) → group-lts.Need-add-node-list-3 (group-claims t) (group-at t) group.Post
+group-add-node-list-3 t c =
+    let pre = c .before .before .before .before .before .before .pre .1 in
+    omega (arith, pre .0 .tallies, pre .0 .inside, pre .0 .short)
+
 group-node-list-requires : (t : ℕ) → group-lts.Need-node-list-requires (group-claims t) (group-at t) group.Post
 group-node-list-requires t c κs =
     let s = c .before .before .before .before .before .before in
@@ -387,7 +384,7 @@ group-node-list-requires t c κs =
     let later = within (a .text .now) (a .at) takes-kind (pre .0 .inside) (start .ensures) .0 in
     let inside = seen (a .text .now) (start .result .next) 40 (omega arith) opens in (
       omega (arith, s .pre .0, later, inside),
-      record { inside = omega (arith, inside); short = pre .0 .short; slots = omega (arith, pre .0 .slots, later) },
+      record { inside = omega (arith, inside); short = pre .0 .short; slots = omega (arith, pre .0 .slots, later); tallies = omega (arith, pre .0 .tallies, later) },
     )
 
 group-close-requires : (t : ℕ) → group-lts.Need-close-requires (group-claims t) (group-at t) group.Post
@@ -412,7 +409,7 @@ group-returns t c =
     let opens = sym (c .before .before .before .before .before .before .before .before .has .ensures) ∙ c .before .before .before .before .before .before .before .if1 .taken in
     let later = within (a .text .now) (a .at) takes-kind (pre .0 .inside) (start .ensures) .0 in
     let list = c .before .before .before .before .before .node-list in
-    open-group (a .features) (a .text .now) (a .at) (a .slot) (a .tree .now) (start .result .kind) (start .result .next) (start .ensures) opens (omega (arith, later)) _ _ _ _
+    open-group (a .features) (a .text .now) (a .at) (a .slot) (a .tally) (a .tree .now) (start .result .kind) (start .result .next) (start .ensures) opens (omega (arith, later)) _ _ _
     (list .ensures) (rw (c .enum-told .given .1) at (c .before .before .close .ensures))
 
 group-add-first : (t : ℕ) → group-lts.Need-add-first (group-claims t) (group-at t) group.Post
@@ -435,20 +432,12 @@ group-cast-first t c =
     let list = c .before .before .before .before .before .before .before .node-list in
     omega (arith, list .ensures .slots, list .ensures .advances, list .ensures .inside, pre .0 .short)
 
-group-group-number-requires : (t : ℕ) → group-lts.Need-group-number-requires (group-claims t) (group-at t) group.Post
-group-group-number-requires t c κs = search needs
-
-group-of-group-requires : (t : ℕ) → group-lts.Need-of-group-requires (group-claims t) (group-at t) group.Post
-group-of-group-requires t c κs =
-    let list = c .before .before .before .before .before .before .before .before .node-list in
-    (omega (arith, list .ensures .counts), omega arith)
-
 group-group-fields-requires : (t : ℕ) → group-lts.Need-group-fields-requires (group-claims t) (group-at t) group.Post
 group-group-fields-requires t c κs = search needs
 
 group-put-record-requires : (t : ℕ) → group-lts.Need-put-record-requires (group-claims t) (group-at t) group.Post
 group-put-record-requires t c κs =
-    let s = c .before .before .before .before .before .before .before .before .before .before .before .before .before .before .before .before .before .before in
+    let s = c .before .before .before .before .before .before .before .before .before .before .before .before .before .before .before .before in
     let a = s .args in
     let pre = s .pre .1 in
     omega (arith, pre .0 .slots, pre .0 .inside, pre .0 .short)
@@ -458,20 +447,18 @@ group-same-length-2 t c = search needs
 
 group-returns-2 : (t : ℕ) → group-lts.Need-returns-2 (group-claims t) (group-at t) group.Post
 group-returns-2 t c =
-    let s = c .before .before .before .before .before .before .before .before .before .before .before .before .before .before .before .before .before .before .before .before .before in
+    let s = c .before .before .before .before .before .before .before .before .before .before .before .before .before .before .before .before .before .before .before in
     let a = s .args in
     let pre = s .pre .1 in
-    let start = c .before .before .before .before .before .before .before .before .before .before .before .before .before .before .before .before .before .before .group-kind in
-    let opens = sym (c .before .before .before .before .before .before .before .before .before .before .before .before .before .before .before .before .before .has .ensures) ∙ c .before .before .before .before .before .before .before .before .before .before .before .before .before .before .before .before .if1 .taken in
+    let start = c .before .before .before .before .before .before .before .before .before .before .before .before .before .before .before .before .group-kind in
+    let opens = sym (c .before .before .before .before .before .before .before .before .before .before .before .before .before .before .before .has .ensures) ∙ c .before .before .before .before .before .before .before .before .before .before .before .before .before .before .if1 .taken in
     let later = within (a .text .now) (a .at) takes-kind (pre .0 .inside) (start .ensures) .0 in
-    let list = c .before .before .before .before .before .before .before .before .before .before .before .before .before .before .node-list in
-    let took = c .before .before .before .before .before .before .before .before .before .bits .given in
-    let counts = c .before .before .before .before .before .of-group in
-    let counted = rw (c .before .before .before .before .before .before .group-number .ensures) at (counts .ensures) in
+    let list = c .before .before .before .before .before .before .before .before .before .before .before .before .node-list in
+    let took = c .before .before .before .before .before .before .before .bits .given in
     let fields = c .before .before .before .group-fields in
     rw (c .before .before .put-record .ensures)
-    (closed-group (a .features) (a .text .now) (a .at) (a .slot) (a .tree .now) (start .result .kind) (start .result .next) (start .ensures) opens (omega (arith, later)) _ _ _ _
-    (list .ensures) (took .0 .0) (took .0 .1 .0) (counts .result) counted (listed (fields .result)) (fields .ensures) (rw (took .1) at (c .before .before .before .before .before .before .before .before .before .before .before .close .ensures)))
+    (closed-group (a .features) (a .text .now) (a .at) (a .slot) (a .tally) (a .tree .now) (start .result .kind) (start .result .next) (start .ensures) opens (omega (arith, later)) _ _ _
+    (list .ensures) (took .0 .0) (took .0 .1 .0) (listed (fields .result)) (fields .ensures) (rw (took .1) at (c .before .before .before .before .before .before .before .before .before .close .ensures)))
 
 group-returns-3 : (t : ℕ) → group-lts.Need-returns-3 (group-claims t) (group-at t) group.Post
 group-returns-3 t c =
@@ -479,7 +466,7 @@ group-returns-3 t c =
     let a = s .args in
     let pre = s .pre .1 in
     let start = c .before .before .group-kind in
-    no-group (a .features) (a .text .now) (a .at) (a .slot) (a .tree .now) (start .result .kind) (start .result .next) (start .ensures)
+    no-group (a .features) (a .text .now) (a .at) (a .slot) (a .tally) (a .tree .now) (start .result .kind) (start .result .next) (start .ensures)
     (sym (c .before .has .ensures) ∙ c .if1 .left)
 
 node-leaf-node-requires : (t : ℕ) → node-lts.Need-leaf-node-requires (node-claims t) (node-at t) node.Post
@@ -502,7 +489,7 @@ node-same-length t c = search needs
 node-returns : (t : ℕ) → node-lts.Need-returns (node-claims t) (node-at t) node.Post
 node-returns t c =
     let a = c .before .before .before .before .before .before .before .before .before .before .before .before .args in
-    group-instead (a .text .now) (a .at) (a .slot) (a .features) (a .tree .now) _ _ (c .before .before .any-group .result)
+    group-instead (a .text .now) (a .at) (a .slot) (a .tally) (a .features) (a .tree .now) _ _ (c .before .before .any-group .result)
     (rw (c .before .before .before .before .enum-told .given .1) at (c .before .before .before .before .before .before .before .before .leaf-node .ensures)) (c .before .before .any-group .ensures)
 
 node-same-length-2 : (t : ℕ) → node-lts.Need-same-length-2 (node-claims t) (node-at t) node.Post
@@ -511,13 +498,13 @@ node-same-length-2 t c = search needs
 node-returns-2 : (t : ℕ) → node-lts.Need-returns-2 (node-claims t) (node-at t) node.Post
 node-returns-2 t c =
     let a = c .before .before .before .before .before .before .before .before .before .args in
-    leaf-first (a .text .now) (a .at) (a .slot) (a .features) (a .tree .now) _ _ _ _ (rw (c .before .next .given .1) at (c .before .before .before .before .before .leaf-node .ensures))
+    leaf-first (a .text .now) (a .at) (a .slot) (a .tally) (a .features) (a .tree .now) _ _ _ (rw (c .before .next .given .1) at (c .before .before .before .before .before .leaf-node .ensures))
 
 abbrev node-list-Inv-loop : node-list-lts.InvT-loop
-node-list-Inv-loop text at features tree₀ slot next₀ end₀ count₀ tree next end count = Going features text at slot tree₀ next end count tree
+node-list-Inv-loop text at features tree₀ slot tally next₀ end₀ tree next end = Going features text at slot tally tree₀ next end tree
 
 abbrev node-list-μ-loop : node-list-lts.MeasureT-loop
-node-list-μ-loop text at features tree₀ slot next₀ end₀ count₀ tree next end count = length text - next
+node-list-μ-loop text at features tree₀ slot tally next₀ end₀ tree next end = length text - next
 
 node-list-whitespace-end-requires : (t : ℕ) → node-list-lts.Need-whitespace-end-requires (node-list-claims t) (node-list-at t) node-list.Post node-list-Inv-loop node-list-μ-loop
 node-list-whitespace-end-requires t c κs = c .before .before .pre .1 .inside
@@ -527,7 +514,7 @@ node-list-loop-holds t c =
     let s = c .before .before .before in
     let a = s .args in
     let pre = s .pre .1 in
-    going-start (a .features) (a .text .now) (a .at) (a .slot) (a .tree .now) (c .whitespace-end .result) (pre .inside) (c .whitespace-end .ensures)
+    going-start (a .features) (a .text .now) (a .at) (a .slot) (a .tally) (a .tree .now) (c .whitespace-end .result) (pre .inside) (c .whitespace-end .ensures)
 
 node-list-node-requires : (t : ℕ) → node-list-lts.Need-node-requires (node-list-claims t) (node-list-at t) node-list.Post node-list-Inv-loop node-list-μ-loop
 node-list-node-requires t c κs =
@@ -536,7 +523,12 @@ node-list-node-requires t c κs =
     let pre = s .pre .1 in
     let loop = c .before .loop in (
       omega (arith, s .pre .0, loop .inv .advances, loop .inv .inside),
-      record { inside = loop .inv .inside; short = pre .short; slots = omega (arith, loop .inv .slots, loop .inv .advances, pre .slots) },
+      record {
+        inside = loop .inv .inside;
+        short = pre .short;
+        slots = omega (arith, loop .inv .slots, loop .inv .advances, pre .slots);
+        tallies = omega (arith, loop .inv .advances, pre .tallies);
+      },
     )
 
 node-list-enum-known-after : (t : ℕ) → node-list-lts.Need-enum-known-after (node-list-claims t) (node-list-at t) node-list.Post node-list-Inv-loop node-list-μ-loop
@@ -551,57 +543,49 @@ node-list-returns t c =
     let a = s .args in
     let pre = s .pre .1 in
     let loop = c .before .before .before .before .before .before .loop in
-    list-ends (a .features) (a .text .now) (a .at) (a .slot) (a .tree .now) (loop .next) (loop .end) (loop .count) (loop .tree) _ (loop .inv) (rw (c .enum-told .given .1) at (c .before .before .before .before .node .ensures))
+    list-ends (a .features) (a .text .now) (a .at) (a .slot) (a .tally) (a .tree .now) (loop .next) (loop .end) (loop .tree) _ (loop .inv) (rw (c .enum-told .given .1) at (c .before .before .before .before .node .ensures))
 
 node-list-same-length : (t : ℕ) → node-list-lts.Need-same-length (node-list-claims t) (node-list-at t) node-list.Post node-list-Inv-loop node-list-μ-loop
 node-list-same-length t c = node-list-returns t c .wrote .kept .long
 
-node-list-sum-requires : (t : ℕ) → node-list-lts.Need-sum-requires (node-list-claims t) (node-list-at t) node-list.Post node-list-Inv-loop node-list-μ-loop
-node-list-sum-requires t c κs =
-    let took = c .before .after .given in
-    let read = rw (took .1) at (c .before .before .before .before .before .node .ensures) in
-    omega (arith, c .before .before .before .before .before .before .before .loop .inv .counts, read .counts)
-
 node-list-whitespace-end-requires-2 : (t : ℕ) → node-list-lts.Need-whitespace-end-requires-2 (node-list-claims t) (node-list-at t) node-list.Post node-list-Inv-loop node-list-μ-loop
 node-list-whitespace-end-requires-2 t c κs =
-    let took = c .before .before .after .given in
-    let read = rw (took .1) at (c .before .before .before .before .before .before .node .ensures) in
+    let took = c .before .after .given in
+    let read = rw (took .1) at (c .before .before .before .before .before .node .ensures) in
     read .inside
 
 node-list-returns-2 : (t : ℕ) → node-list-lts.Need-returns-2 (node-list-claims t) (node-list-at t) node-list.Post node-list-Inv-loop node-list-μ-loop
 node-list-returns-2 t c =
-    let s = c .before .before .before .before .before .before .before .before .before .before .before .before .before .before in
+    let s = c .before .before .before .before .before .before .before .before .before .before .before .before .before in
     let a = s .args in
     let pre = s .pre .1 in
-    let loop = c .before .before .before .before .before .before .before .before .before .before .loop in
-    let took = c .before .before .before .before .after .given in
-    let sums = c .before .before .sum in
-    let read = rw (took .1) at (c .before .before .before .before .before .before .before .before .node .ensures) in
-    rw (c .if1 .taken) (list-stops (a .features) (a .text .now) (a .at) (a .slot) (a .tree .now) (loop .next) (loop .end) (loop .count) (loop .tree) _ (loop .inv) (took .0 .0) (took .0 .1 .0) (took .0 .1 .1 .0) read (sums .result) (sums .ensures) (omega (arith, c .before .whitespace-end2 .ensures, c .if1 .taken)))
+    let loop = c .before .before .before .before .before .before .before .before .before .loop in
+    let took = c .before .before .before .after .given in
+    let read = rw (took .1) at (c .before .before .before .before .before .before .before .node .ensures) in
+    rw (c .if1 .taken) (list-stops (a .features) (a .text .now) (a .at) (a .slot) (a .tally) (a .tree .now) (loop .next) (loop .end) (loop .tree) _ (loop .inv) (took .0 .0) (took .0 .1 .0) read (omega (arith, c .before .whitespace-end2 .ensures, c .if1 .taken)))
 
 node-list-same-length-2 : (t : ℕ) → node-list-lts.Need-same-length-2 (node-list-claims t) (node-list-at t) node-list.Post node-list-Inv-loop node-list-μ-loop
 node-list-same-length-2 t c = node-list-returns-2 t c .wrote .kept .long
 
 node-list-loop-less : (t : ℕ) → node-list-lts.Need-loop-less (node-list-claims t) (node-list-at t) node-list.Post node-list-Inv-loop node-list-μ-loop
 node-list-loop-less t c =
-    let s = c .before .before .before .before .before .before .before .before .before .before .before .before .before .before in
+    let s = c .before .before .before .before .before .before .before .before .before .before .before .before .before in
     let a = s .args in
     let pre = s .pre .1 in
-    let loop = c .before .before .before .before .before .before .before .before .before .before .loop in
-    let took = c .before .before .before .before .after .given in
-    let read = rw (took .1) at (c .before .before .before .before .before .before .before .before .node .ensures) in
+    let loop = c .before .before .before .before .before .before .before .before .before .loop in
+    let took = c .before .before .before .after .given in
+    let read = rw (took .1) at (c .before .before .before .before .before .before .before .node .ensures) in
     omega (arith, c .before .whitespace-end2 .ensures, read .advances, read .inside, some-records (read .node))
 
 node-list-loop-again : (t : ℕ) → node-list-lts.Need-loop-again (node-list-claims t) (node-list-at t) node-list.Post node-list-Inv-loop node-list-μ-loop
 node-list-loop-again t c =
-    let s = c .before .before .before .before .before .before .before .before .before .before .before .before .before .before in
+    let s = c .before .before .before .before .before .before .before .before .before .before .before .before .before in
     let a = s .args in
     let pre = s .pre .1 in
-    let loop = c .before .before .before .before .before .before .before .before .before .before .loop in
-    let took = c .before .before .before .before .after .given in
-    let sums = c .before .before .sum in
-    let read = rw (took .1) at (c .before .before .before .before .before .before .before .before .node .ensures) in
-    going-on (a .features) (a .text .now) (a .at) (a .slot) (a .tree .now) (loop .next) (loop .end) (loop .count) (loop .tree) _ (loop .inv) (took .0 .0) (took .0 .1 .0) (took .0 .1 .1 .0) read (sums .result) (sums .ensures) (c .before .whitespace-end2 .result) (c .before .whitespace-end2 .ensures) (c .if1 .left)
+    let loop = c .before .before .before .before .before .before .before .before .before .loop in
+    let took = c .before .before .before .after .given in
+    let read = rw (took .1) at (c .before .before .before .before .before .before .before .node .ensures) in
+    going-on (a .features) (a .text .now) (a .at) (a .slot) (a .tally) (a .tree .now) (loop .next) (loop .end) (loop .tree) _ (loop .inv) (took .0 .0) (took .0 .1 .0) read (c .before .whitespace-end2 .result) (c .before .whitespace-end2 .ensures) (c .if1 .left)
 
 pub +any-group+binary-group+group+node+node-list-spec : {M : Type 1} → statement M
 +any-group+binary-group+group+node+node-list-spec =
@@ -619,13 +603,15 @@ pub +any-group+binary-group+group+node+node-list-spec : {M : Type 1} → stateme
     (λ t. binary-group-lts.spec (binary-group-claims t) (binary-group-at t) binary-group.Post
     (binary-group-add-node-list t)
     (binary-group-add-node-list-2 t)
+    (binary-group-add-node-list-3 t)
     (binary-group-node-list-requires t)
     (binary-group-binary-group-kind-requires t)
     (binary-group-enum-known-kind t)
     (binary-group-enum-told t)
     (binary-group-same-length t)
     (binary-group-returns t)
-    (binary-group-add-node-list-3 t)
+    (binary-group-add-node-list-4 t)
+    (binary-group-add-node-list-5 t)
     (binary-group-node-list-requires-2 t)
     (binary-group-close-requires t)
     (binary-group-enum-known-bits t)
@@ -637,8 +623,6 @@ pub +any-group+binary-group+group+node+node-list-spec : {M : Type 1} → stateme
     (binary-group-cast-first t)
     (binary-group-sub-second t)
     (binary-group-cast-second t)
-    (binary-group-binary-number-requires t)
-    (binary-group-of-group-requires t)
     (binary-group-binary-group-fields-requires t)
     (binary-group-put-record-requires t)
     (binary-group-same-length-3 t)
@@ -648,6 +632,7 @@ pub +any-group+binary-group+group+node+node-list-spec : {M : Type 1} → stateme
     (group-has-requires t)
     (group-add-node-list t)
     (group-add-node-list-2 t)
+    (group-add-node-list-3 t)
     (group-node-list-requires t)
     (group-close-requires t)
     (group-enum-known-bits t)
@@ -657,8 +642,6 @@ pub +any-group+binary-group+group+node+node-list-spec : {M : Type 1} → stateme
     (group-add-first t)
     (group-sub-first t)
     (group-cast-first t)
-    (group-group-number-requires t)
-    (group-of-group-requires t)
     (group-group-fields-requires t)
     (group-put-record-requires t)
     (group-same-length-2 t)
@@ -681,7 +664,6 @@ pub +any-group+binary-group+group+node+node-list-spec : {M : Type 1} → stateme
     (node-list-enum-told t)
     (node-list-same-length t)
     (node-list-returns t)
-    (node-list-sum-requires t)
     (node-list-whitespace-end-requires-2 t)
     (node-list-same-length-2 t)
     (node-list-returns-2 t)

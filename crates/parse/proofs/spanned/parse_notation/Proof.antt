@@ -52,7 +52,7 @@ returns-4 c =
     let nests = deep .before in
     let utf = nests .before .before in
     let a = utf .before .before .before .before .args in
-    not-notation (a .features) (a .text .now) (a .tree .now) (utf .before .if1 .left) (sym (utf .is-utf8 .ensures) ∙ not-false _ (nests .before .if2 .left)) (sym (nests .nesting-ok .ensures) ∙ not-false _ (deep .if3 .left)) _ (list .node-list .result .next) (list .node-list .result .slot) (list .node-list .result .count) (list .node-list .ensures) (c .if4 .taken)
+    not-notation (a .features) (a .text .now) (a .tree .now) (utf .before .if1 .left) (sym (utf .is-utf8 .ensures) ∙ not-false _ (nests .before .if2 .left)) (sym (nests .nesting-ok .ensures) ∙ not-false _ (deep .if3 .left)) _ (list .node-list .result .next) (list .node-list .result .slot) (list .node-list .ensures) (c .if4 .taken)
 
 mul-size : tie.Need-mul-size
 mul-size c = search needs
@@ -67,7 +67,7 @@ returns-5 c =
     let nests = deep .before in
     let utf = nests .before .before in
     let a = utf .before .before .before .before .args in
-    no-room (a .features) (a .text .now) (a .tree .now) (utf .before .if1 .left) (sym (utf .is-utf8 .ensures) ∙ not-false _ (nests .before .if2 .left)) (sym (nests .nesting-ok .ensures) ∙ not-false _ (deep .if3 .left)) _ (list .node-list .result .next) (list .node-list .result .slot) (list .node-list .result .count) (list .node-list .ensures) (c .before .before .if4 .left) (c .if5 .taken)
+    no-room (a .features) (a .text .now) (a .tree .now) (utf .before .if1 .left) (sym (utf .is-utf8 .ensures) ∙ not-false _ (nests .before .if2 .left)) (sym (nests .nesting-ok .ensures) ∙ not-false _ (deep .if3 .left)) _ (list .node-list .result .next) (list .node-list .result .slot) (list .node-list .ensures) (c .before .before .if4 .left) (c .if5 .taken)
 
 sub-node-list-2 : tie.Need-sub-node-list-2
 sub-node-list-2 c = search needs
@@ -92,8 +92,8 @@ returns-6 c =
     let utf = nests .before .before in
     let a = utf .before .before .before .before .args in
     let again = c .before .before in
-    wrote-tree (a .features) (a .text .now) (a .tree .now) (utf .before .if1 .left) (sym (utf .is-utf8 .ensures) ∙ not-false _ (nests .before .if2 .left)) (sym (nests .nesting-ok .ensures) ∙ not-false _ (deep .if3 .left)) _ (list .node-list .result .next) (list .node-list .result .slot) (list .node-list .result .count) (list .node-list .ensures) (again .before .before .before .before .if4 .left)
-    (again .before .before .if5 .left) _ (again .node-list2 .result .next) (again .node-list2 .result .slot) (again .node-list2 .result .count) (again .node-list2 .ensures)
+    wrote-tree (a .features) (a .text .now) (a .tree .now) (utf .before .if1 .left) (sym (utf .is-utf8 .ensures) ∙ not-false _ (nests .before .if2 .left)) (sym (nests .nesting-ok .ensures) ∙ not-false _ (deep .if3 .left)) _ (list .node-list .result .next) (list .node-list .result .slot) (list .node-list .ensures) (again .before .before .before .before .if4 .left)
+    (again .before .before .if5 .left) _ (again .node-list2 .result .next) (again .node-list2 .result .slot) (again .node-list2 .ensures)
 
 pub parse-notation-spec : {M : Type 1} → statement M
 parse-notation-spec =
