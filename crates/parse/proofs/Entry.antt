@@ -1,15 +1,17 @@
 -- The entry `parse_notation`: what each refusal and the accepted text answer. Assumes nothing.
 use Prim.Native.Nat.{ℕ, suc, _+_, _*_, _-_, _<_, _≤_}
-use mathlib.Core.Path.{_≡_, refl, sym, ap, _∙_}
+use mathlib.Core.Path.{_≡_, refl, sym, ap, ap₂, _∙_}
 use mathlib.Core.Bool.{true, false}
 use mathlib.Core.Option.{none, some}
 use mathlib.Core.List.{List, [], _∷_, _++_}
 use native.Mathlib.Omega.{arith}
 use borrow.Author.Tests.{le-leb, lt-leb}
-use borrow.Rule.Slice.PartMut.{midOf}
+use borrow.Rule.Slice.PartMut.{midOf, postOf, putMid, post-is}
 use lib.ListN.{length, drop, length-take, drop-of-length-le}
-use lib.Seq.{drop-cons, take-all}
+use lib.Seq.{drop-cons, take-all, take-at, drop-at}
 use Rattle.laws.proofs.Packing.{length-pack}
+use Rattle.laws.proofs.Parens.{parens-depth}
+use Rattle.laws.proofs.DemandThree.{tidy, tidy-fits}
 use Rattle.notation.specs.Utf8.{utf8}
 use Rattle.notation.specs.Tree.{Tree}
 use Rattle.notation.specs.Packed.{RECORD, pack}
@@ -17,7 +19,7 @@ use Rattle.notation.specs.Refusals.{Outcome, refusal, result, TOO-LONG, NOT-UTF
 use Rattle.notation.specs.Grammar.{read, nodeList, notation}
 use Rattle.notation.specs.Entries.{Lent, lend, MAX-TEXT, nestingOk, treeIn, reading, parseNotation}
 use Rattle.notation.specs.declared.features.Features.{Features}
-use Rattle.tally.specs.Tallies.{tallyList}
+use Rattle.tally.specs.Tallies.{tallyList, Tallied}
 use Rattle.tally.proofs.Sizes.{length-tallyList}
 use Rattle.parse.specs.Nodes.{ListRead}
 
@@ -116,5 +118,43 @@ module _ (f : Features) (text old : List ℕ) where
                   ∙ again .wrote .holds (omega (arith, room))
                   ∙ ap (tallyList 0) same
 
+              -- the part is the tree but for its counts, so that the pass fills them in,
+              tallied : Tallied (list .tree) part
+              tallied =
+                  let tree = tidy f text (list .tree) (record { short = short; isUtf8 = isUtf8; nests = nests; reads = a-tree ends }) in
+                  record { bytes = written; fits = tidy-fits tree; deep = omega (arith, parens-depth (list .tree), tree .nested) }
+
+              part-long : length part ≡ RECORD * end
+              part-long = again .wrote .kept .long ∙ room
+
+              part-again : midOf 0 (RECORD * end - 0) (putMid 0 (RECORD * end - 0) old part) ≡ part
+              part-again = take-at part (postOf 0 (RECORD * end - 0) old) (RECORD * end - 0) (omega (arith, part-long))
+
+              rest-again : postOf 0 (RECORD * end - 0) (putMid 0 (RECORD * end - 0) old part) ≡ drop (RECORD * end) old
+              rest-again = drop-at part (postOf 0 (RECORD * end - 0) old) (RECORD * end - 0) (omega (arith, part-long)) ∙ post-is 0 (RECORD * end) old (omega arith)
+
+              -- and then the rule's bytes stand there
+              filled : (done : List ℕ) → done ≡ pack (list .tree) → Answered (result (RECORD * end)) (putMid 0 (RECORD * end - 0) (putMid 0 (RECORD * end - 0) old part) done)
+              filled done e =
+                  let t = list .tree in
+                  let fitted : lend (result (pack t)) old ≡ answering (result (length (pack t))) (pack t ++ drop (length (pack t)) old)
+                  = rw (le-leb (length (pack t)) (length old) (omega (arith, bytes))) in
+                  ap₂ (λ (l r : List ℕ). answering (result (RECORD * end)) (l ++ r)) e rest-again
+                  ∙ ap (λ (n : ℕ). answering (result n) (pack t ++ drop n old)) (sym bytes)
+                  ∙ sym (lent ∙ fitted)
+
             pub no-room : length (after ++ old) < RECORD * end → Answered (refusal NO-ROOM) (after ++ old)
             no-room h = rw unchanged (full (rw unchanged at h))
+
+            -- the run that writes, over a part that the tree fills, and the pass over it
+            module _ (fits : RECORD * end ≤ length (after ++ old)) (part : List ℕ) (next₂ end₂ : ℕ)
+                (again : ListRead f text 0 0 0 (midOf 0 (RECORD * end - 0) (after ++ old)) part next₂ end₂) where
+              pub wrote-tallies : Tallied (list .tree) (midOf 0 (RECORD * end - 0) (putMid 0 (RECORD * end - 0) (after ++ old) part))
+              wrote-tallies =
+                  let fits′ = rw unchanged at fits in
+                  let again′ = rw unchanged at again in
+                  rw (unchanged, part-again fits′ part next₂ end₂ again′) (tallied fits′ part next₂ end₂ again′)
+
+              pub wrote-tree : (done : List ℕ) → ((t : Tree) → Tallied t (midOf 0 (RECORD * end - 0) (putMid 0 (RECORD * end - 0) (after ++ old) part)) → done ≡ pack t) →
+                  Answered (result (RECORD * end)) (putMid 0 (RECORD * end - 0) (putMid 0 (RECORD * end - 0) (after ++ old) part) done)
+              wrote-tree done e = rw unchanged (filled (rw unchanged at fits) part next₂ end₂ (rw unchanged at again) done (e (list .tree) wrote-tallies))

@@ -2,7 +2,7 @@
 use mathlib.Core.Path.{sym, _∙_}
 use borrow.Author.Needs.{needs}
 use borrow.Author.Tests.{not-true, not-false}
-use Rattle.parse.proofs.Entry.{too-long, not-utf8, too-nested, not-notation, no-room, wrote-tree}
+use Rattle.parse.proofs.Entry.{too-long, not-utf8, too-nested, not-notation, no-room, wrote-tallies, wrote-tree}
 use Rattle.parse.proofs.spanned.parse_notation.Statement.{statement}
 use Rattle.parse.proofs.spanned.parse_notation.Tie as tie
 
@@ -81,19 +81,40 @@ part-node-list-end-2 c = search needs
 node-list-requires-2 : tie.Need-node-list-requires-2
 node-list-requires-2 c κs = search needs
 
+-- the pass over what the second run wrote
+sub-fill-counts : tie.Need-sub-fill-counts
+sub-fill-counts c = search needs
+
+part-fill-counts-start : tie.Need-part-fill-counts-start
+part-fill-counts-start c = search needs
+
+part-fill-counts-end : tie.Need-part-fill-counts-end
+part-fill-counts-end c = search needs
+
+fill-counts-requires : tie.Need-fill-counts-requires
+fill-counts-requires c κs =
+    let list = c .before .before .before .before .before .before .before .before .before .before .before in
+    let deep = list .before .before in
+    let nests = deep .before in
+    let utf = nests .before .before in
+    let a = utf .before .before .before .before .args in
+    let again = c .before .before .before in
+    (list .node-list .ensures .tree, wrote-tallies (a .features) (a .text .now) (a .tree .now) (utf .before .if1 .left) (sym (utf .is-utf8 .ensures) ∙ not-false _ (nests .before .if2 .left)) (sym (nests .nesting-ok .ensures) ∙ not-false _ (deep .if3 .left)) _ (list .node-list .result .next) (list .node-list .result .slot) (list .node-list .ensures) (again .before .before .before .before .if4 .left)
+    (again .before .before .if5 .left) _ (again .node-list2 .result .next) (again .node-list2 .result .slot) (again .node-list2 .ensures))
+
 same-length-3 : tie.Need-same-length-3
 same-length-3 c = search needs
 
 returns-6 : tie.Need-returns-6
 returns-6 c =
-    let list = c .before .before .before .before .before .before .before .before .before .before in
+    let list = c .before .before .before .before .before .before .before .before .before .before .before .before .before .before in
     let deep = list .before .before in
     let nests = deep .before in
     let utf = nests .before .before in
     let a = utf .before .before .before .before .args in
-    let again = c .before .before in
+    let again = c .before .before .before .before .before .before in
     wrote-tree (a .features) (a .text .now) (a .tree .now) (utf .before .if1 .left) (sym (utf .is-utf8 .ensures) ∙ not-false _ (nests .before .if2 .left)) (sym (nests .nesting-ok .ensures) ∙ not-false _ (deep .if3 .left)) _ (list .node-list .result .next) (list .node-list .result .slot) (list .node-list .ensures) (again .before .before .before .before .if4 .left)
-    (again .before .before .if5 .left) _ (again .node-list2 .result .next) (again .node-list2 .result .slot) (again .node-list2 .ensures)
+    (again .before .before .if5 .left) _ (again .node-list2 .result .next) (again .node-list2 .result .slot) (again .node-list2 .ensures) _ (c .before .before .fill-counts .ensures)
 
 pub parse-notation-spec : {M : Type 1} → statement M
 parse-notation-spec =
@@ -117,5 +138,9 @@ parse-notation-spec =
     part-node-list-start-2
     part-node-list-end-2
     node-list-requires-2
+    sub-fill-counts
+    part-fill-counts-start
+    part-fill-counts-end
+    fill-counts-requires
     same-length-3
     returns-6)
