@@ -1,5 +1,5 @@
 // Step counts as records store them: a count above 4,294,967,295 is held at 4,294,967,296, and what is held stays held in sums and products.
-// Reading works them out by these functions, and refusal 6 holds the stored ones against them.
+// The pass that fills them in (crate `tally`) works by these functions, and refusal 6 holds the stored ones against them.
 ghost use mathlib.Core.Path.{_≡_};
 ghost use Prim.Native.Nat.{_+_, _^_, _≤_, _<_};
 ghost use Rattle.notation.specs.Numbers.{fromBits};

@@ -68,9 +68,6 @@ pub hold-binary : (k : BinaryGroupKind) (a b : ℕ) → hold (countBinary k (hol
 hold-binary Commutator a b = omega arith
 hold-binary Conjugate a b = omega arith
 
-pub hold-plus : (a b : ℕ) → hold (hold a + hold b) ≡ hold (a + b)
-hold-plus a b = omega arith
-
 -- The law of the field: whichever way the node is walked, it is the held length of the plain list. Where the node unrolls that is the unrolled list;
 -- where it does not, the list without what NISS groups hold, each step that cannot be undone still being one.
 pub stored-is : (n : Node Leaf) (d : Bool) → stored n ≡ hold (length (flatNode undo d n))

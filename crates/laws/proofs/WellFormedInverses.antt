@@ -151,7 +151,7 @@ mutual
       ∙ omega (arith, depth-last (deeplyNode n), deeplyNode-depth n, deeply-depth l)
 
 -- Step counts stay as they are, in both: the inverse of a node is as long.
-pub count-append : (a b : Tree) → count (append a b) ≡ count a + count b
+count-append : (a b : Tree) → count (append a b) ≡ count a + count b
 unfolding append count
 count-append nil b = omega arith
 count-append (cons n a) b = omega (arith, count-append a b)

@@ -204,7 +204,7 @@ pub fn move_fields(x: Move) -> Fields
     }
 }
 
-pub fn group_number(k: GroupKind) -> u8
+fn group_number(k: GroupKind) -> u8
     ensures { λ r. ⌜ r ≡ packed.groupNumber k ⌝ }
 {
     match k {
@@ -215,7 +215,7 @@ pub fn group_number(k: GroupKind) -> u8
     }
 }
 
-pub fn binary_number(k: BinaryGroupKind) -> u8
+fn binary_number(k: BinaryGroupKind) -> u8
     ensures { λ r. ⌜ r ≡ packed.binaryNumber k ⌝ }
 {
     match k {

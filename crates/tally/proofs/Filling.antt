@@ -1,10 +1,10 @@
 -- The loop of `fill_counts`: what its turns keep, and what is there at its end. Assumes nothing.
-use Prim.Native.Nat.{ℕ, zero, suc, _+_, _*_, _-_, _<_, _≤_}
+use Prim.Native.Nat.{ℕ, suc, _+_, _*_, _-_, _<_, _≤_}
 use mathlib.Core.Path.{_≡_, refl, sym, ap, ap₂, _∙_}
-use mathlib.Core.List.{List, [], _∷_, _++_}
+use mathlib.Core.List.{List, [], _++_}
 use native.Mathlib.Omega.{arith}
 use borrow.Rule.Slice.PartMut.{midOf, postOf, putMid, post-is, take-put, same-len-mid}
-use lib.ListN.{length, take, drop, length-take, length-drop, drop-of-length-le, take-append-drop}
+use lib.ListN.{length, take, drop, drop-of-length-le}
 use lib.Seq.{take-take, drop-drop, drop-at, take-add, length-take-le, length-sets}
 use Rattle.notation.specs.Tree.{Tree}
 use Rattle.notation.specs.Packed.{RECORD, widths, size, pack}
@@ -13,7 +13,7 @@ use Rattle.record.specs.Meaning.{start as fieldStart, withField}
 use Rattle.tally.specs.Tallies.{tallyList, Tallied, counted, added, Held, Open}
 use Rattle.tally.proofs.Sizes.{length-tallyList}
 use Rattle.tally.proofs.Passes.{Pass, start, step, passed, tree-passed, held-passed}
-use Rattle.tally.proofs.Room.{AllOpen, open-at, list-open}
+use Rattle.tally.proofs.Room.{open-at, list-open}
 
 -- `left` records are to be filled in and `filled` have been; what was there before is old
 pub record Filling (old new sums : List ℕ) (at : ℕ) : Type 0 where

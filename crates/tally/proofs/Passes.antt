@@ -9,7 +9,7 @@ use lib.Dec.{ltb}
 use lib.ListN.{length, getD, take, drop, set, replicate, length-set, length-drop, length-replicate}
 use lib.Seq.{take-all, take-append-le, drop-append-le, set-set, set-comm, set-getD, getD-set-same, getD-set-other}
 use Rattle.notation.specs.Tree.{Leaf, Node, leaf, block, Body, group, binaryGroup, nil, cons, Tree}
-use Rattle.notation.specs.Packed.{RECORD, leafHead, bodyHead, headRecord, nodeSize, bodySize, size, packNode, packBody, pack}
+use Rattle.notation.specs.Packed.{RECORD, bodyHead, headRecord, nodeSize, bodySize, size, packNode, packBody, pack}
 use Rattle.notation.specs.Counts.{HELD, hold, countNode, count, stored}
 use Rattle.notation.specs.Basics.{pick}
 use Rattle.notation.specs.WellFormed.{MAX-NESTING, nodeDepth, bodyDepth, depth}

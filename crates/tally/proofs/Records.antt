@@ -1,26 +1,23 @@
 -- A record with a tally in place of its count: its fields, and the record with the count. Assumes nothing.
 use Prim.Native.Nat.{ℕ, zero, suc, _+_, _/_, _%_, _^_, _<_}
-use mathlib.Core.Path.{_≡_, refl, sym, ap, _∙_}
+use mathlib.Core.Path.{_≡_, sym, ap, _∙_}
 use mathlib.Core.Bool.{true, false}
-use mathlib.Core.List.{List, [], _∷_, _++_, append-nil}
+use mathlib.Core.List.{List, [], append-nil}
 use native.Mathlib.Omega.{arith}
 use borrow.Author.Tests.{lt-ltb, le-ltb}
 use lib.Dec.{lit<, ltb}
 use lib.IntN.{ℤ}
-use lib.ListN.{length, getD, set, length-set}
+use lib.ListN.{getD, set, length-set}
 use lib.Seq.{take-all, set-set, set-getD, getD-set-same, getD-set-other}
-use Rattle.notation.specs.Numbers.{fromBits, toBits}
-use Rattle.notation.specs.Tree.{Leaf, Node, leaf, block, Body, group, binaryGroup, Tree}
+use Rattle.notation.specs.Numbers.{fromBits}
+use Rattle.notation.specs.Tree.{Leaf, Node, leaf, block, Body, group, binaryGroup}
 use Rattle.notation.specs.Packed.{RECORD, widths, layOut, cut, Head, leafHead, headFields, bodyHead, headRecord, groupNumber, binaryNumber}
 use Rattle.notation.specs.Counts.{hold, countNode, count, stored}
-use Rattle.notation.specs.declared.common.GroupKind.the-variants.{Simple, Macro, Simultaneous, Niss}
-use Rattle.notation.specs.declared.common.BinaryGroupKind.the-variants.{Commutator, Conjugate}
 use Rattle.counts.specs.Held.{groupCount}
 use Rattle.counts.proofs.Held.{group-stored, binary-stored}
 use Rattle.numbers.proofs.TwosComplement.{fromBits-toBits}
-use Rattle.laws.proofs.Packing.{FitsNode}
-use Rattle.laws.proofs.Walking.{nodeHead, node-head-fits, head-stored}
-use Rattle.nodes.proofs.Nodes.{leaf-kind}
+use Rattle.laws.proofs.Walking.{nodeHead, head-stored}
+use Rattle.nodes.proofs.Nodes.{leaf-kind, group-kind, binary-kind}
 use Rattle.record.specs.Meaning.{field, withField}
 use Rattle.record.specs.Range.{FitsHead}
 use Rattle.record.proofs.Cut.{Fits, none as no-field, one as and-field, cut-layOut}
@@ -60,12 +57,8 @@ secondCount (group k a) = 0
 secondCount (binaryGroup k a b) = count b
 
 body-kind : (b : Body Leaf) (m : ℤ) → kindOf (bodyHead b m) < 6
-body-kind (group Simple a) m = lit< tt
-body-kind (group Macro a) m = lit< tt
-body-kind (group Simultaneous a) m = lit< tt
-body-kind (group Niss a) m = lit< tt
-body-kind (binaryGroup Commutator a b) m = lit< tt
-body-kind (binaryGroup Conjugate a b) m = lit< tt
+body-kind (group k a) m = omega (arith, group-kind k)
+body-kind (binaryGroup k a b) m = binary-kind k .1
 
 by-body : (b : Body Leaf) (m : ℤ) → FitsHead (bodyHead b m) →
     groupCount (kindOf (bodyHead b m)) (fromBits 32 (getD (headFields (bodyHead b m)) 3 0)) (hold (firstCount b)) (hold (secondCount b)) ≡ stored (block b m)

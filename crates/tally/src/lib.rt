@@ -1,5 +1,6 @@
-// Step counts filled in from the end of a tree. Every list has a running sum, its tally; the lists that are open at a record have different ones, and until its
-// count is filled in, the field of the count holds the number of its list's tally.
+// Step counts filled in by one pass from the end of a tree. Going backwards, the records of a list are met before the group that it belongs to, so each list has a
+// running sum, its tally, until its group takes it. Lists that are open at one time have tallies of different numbers, and until a record's count is filled in, the
+// field holds the number of its list's tally: in `[R: U] F` the conjugate and F have 0, R has 2 and U has 1.
 ghost use mathlib.Core.Path.{_≡_};
 ghost use Prim.Native.Nat.{_+_, _/_, _≤_, _<_};
 ghost use lib.ListN.{length, getD, set};
@@ -17,16 +18,16 @@ use record::encode::LEAF;
 use record::fields;
 use record::kinds;
 
-// The tallies of a group's lists, counted from that of the list in which it stands. A list behind another one of its group is met first, so both are open where the
-// first one is.
+// The tallies of a group's lists, counted from that of the list in which the group stands. The second list is met first, and its sum waits while the first is added
+// up.
 pub const OF_FIRST: u64 = 2;
 
 pub const OF_SECOND: u64 = 1;
 
-// The tree's own list has tally 0.
+// Two for each level of nesting, and tally 0 for the tree's own list.
 const TALLIES: usize = 1 + 2 * MAX_NESTING;
 
-// Fills in the count of each record, from the last to the first.
+// Fills in the count of every record, from the last to the first.
 pub fn fill_counts(tree: &mut [u8])
     requires { ⌜ ((t : Tree) × tallies.Tallied t (now tree)) ⌝ }
     ensures { λ _. ⌜ ((t : Tree) → tallies.Tallied t (now (tree .entry)) → now (tree .exit) ≡ pack t) ⌝ }
@@ -39,7 +40,7 @@ pub fn fill_counts(tree: &mut [u8])
     }
 }
 
-// The count of a record, which is added to its list's tally too. One byte of the field holds a tally's number.
+// Fills in one record, the sums being those of what lies behind it, and adds its count to its list's tally. A tally's number is held by the last byte of the field.
 fn fill_count(t: &mut [u8], sums: &mut [u64; TALLIES])
     requires { ⌜ tallies.Open (now t) × tallies.Held (now sums) ⌝ }
     ensures { λ _. ⌜ now (t .exit) ≡ withField 11 (tallies.counted (now (t .entry)) (now (sums .entry))) (now (t .entry)) ⌝ }
@@ -56,7 +57,7 @@ fn fill_count(t: &mut [u8], sums: &mut [u64; TALLIES])
     }
 }
 
-// Of a group, whose lists lie behind it. They have been added up, and their tallies start anew.
+// The count of a group by the tallies of its lists, which are complete here and are free again for the lists of other groups.
 fn group_count(t: &[u8], tally: usize, sums: &mut [u64; TALLIES]) -> u64
     requires { ⌜ recordSize ≤ length (now t) ⌝ }
     requires { ⌜ tally + 2 < tallies.TALLIES ⌝ }
