@@ -1,4 +1,4 @@
-"""Stored vectors for the count that every record stores (document 02, request 2): what reading and both inverses write, and that a wrong one, in any record
+"""Stored vectors for the count that every record stores (document 02, requests 2 and 5): what reading and both inverses write, and that a wrong one, in any record
 at any depth, is refused 6 by every entry that takes a tree, before all other refusals of trees.
 
 The lines are those of reading_vectors.py and entry_vectors.py.
@@ -39,6 +39,16 @@ LARGE = (
     "(((R)65536)65536 ((U)65536)65536)", "(((R)65536)65536)2147483647", "((R)1048576)1048576", "((R)2147483647 ((R)1048576)1048576)", "((((R)65536)65536)65536)65536", "(((((R)65536)65536)65536)65536)65536", "(((R)2097152)2097152)4194304",
     "(((R)65536)65536 ((R)65536)65536 ((R)65536)65536 ((R)65536)65536)1073741824", "[((R)65536)65536, ((R)65536)65536]1073741824'", "[((R)65536)65536 ((R)65536)65536: ((R)65536)65536]1073741824",
     "((((R)2147483647)2147483647)2147483647)2147483647", "(()2147483647)2147483647", "((R)0)2147483647", "[((()2147483647)2147483647)2147483647, (R)0]2147483647",
+)
+# What a pass from the end could get wrong (request 5): several lists that end with one record, lists side by side and one after another, empty ones beside
+# others, held sums in front of others and behind them, and 64 levels by first lists, by second lists and by both in turns.
+PASSED = (
+    "(R (U (F (D)2)3)5)7", "R (U (F (D)2)3)5 L", "(((D)2 F)3 U)5 R", "[R: [U: [F: D]]]", "[[[R: U]: F]: D]", "[R, [U, [F, D]2]3]5", "[[[R, U]2, F]3, D]5", "[[R: U F]: [D: L B]]", "[[R U: F]2, [D L: B]3]5",
+    "(R)2 (U F)3 (D L B)5", "((R)2 (U F)3) ((D L B)5)", "[(R)2 (U F)3, (D)5 (L B)7]", "[(R)2 (U F)3: (D)5 (L B)7] (R)11", "[[R, U], [F, D]] [[R: U]: [F: D]]", "[() R, U ()2] [()3: R] [R: ()5]", "[[,]2: R] [R, [:]3] ([,] R [:])7",
+    "((R)65536)65536 U", "U ((R)65536)65536", "(((R)65536)65536 U)", "(U ((R)65536)65536)", "(((R)65536)65536 ((U)65536)65536 F)0 D", "(D (((R)65536)65536)0 F)2", "[((R)65536)65536 U: F]0 D", "[U: F ((R)65536)65536] D",
+    "[(((R)65536)65536)0 U, (((R)65536)65536)0 F]2", "(R)2147483647 (R)2147483647 (R)2147483647", "((R)2147483647 U (R)2147483647)", "(U (R)2147483647 (R)2147483647)",
+    "[R: " * 32 + "[" * 32 + "U" + ", F]2" * 32 + "]3" * 32, "[" * 32 + "[R, " * 32 + "U" + "]2" * 32 + ": F]3" * 32, "[R [" * 32 + "U" + ": F] D: L]" * 32, "[" * 63 + "R U" + ": F (D)2]" * 63, "[R (U)2, " * 63 + "F" + "]" * 63,
+    "(R " * 64 + ") U" * 64, "(" * 64 + ")" * 64 + " " + "(" * 64 + "R" + ")" * 64, "[" * 64 + ",]" + ":]" * 63, "([" * 32 + "R" + ": U] F)" * 32,
 )
 # Counts that are wrong in a plausible way: a text, and of some of its records the count stored instead.
 CHOSEN = (
@@ -97,6 +107,44 @@ def written():
                 yield line_of(SEEK, text, number=place)
 
 
+REPEATS = ("", "2", "3'", "5", "7", "0", "11'", "13")
+
+
+def lists_of(records, first=0):
+    """Every list of so many records, a group's own among them; the repeats of groups take turns, so that each sum tells which lists went into it."""
+    if records == 0:
+        yield ""
+        return
+    for own in range(1, records + 1):
+        for node in nodes_of(own, first):
+            for rest in lists_of(records - own, first + own):
+                yield f"{node} {rest}".rstrip()
+
+
+def nodes_of(records, first):
+    """Every leaf, group, commutator and conjugate of so many records, the one in front with this number."""
+    if records == 1:
+        yield "RUFDLB"[first % 6]
+    times = REPEATS[first % len(REPEATS)]
+    for inside in lists_of(records - 1, first + 1):
+        yield f"({inside}){times}"
+    for left in range(records):
+        for a in lists_of(left, first + 1):
+            for b in lists_of(records - 1 - left, first + 1 + left):
+                yield f"[{a}, {b}]{times}"
+                yield f"[{a}: {b}]{times}"
+
+
+def passed():
+    """Reading alone, on the texts above, on all trees of up to three records, and on every 11th of four."""
+    small = [text for records in range(4) for text in lists_of(records)]
+    for text in (*PASSED, *small, *list(lists_of(4))[::11]):
+        data = text.encode()
+        said, room = answer(MAX, data, None)
+        assert said.startswith("read "), text
+        yield f"r{MAX:02x}{room:06x}{spelled(data)}", said
+
+
 def sought():
     """Every place where groups are passed over by their counts, 0 among them, and about the borders of large ones."""
     for text in ("(R)3 [U, F]2 ()5 (D)0 (L)2' B", "((()5 R (U)0)3 [(F)2, (L)0])2'", "[(R)2: (U F)2' ()]3'", "(^(R)5)0 U ([^(F), D]0 L)2", "(((R)65536)65536)0 U [(((F)65536)65536)0: D]"):
@@ -152,5 +200,5 @@ def order():
 
 def lines():
     """Each case with its answer."""
-    for group in (written, sought, chosen, every_record, order):
+    for group in (written, passed, sought, chosen, every_record, order):
         yield from group()
