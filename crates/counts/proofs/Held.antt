@@ -1,10 +1,13 @@
 -- What `of_group` computes is what the group's record stores. Assumes nothing.
-use Prim.Native.Nat.{ℕ, _*_, _^_, _<_, _≤_}
+use Prim.Native.Nat.{ℕ, _+_, _*_, _^_, _<_, _≤_}
 use mathlib.Core.Path.{_≡_, sym, ap, _∙_}
+use mathlib.Core.Bool.{Bool, true, false}
 use native.Mathlib.Nat.{zero-mul, mul-le-mul}
 use native.Mathlib.Omega.{arith}
 use borrow.Author.Tests.{eq-eqb, ne-eqb}
+use lib.Dec.{eqb}
 use lib.IntN.{ℤ, natAbs}
+use Rattle.notation.specs.Basics.{pick}
 use Rattle.notation.specs.Tree.{Tree, block, group, binaryGroup}
 use Rattle.notation.specs.Packed.{groupNumber, binaryNumber}
 use Rattle.notation.specs.Counts.{HELD, hold, countBinary, countNode, countBody, count, stored}
@@ -41,16 +44,31 @@ product-fits a b h k =
     let e : a * b ≤ 4294967295 * HELD = mul-le-mul l k in
     omega arith
 
+-- each list is played twice at most
+pub twice-at-most : (n a : ℕ) → n ≤ 2 → a ≤ HELD → n * a ≤ 2 * HELD
+twice-at-most n a h k = mul-le-mul h k
+
+pub inside-commutator : (kind a b : ℕ) → kind ≡ 4 → countBinary Commutator a b ≡ inside kind a b
+inside-commutator kind a b e = rw (eq-eqb kind 4 e)
+
+pub inside-conjugate : (kind a b : ℕ) → kind ≡ 5 → countBinary Conjugate a b ≡ inside kind a b
+inside-conjugate kind a b e = rw e
+
+pub inside-one : (kind a b : ℕ) → (kind ≡ 4 → ⊥) → (kind ≡ 5 → ⊥) → a ≡ inside kind a b
+inside-one kind a b n n′ = rw (ne-eqb kind 4 n, ne-eqb kind 5 n′)
+
+-- the contents once, by how often each list is played
+pub inside-is : (kind a b : ℕ) → inside kind 1 0 * a + inside kind 0 1 * b ≡ inside kind a b
+inside-is kind a b = go (eqb kind 4) (eqb kind 5)
+  where
+    go : (p q : Bool) →
+        pick p (countBinary Commutator 1 0) (pick q (countBinary Conjugate 1 0) 1) * a + pick p (countBinary Commutator 0 1) (pick q (countBinary Conjugate 0 1) 0) * b
+        ≡ pick p (countBinary Commutator a b) (pick q (countBinary Conjugate a b) a)
+    go true q = omega arith
+    go false true = omega arith
+    go false false = omega arith
+
 module _ (kind a b : ℕ) where
-  pub inside-commutator : kind ≡ 4 → countBinary Commutator a b ≡ inside kind a b
-  inside-commutator e = rw (eq-eqb kind 4 e)
-
-  pub inside-conjugate : kind ≡ 5 → countBinary Conjugate a b ≡ inside kind a b
-  inside-conjugate e = rw e
-
-  pub inside-one : (kind ≡ 4 → ⊥) → (kind ≡ 5 → ⊥) → a ≡ inside kind a b
-  inside-one n n′ = rw (ne-eqb kind 4 n, ne-eqb kind 5 n′)
-
   pub none-niss : (m : ℤ) → kind ≡ 3 → 0 ≡ groupCount kind m a b
   none-niss m e = rw e
 

@@ -29,18 +29,33 @@ pub fn of_group(kind: u8, multiplier: u32, a: u64, b: u64) -> u64
     hold(magnitude(multiplier) as u64 * inside(kind, a, b))
 }
 
-// Of the contents once: A B A' B' of a commutator, A B A' of a conjugate.
+// Of the contents once. Kinds follow each other in no order that the machine could guess, so they choose numbers and not ways.
 fn inside(kind: u8, a: u64, b: u64) -> u64
     requires { ⌜ (a ≤ rule.HELD) × (b ≤ rule.HELD) ⌝ }
     ensures { λ r. ⌜ r ≡ rule.hold (insideOf kind a b) ⌝ }
 {
-    if kind == kinds::COMMUTATOR {
-        return hold(2 * (a + b));
+    hold(times_first(kind) * a + times_second(kind) * b)
+}
+
+// How often each list is played: A B A' B' in a commutator, A B A' in a conjugate.
+fn times_first(kind: u8) -> u64
+    ensures { λ r. ⌜ (r ≡ insideOf kind 1 0) × (r ≤ 2) ⌝ }
+{
+    match kind {
+        kinds::COMMUTATOR => 2,
+        kinds::CONJUGATE => 2,
+        _ => 1,
     }
-    if kind == kinds::CONJUGATE {
-        return hold(2 * a + b);
+}
+
+fn times_second(kind: u8) -> u64
+    ensures { λ r. ⌜ (r ≡ insideOf kind 0 1) × (r ≤ 2) ⌝ }
+{
+    match kind {
+        kinds::COMMUTATOR => 2,
+        kinds::CONJUGATE => 1,
+        _ => 0,
     }
-    a
 }
 
 // Of any sum or product that has room.
