@@ -1,6 +1,6 @@
 -- What the readers of groups return. Assumes nothing.
-use Prim.Native.Nat.{ℕ, _+_, _*_, _-_, _≤_}
-use mathlib.Core.Path.{_≡_}
+use Prim.Native.Nat.{ℕ, _+_, _*_, _%_, _-_, _≤_}
+use mathlib.Core.Path.{_≡_, ap}
 use mathlib.Core.Bool.{true, false}
 use mathlib.Core.List.{List, _++_}
 use native.Mathlib.Omega.{arith}
@@ -26,8 +26,8 @@ inner-kept : (slot : ℕ) (xs old mid : List ℕ) → Wrote (RECORD * (slot + 1)
 inner-kept slot xs old mid w = kept-less (RECORD * slot) (RECORD * (slot + 1)) old mid (omega arith) (w .kept)
 
 -- a group's record, written by its fields, before those of its lists
-outer : (slot tally : ℕ) (fs : List ℕ) (h : Head) → fs ≡ set (headFields h) 11 tally → (xs old mid : List ℕ) → Wrote (RECORD * (slot + 1)) xs old mid →
-    Wrote (RECORD * slot) (tallyRecord tally h ++ xs) old (put (RECORD * slot) (layOut widths fs) mid)
+outer : (slot tally : ℕ) (fs : List ℕ) (h : Head) → set fs 11 (tally % 256) ≡ set (headFields h) 11 (tally % 256) → (xs old mid : List ℕ) → Wrote (RECORD * (slot + 1)) xs old mid →
+    Wrote (RECORD * slot) (tallyRecord tally h ++ xs) old (put (RECORD * slot) (layOut widths (set fs 11 (tally % 256))) mid)
 outer slot tally fs h e xs old mid w =
     rw e (header (RECORD * slot) (RECORD * (slot + 1)) (tallyRecord tally h) xs old mid (omega (arith, length-tallyRecord tally h)) w)
 
@@ -52,9 +52,9 @@ module _ (f : Features) (text : List ℕ) (at slot tally : ℕ) (old : List ℕ)
             kept = inner-kept slot (tallyList (tally + 2) (list .tree)) old mid (list .wrote);
           }
 
-      pub closed-group : (bits next : ℕ) (fs : List ℕ) → fs ≡ headFields (groupHead kind (end - (slot + 1)) (fromBits 32 bits) tally) →
+      pub closed-group : (bits next : ℕ) (fs : List ℕ) → fs ≡ headFields (groupHead kind (end - (slot + 1)) (fromBits 32 bits) 0) →
           CloseRead text close 41 bits next →
-          NodeRead (λ k. repeated (groupNode (nodeList f k))) text at slot tally old (put (RECORD * slot) (layOut widths fs) mid) next end
+          NodeRead (λ k. repeated (groupNode (nodeList f k))) text at slot tally old (put (RECORD * slot) (layOut widths (set fs 11 (tally % 256))) mid) next end
       unfolding nodeSize bodySize tallyNode tallyBody
       closed-group bits next fs laid closes =
           let m = fromBits 32 bits in
@@ -66,7 +66,7 @@ module _ (f : Features) (text : List ℕ) (at slot tally : ℕ) (old : List ℕ)
             slots = omega (arith, list .slots);
             advances = omega (arith, list .advances, closes .advances);
             inside = closes .inside;
-            wrote = outer slot tally fs (bodyHead (group kind (list .tree)) m) (rw records at laid) (tallyList (tally + 2) (list .tree)) old mid (list .wrote);
+            wrote = outer slot tally fs (bodyHead (group kind (list .tree)) m) (ap (λ (l : List ℕ). set l 11 (tally % 256)) (rw records at laid)) (tallyList (tally + 2) (list .tree)) old mid (list .wrote);
           }
 
   module _ (opens : eqb (byteAt text at) 91 ≡ true) (mid : List ℕ) (sign middle : ℕ)
@@ -98,9 +98,9 @@ module _ (f : Features) (text : List ℕ) (at slot tally : ℕ) (old : List ℕ)
             kept = inner-kept slot (tallyList (tally + 2) (a .tree) ++ tallyList (tally + 1) (b .tree)) old last both;
           }
 
-      pub closed-binary : (bits next : ℕ) (fs : List ℕ) → fs ≡ headFields (binaryHead kind (middle - (slot + 1)) (end - middle) (fromBits 32 bits) tally) →
+      pub closed-binary : (bits next : ℕ) (fs : List ℕ) → fs ≡ headFields (binaryHead kind (middle - (slot + 1)) (end - middle) (fromBits 32 bits) 0) →
           CloseRead text close 93 bits next →
-          NodeRead (λ k. repeated (binaryGroupNode (nodeList f k))) text at slot tally old (put (RECORD * slot) (layOut widths fs) last) next end
+          NodeRead (λ k. repeated (binaryGroupNode (nodeList f k))) text at slot tally old (put (RECORD * slot) (layOut widths (set fs 11 (tally % 256))) last) next end
       unfolding nodeSize bodySize tallyNode tallyBody
       closed-binary bits next fs laid closes =
           let m = fromBits 32 bits in
@@ -113,5 +113,5 @@ module _ (f : Features) (text : List ℕ) (at slot tally : ℕ) (old : List ℕ)
             slots = omega (arith, a .slots, b .slots);
             advances = omega (arith, a .advances, b .advances, closes .advances);
             inside = closes .inside;
-            wrote = outer slot tally fs (bodyHead (binaryGroup kind (a .tree) (b .tree)) m) (rw (left, right) at laid) (tallyList (tally + 2) (a .tree) ++ tallyList (tally + 1) (b .tree)) old last both;
+            wrote = outer slot tally fs (bodyHead (binaryGroup kind (a .tree) (b .tree)) m) (ap (λ (l : List ℕ). set l 11 (tally % 256)) (rw (left, right) at laid)) (tallyList (tally + 2) (a .tree) ++ tallyList (tally + 1) (b .tree)) old last both;
           }

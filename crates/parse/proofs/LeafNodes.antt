@@ -1,5 +1,5 @@
 -- What is read without a list is a leaf, of which the record says all. Assumes nothing.
-use Prim.Native.Nat.{ℕ, _+_, _*_, _<_, _≤_}
+use Prim.Native.Nat.{ℕ, _+_, _*_, _%_, _<_, _≤_}
 use mathlib.Core.Path.{_≡_, refl}
 use mathlib.Core.Bool.{Bool, true, false}
 use mathlib.Core.List.{List}
@@ -94,11 +94,11 @@ module _ (f : Features) (text : List ℕ) (at slot : ℕ) (old : List ℕ) where
 
   pub leaf-read : (tally : ℕ) (fs : List ℕ) (next : ℕ) → read fs next (drop next text) ≡ andThen (node f fail at (drop at text)) (λ n. done (nodeFields n)) →
       at < next → next ≤ length text →
-      NodeRead (λ _. node f fail) text at slot tally old (put (RECORD * slot) (layOut widths (set fs 11 tally)) old) next (slot + 1)
+      NodeRead (λ _. node f fail) text at slot tally old (put (RECORD * slot) (layOut widths (set fs 11 (tally % 256))) old) next (slot + 1)
   unfolding nodeSize tallyNode
   leaf-read tally fs next e l i = go (leaf-of (node f fail at (drop at text)) fs next (drop next text) (node-leaf f at (drop at text)) e) where
     go : (x : Leaf) × (node f fail at (drop at text) ≡ read (leaf x) next (drop next text)) × (leafFields x ≡ fs) →
-        NodeRead (λ _. node f fail) text at slot tally old (put (RECORD * slot) (layOut widths (set fs 11 tally)) old) next (slot + 1)
+        NodeRead (λ _. node f fail) text at slot tally old (put (RECORD * slot) (layOut widths (set fs 11 (tally % 256))) old) next (slot + 1)
     go (x, r, is) =
         record {
           node = leaf x;
@@ -106,5 +106,5 @@ module _ (f : Features) (text : List ℕ) (at slot : ℕ) (old : List ℕ) where
           slots = refl;
           advances = omega arith;
           inside = i;
-          wrote = rw is (put-wrote (RECORD * slot) (layOut widths (set fs 11 tally)) old);
+          wrote = rw is (put-wrote (RECORD * slot) (layOut widths (set fs 11 (tally % 256))) old);
         }

@@ -2,8 +2,8 @@
 // from the start of the tree. A record is written only where the buffer has its slot: over an empty buffer a run only measures. In the field of
 // the step count it gets the tally of its list, by which the count is filled in once all records stand (crate `tally`).
 ghost use mathlib.Core.Path.{_≡_};
-ghost use Prim.Native.Nat.{_+_, _*_, _≤_, _<_};
-ghost use lib.ListN.{length, drop, getD};
+ghost use Prim.Native.Nat.{_+_, _*_, _%_, _≤_, _<_};
+ghost use lib.ListN.{length, drop, getD, set};
 ghost use Rattle.notation.specs.Grammar as rule;
 ghost use Rattle.notation.specs.Packed as packed;
 ghost use Rattle.record.specs.Meaning.{listed};
@@ -72,14 +72,17 @@ fn binary_group_kind(text: &[u8], at: usize) -> BinaryKind
     BinaryKind::Nothing
 }
 
-fn put_record(tree: &mut [u8], slot: usize, f: Fields)
+// A record with the number of its list's tally where the count will stand. The number is below 256; said here, it spares three stores.
+fn put_record(tree: &mut [u8], slot: usize, f: Fields, tally: u64)
     requires { ⌜ slot ≤ 65535 ⌝ }
-    ensures { λ _. ⌜ now (tree .exit) ≡ nodes.put (packed.RECORD * slot) (packed.layOut packed.widths (listed f)) (now (tree .entry)) ⌝ }
+    ensures { λ _. ⌜ now (tree .exit) ≡ nodes.put (packed.RECORD * slot) (packed.layOut packed.widths (set (listed f) 11 (tally % 256))) (now (tree .entry)) ⌝ }
 {
     let at = RECORD * slot;
     let end = at + RECORD;
     if end <= tree.len() {
-        put(&mut tree[at..end], f);
+        let mut g = f;
+        g.count = tally % 256;
+        put(&mut tree[at..end], g);
     }
 }
 
@@ -95,12 +98,10 @@ fn leaf_node(
     requires { ⌜ nodes.Within (now text) at slot tally ⌝ }
     ensures { λ r. ⌜ nodes.Told (λ _. rule.node features rule.fail) (now (text .entry)) at slot tally (now (tree .entry)) (now (tree .exit)) r ⌝ }
 {
-    let LeafAnswer::Took(leaf, next) = leaf(text, at, features) else {
+    let LeafAnswer::Took(f, next) = leaf(text, at, features) else {
         return NodeAnswer::Nothing;
     };
-    let mut f = leaf;
-    f.count = tally;
-    put_record(tree, slot, f);
+    put_record(tree, slot, f, tally);
     NodeAnswer::Took(next, slot + 1)
 }
 
@@ -184,7 +185,7 @@ fn group(
             return NodeAnswer::Nothing;
         };
         let first = (list.slot - (slot + 1)) as u16;
-        put_record(tree, slot, group_fields(kind, first, bits, tally));
+        put_record(tree, slot, group_fields(kind, first, bits, 0), tally);
         NodeAnswer::Took(next, list.slot)
     } else {
         NodeAnswer::Nothing
@@ -213,6 +214,6 @@ fn binary_group(
     };
     let first = (a.slot - (slot + 1)) as u16;
     let second = (b.slot - a.slot) as u16;
-    put_record(tree, slot, binary_group_fields(kind, first, second, bits, tally));
+    put_record(tree, slot, binary_group_fields(kind, first, second, bits, 0), tally);
     NodeAnswer::Took(next, b.slot)
 }

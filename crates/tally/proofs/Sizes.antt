@@ -1,5 +1,5 @@
 -- A tree with tallies in place of its counts takes as many bytes as a packed one. Assumes nothing.
-use Prim.Native.Nat.{ℕ, _+_, _*_}
+use Prim.Native.Nat.{ℕ, _+_, _*_, _%_}
 use mathlib.Core.Path.{_≡_, refl, _∙_}
 use native.Mathlib.Omega.{arith}
 use lib.ListN.{length, set, length-append, length-set}
@@ -10,7 +10,7 @@ use Rattle.record.proofs.RoundTrip.{length-headFields}
 use Rattle.tally.specs.Tallies.{tallyRecord, tallyNode, tallyBody, tallyList}
 
 pub length-tallyRecord : (h : ℕ) (x : Head) → length (tallyRecord h x) ≡ RECORD
-length-tallyRecord h x = length-layOut widths (set (headFields x) 11 h) (length-set (headFields x) 11 h ∙ length-headFields x)
+length-tallyRecord h x = length-layOut widths (set (headFields x) 11 (h % 256)) (length-set (headFields x) 11 (h % 256) ∙ length-headFields x)
 
 mutual
   unfolding nodeSize bodySize size tallyNode tallyBody tallyList

@@ -14,9 +14,9 @@ use Rattle.laws.proofs.Packing.{FitsTree}
 use Rattle.record.specs.Meaning.{field}
 use Rattle.counts.specs.Held.{groupCount}
 
--- A record with the number of its list's tally in place of its count.
+-- A record with the number of its list's tally in place of its count: one byte, which suffices for 64 levels.
 abbrev pub tallyRecord : ℕ → Head → List ℕ
-tallyRecord h x = layOut widths (set (headFields x) 11 h)
+tallyRecord h x = layOut widths (set (headFields x) 11 (h % 256))
 
 -- The lists that are open at one record have different tallies: of a group in a list with tally h the first list has h + 2, the second h + 1.
 unfoldable mutual

@@ -8,8 +8,8 @@ use Rattle.parse.proofs.nodes.leaf_node.Tie as tie
 leaf-requires : tie.Need-leaf-requires
 leaf-requires c κs = search needs
 
-enum-known-leaf : tie.Need-enum-known-leaf
-enum-known-leaf c = search needs
+enum-known-f : tie.Need-enum-known-f
+enum-known-f c = search needs
 
 enum-told : tie.Need-enum-told
 enum-told c = search needs
@@ -22,8 +22,8 @@ returns c =
 put-record-requires : tie.Need-put-record-requires
 put-record-requires c κs = search needs
 
-add-t14 : tie.Need-add-t14
-add-t14 c = search needs
+add-t13 : tie.Need-add-t13
+add-t13 c = search needs
 
 same-length : tie.Need-same-length
 same-length c = search needs
@@ -31,7 +31,7 @@ same-length c = search needs
 returns-2 : tie.Need-returns-2
 returns-2 c =
     let a = c .before .before .before .before .before .before .before .before .before .before .args in
-    let took = c .before .before .before .before .before .leaf2 .given in
+    let took = c .before .before .before .before .before .f .given in
     let leaf = c .before .before .before .before .before .before .before .leaf in
     let ends = rw (took .1) at (leaf .ensures .1) in
     rw (c .before .before .put-record .ensures)
@@ -42,10 +42,10 @@ leaf-node-spec =
     tie.close
     (tie.spec
     leaf-requires
-    enum-known-leaf
+    enum-known-f
     enum-told
     returns
     put-record-requires
-    add-t14
+    add-t13
     same-length
     returns-2)

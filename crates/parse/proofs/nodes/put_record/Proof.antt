@@ -1,10 +1,11 @@
 -- `nodes::put_record` meets its contract. Assumes nothing.
 use mathlib.Core.Path.{refl, ap, _∙_}
 use mathlib.Core.List.{List}
-use Prim.Native.Nat.{ℕ, _+_, _-_, _*_}
+use Prim.Native.Nat.{ℕ, _+_, _-_, _*_, _%_}
 use native.Mathlib.Omega.{arith}
 use borrow.Author.Needs.{needs}
 use borrow.Rule.Slice.PartMut.{putMid}
+use lib.ListN.{set}
 use Rattle.record.proofs.Cut.{length-layOut}
 use Rattle.record.specs.Meaning.{listed}
 use Rattle.parse.proofs.Buffers.{put-part, put-full}
@@ -38,13 +39,15 @@ returns c =
     let a = c .before .before .before .before .before .before .args in
     let at = RECORD * a .slot in
     let old = a .tree .now in
+    let fs = set (listed (a .f)) 11 (a .tally % 256) in
     ap (λ (l : List ℕ). putMid at (at + RECORD - at) old l) (c .before .before .put .ensures)
-    ∙ put-part at (at + RECORD) RECORD (layOut widths (listed (a .f))) old (length-layOut widths (listed (a .f)) refl) refl (search needs)
+    ∙ put-part at (at + RECORD) RECORD (layOut widths fs) old (length-layOut widths fs refl) refl (search needs)
 
 returns-2 : tie.Need-returns-2
 returns-2 c =
     let a = c .before .before .args in
-    put-full (RECORD * a .slot) (layOut widths (listed (a .f))) (a .tree .now) (omega (arith, length-layOut widths (listed (a .f)) refl, c .if1 .left))
+    let fs = set (listed (a .f)) 11 (a .tally % 256) in
+    put-full (RECORD * a .slot) (layOut widths fs) (a .tree .now) (omega (arith, length-layOut widths fs refl, c .if1 .left))
 
 pub put-record-spec : {M : Type 1} → statement M
 put-record-spec =
