@@ -10,7 +10,7 @@ use Rattle.notation.specs.Packed.{RECORD, layOut, cut}
 use Rattle.notation.specs.declared.common.BinaryGroupKind.the-variants.{Conjugate}
 use Rattle.record.specs.Meaning.{field}
 use Rattle.tally.specs.Tallies.{tallyNode, tallyBody, tallyList}
-use Rattle.tally.proofs.Passes.{Pass, start, passed}
+use Rattle.tally.proofs.Passes.{start, passed}
 
 abbrev written : Tree
 written = cons (block (binaryGroup Conjugate (cons (leaf slash) nil) (cons (leaf pause) nil)) (pos 2)) (cons (leaf slash) nil)
