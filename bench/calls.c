@@ -1,11 +1,21 @@
 /* One call of one C function on a text from standard input, for callgrind to count: calls OPERATION. What is counted is the function `measured`
  * (--toggle-collect=measured); reading the tree and lending the buffer are outside. Operations as in main.rs, and `check`: all that a call does
- * before it looks at anything but text and tree (the family of a record that is not there). */
+ * before it looks at anything but text and tree (the family of a record that is not there).
+ * calls OPERATION CALLS times as many calls, twelve times, and prints the least: nanoseconds of a call. PAD bytes of code stand before the library's,
+ * which so lies elsewhere (placements.py). */
+#define _POSIX_C_SOURCE 199309L
 #include "hypuz_notation.h"
 
 #include <stdio.h>
 #include <stdlib.h>
 #include <string.h>
+#include <time.h>
+
+#ifdef PAD
+#define TEXT_OF(n) #n
+#define SKIP(n) ".text\n.skip " TEXT_OF(n) ", 0x90\n"
+__asm__(SKIP(PAD));
+#endif
 
 enum { MAX_TEXT = 65535 };
 
@@ -50,8 +60,26 @@ static uint64_t middle(const struct call *c) {
     return k;
 }
 
+static double now(void) {
+    struct timespec t;
+    clock_gettime(CLOCK_MONOTONIC, &t);
+    return (double)t.tv_sec * 1e9 + (double)t.tv_nsec;
+}
+
+/* Nanoseconds of a call, the least of twelve rounds. */
+static double timed(enum which which, function *write, const struct call *c, int calls) {
+    double least = 0;
+    for (int round = 0; round < 12; round++) {
+        double start = now();
+        for (int k = 0; k < calls; k++) measured(which, write, c);
+        double each = (now() - start) / calls;
+        if (round == 0 || each < least) least = each;
+    }
+    return least;
+}
+
 int main(int argc, char **argv) {
-    if (argc != 2) return 2;
+    if (argc != 2 && argc != 3) return 2;
     static uint8_t text[MAX_TEXT + 1], tree[MAX_TEXT * HYPUZ_RECORD];
     struct call c = {.operation = argv[1], .text = text, .tree = tree};
     c.text_size = fread(text, 1, sizeof text, stdin);
@@ -69,7 +97,8 @@ int main(int argc, char **argv) {
     enum which which = is(&c, "read") ? READ : is(&c, "check") ? CHECK : is(&c, "count") ? COUNT : is(&c, "ranges") ? RANGES : write ? WRITE : SEEK;
     a = measured(which, write, &c);
     if (hypuz_refusal(a) || (which == CHECK && a)) return 5;
-    printf("%zu %llu\n", c.tree_size / HYPUZ_RECORD, (unsigned long long)n);
+    if (argc == 3) printf("%.1f\n", timed(which, write, &c, atoi(argv[2])));
+    else printf("%zu %llu\n", c.tree_size / HYPUZ_RECORD, (unsigned long long)n);
     free(c.out);
     return 0;
 }
