@@ -1,5 +1,5 @@
 -- What a node is, by the fields of its record, and how many steps it has. Assumes nothing.
-use Prim.Native.Nat.{ℕ, zero, suc, _*_, _/_, _≤_, _<_}
+use Prim.Native.Nat.{ℕ, zero, suc, _+_, _*_, _/_, _≤_, _<_}
 use mathlib.Core.Path.{_≡_, refl, sym, ap, _∙_, subst}
 use mathlib.Core.Bool.{Bool, true, false}
 use mathlib.Core.List.{List}
@@ -7,11 +7,13 @@ use native.Mathlib.Nat.{zero-mul, mul-comm}
 use native.Mathlib.Omega.{arith}
 use lib.Dec.{eqb}
 use lib.IntN.{ℤ, natAbs}
+use lib.ListN.{length}
 use Rattle.notation.specs.Basics.{pick}
 use Rattle.notation.specs.Numbers.{fromBits}
 use Rattle.notation.specs.Unroll.{isNiss}
 use Rattle.notation.specs.Tree.{Leaf, Node, leaf, block, Body, group, binaryGroup, nil, Tree}
 use Rattle.notation.specs.Counts.{times, countNode, countBody, count, stored}
+use Rattle.notation.specs.Entries.{MAX-STEPS}
 use Rattle.notation.specs.Packed.{groupNumber, binaryNumber, unpack}
 use Rattle.notation.specs.declared.common.GroupKind.{GroupKind}
 use Rattle.notation.specs.declared.common.GroupKind.the-variants.{Simple, Macro, Simultaneous, Niss}
@@ -98,6 +100,14 @@ module _ {k : ℕ} {m : ℤ} {n : Node Leaf} (s : Shape k m n) (low : k ≤ 5) w
 -- The record stores the count of the node, held.
 pub first-stored : {bs : List ℕ} {e : ℕ} (f : FirstNode bs e) → field 11 bs ≡ stored (f .node)
 first-stored {bs} {e} f = sym (front-field bs e (f .least) 11) ∙ fields-of (f .isNode) 11 ∙ head-stored (f .node)
+
+-- where a list has few steps that is the number itself
+pub first-counted : {bs : List ℕ} {e : ℕ} (f : FirstNode bs e) → count (unpack bs) ≡ countNode (f .node) + count (unpack (part e (length bs) bs))
+unfolding count
+first-counted f = ap count (f .unpacks)
+
+pub first-steps : {bs : List ℕ} {e steps : ℕ} (f : FirstNode bs e) → count (unpack bs) ≤ MAX-STEPS → steps ≡ field 11 bs → steps ≡ countNode (f .node)
+first-steps f h p = omega (arith, first-stored f, first-counted f)
 
 -- a leaf is one step
 pub leaf-steps : {t : List ℕ} (l : FirstLeaf t) → 1 ≡ countNode (l .first .node)

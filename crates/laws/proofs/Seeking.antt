@@ -1,146 +1,147 @@
--- Seeking: entry k of the unrolled list, found by passing over whole records and whole repeats by their counts. Assumes nothing.
+-- Seeking: where an entry of what a group unrolls into stands in the group's lists. Assumes nothing.
 use Prim.Native.Nat.{ℕ, zero, suc, _+_, _-_, _*_, _%_, _≤_, _<_}
-use mathlib.Core.Path.{_≡_, refl, sym, ap, _∙_}
-use mathlib.Core.Bool.{Bool, true, false}
-use mathlib.Core.List.{List, [], _∷_, _++_}
+use mathlib.Core.Path.{_≡_, refl, sym, ap, _∙_, subst}
+use mathlib.Core.Bool.{Bool, true, false, not}
+use mathlib.Core.List.{List, [], _∷_, _++_, map, reverse-cons}
 use mathlib.Core.Option.{Option, none, some}
 use native.Mathlib.Nat.{mod-eq-of-lt, mod-eq-sub-mod, zero-mul}
 use native.Mathlib.Omega.{arith}
-use borrow.Author.Tests.{ltb-true, ltb-false, le-ltb}
+use borrow.Author.Tests.{ltb-true, ltb-false}
 use lib.Dec.{ltb}
+use lib.IntN.{ℤ}
 use lib.ListN.{length, length-append, getElem?}
 use Rattle.notation.specs.Basics.{pick}
-use Rattle.notation.specs.Tree.{Leaf, Node, leaf, block, Body, group, binaryGroup, nil, cons, Tree}
+use Rattle.notation.specs.Tree.{Leaf, block, Body, binaryGroup, Tree}
 use Rattle.notation.specs.Invert.{undo}
 use Rattle.notation.specs.Unroll.{copies, turned}
-use Rattle.notation.specs.Counts.{times, countNode, countBody, count}
+use Rattle.notation.specs.Counts.{times, countBinary, countNode, countBody, count}
 use Rattle.notation.specs.declared.common.BinaryGroupKind.{BinaryGroupKind}
 use Rattle.notation.specs.declared.common.BinaryGroupKind.the-variants.{Commutator, Conjugate}
-use Rattle.notation.proofs.Marked.{length-copies}
-use Rattle.laws.proofs.ListEntries.{get-append-left, get-append-right, get-past}
-use Rattle.laws.proofs.Unrolling.{inOrder, flatBinary, flatNode, flatBody, flat}
+use Rattle.laws.proofs.ListEntries.{get-append-left, get-append-right}
+use Rattle.laws.proofs.Unrolling.{undo-undo, backwards, long-backwards, flatNode, flatBody, flat, flatBody-backwards, flat-backwards}
 use Rattle.laws.proofs.Counting.{countBody-is, count-is}
 
-abbrev pub Finder : Type 0
-Finder = ℕ → Option Leaf
+-- a step, undone or not
+abbrev pub undoIf : Bool → Option Leaf → Option Leaf
+undoIf inverted none = none
+undoIf inverted (some x) = some (pick inverted (undo x) x)
 
--- in a list of c entries followed by another
-abbrev pub parts : ℕ → Finder → Finder → Finder
-parts c f g k = pick (ltb k c) (f k) (g (k - c))
+pub undo-none : (o : Option Leaf) → undoIf false o ≡ o
+undo-none none = refl
+undo-none (some x) = refl
 
--- in repeats of a list of c entries: whole repeats are passed by the remainder
-abbrev pub inRepeats : ℕ → ℕ → Finder → Finder
-inRepeats n c f k = pick (ltb k (n * c)) (f (k % c)) none
+pub undo-again : (inverted : Bool) (o : Option Leaf) → undoIf inverted (undoIf true o) ≡ undoIf (not inverted) o
+undo-again true none = refl
+undo-again true (some x) = ap some (undo-undo x)
+undo-again false none = refl
+undo-again false (some x) = refl
 
-abbrev pub seekBinary : BinaryGroupKind → Bool → ℕ → ℕ → (Bool → Finder) → (Bool → Finder) → Finder
-seekBinary Commutator false a b f g = parts a (f false) (parts b (g false) (parts a (f true) (g true)))
-seekBinary Commutator true a b f g = parts b (g false) (parts a (f false) (parts b (g true) (f true)))
-seekBinary Conjugate d a b f g = parts a (f false) (parts b (g d) (f true))
-
-abbrev pub seekOrder : Bool → ℕ → ℕ → Finder → Finder → Finder
-seekOrder false c e f g = parts c f g
-seekOrder true c e f g = parts e g f
-
-unfoldable mutual
-  pub seekNode : Bool → Node Leaf → Finder
-  seekNode d (leaf x) k = pick (ltb k 1) (some (pick d (undo x) x)) none
-  seekNode d (block b m) k = inRepeats (times b m) (countBody b) (λ j. seekBody (turned m d) b j) k
-
-  pub seekBody : Bool → Body Leaf → Finder
-  seekBody d (group g a) k = seek d a k
-  seekBody d (binaryGroup g a b) k = seekBinary g d (count a) (count b) (λ e j. seek e a j) (λ e j. seek e b j) k
-
-  pub seek : Bool → Tree → Finder
-  seek d nil k = none
-  seek d (cons n l) k = seekOrder d (countNode n) (count l) (λ j. seekNode d n j) (λ j. seek d l j) k
-
--- A list of c entries of which f finds each.
-pub record Finds (l : List Leaf) (c : ℕ) (f : Finder) : Type 0 where
-  pub long : length l ≡ c
-  pub finds : (k : ℕ) → getElem? l k ≡ f k
-
-finds-parts : (a b : List Leaf) (c e : ℕ) (f g : Finder) → Finds a c f → Finds b e g → Finds (a ++ b) (c + e) (parts c f g)
-finds-parts a b c e f g p q = record { long = length-append a b ∙ omega (arith, p .long, q .long); finds = at }
-  where
-    at : (k : ℕ) → getElem? (a ++ b) k ≡ parts c f g k
-    at k = go (ltb k c) refl
-      where
-        go : (t : Bool) → ltb k c ≡ t → getElem? (a ++ b) k ≡ pick t (f k) (g (k - c))
-        go true h =
-            get-append-left a b k (let l : k < c = ltb-true k c h in omega (arith, p .long)) ∙ p .finds k
-        go false h =
-            let l : c ≤ k = ltb-false k c h in
-            get-append-right a b k (omega (arith, p .long)) ∙ ap (λ (m : ℕ). getElem? b (k - m)) (p .long) ∙ q .finds (k - c)
-
-get-copies : (l : List Leaf) (c : ℕ) (f : Finder) → Finds l c f → (n k : ℕ) → k < n * c → getElem? (copies n l) k ≡ f (k % c)
+-- whole repeats are passed by the remainder
+get-copies : {A : Type 0} (l : List A) (n k : ℕ) → k < n * length l → getElem? (copies n l) k ≡ getElem? l (k % length l)
 unfolding copies
-get-copies l c f p zero k h = absurd (omega (arith, zero-mul c))
-get-copies l c f p (suc n) k h = go (λ j i. get-copies l c f p n j i) (ltb k c) refl
+get-copies l zero k h = absurd (omega (arith, zero-mul (length l)))
+get-copies l (suc n) k h = go (λ j i. get-copies l n j i) (ltb k (length l)) refl
   where
-    go : ((j : ℕ) → j < n * c → getElem? (copies n l) j ≡ f (j % c)) → (t : Bool) → ltb k c ≡ t → getElem? (l ++ copies n l) k ≡ f (k % c)
+    go : ((j : ℕ) → j < n * length l → getElem? (copies n l) j ≡ getElem? l (j % length l)) → (t : Bool) → ltb k (length l) ≡ t → getElem? (l ++ copies n l) k ≡ getElem? l (k % length l)
     go again true e =
-        let i : k < c = ltb-true k c e in
-        get-append-left l (copies n l) k (omega (arith, p .long)) ∙ p .finds k ∙ ap f (sym (mod-eq-of-lt i))
+        let i : k < length l = ltb-true k (length l) e in
+        get-append-left l (copies n l) k i ∙ ap (getElem? l) (sym (mod-eq-of-lt i))
     go again false e =
-        let i : c ≤ k = ltb-false k c e in
-        get-append-right l (copies n l) k (omega (arith, p .long)) ∙ ap (λ (m : ℕ). getElem? (copies n l) (k - m)) (p .long)
-        ∙ again (k - c) (omega arith) ∙ ap f (sym (mod-eq-sub-mod i))
+        let i : length l ≤ k = ltb-false k (length l) e in
+        get-append-right l (copies n l) k i ∙ again (k - length l) (omega arith) ∙ ap (getElem? l) (sym (mod-eq-sub-mod i))
 
-finds-copies : (l : List Leaf) (c : ℕ) (f : Finder) → Finds l c f → (n : ℕ) → Finds (copies n l) (n * c) (inRepeats n c f)
-finds-copies l c f p n = record { long = long; finds = at }
+-- the other direction counts from the end
+get-last : (l : List Leaf) (x : Leaf) → getElem? (l ++ (x ∷ [])) (length l) ≡ some x
+get-last [] x = refl
+get-last (y ∷ l) x = get-last l x
+
+get-backwards : (l : List Leaf) (k : ℕ) → k < length l → getElem? (backwards l) k ≡ undoIf true (getElem? l (length l - 1 - k))
+get-backwards [] k h = absurd (omega arith)
+get-backwards (x ∷ l) k h = ap (λ (s : List Leaf). getElem? s k) (reverse-cons (undo x) (map undo l)) ∙ go (ltb k (length l)) refl (λ j. get-backwards l k j)
   where
-    long : length (copies n l) ≡ n * c
-    long = length-copies n l ∙ ap (λ (m : ℕ). n * m) (p .long)
-    at : (k : ℕ) → getElem? (copies n l) k ≡ inRepeats n c f k
-    at k = go (ltb k (n * c)) refl
-      where
-        go : (t : Bool) → ltb k (n * c) ≡ t → getElem? (copies n l) k ≡ pick t (f (k % c)) none
-        go true e = get-copies l c f p n k (ltb-true k (n * c) e)
-        go false e = get-past (copies n l) k (let i : n * c ≤ k = ltb-false k (n * c) e in omega (arith, long))
+    go : (t : Bool) → ltb k (length l) ≡ t → (k < length l → getElem? (backwards l) k ≡ undoIf true (getElem? l (length l - 1 - k))) →
+        getElem? (backwards l ++ (undo x ∷ [])) k ≡ undoIf true (getElem? (x ∷ l) (suc (length l) - 1 - k))
+    go true e again =
+        let j : k < length l = ltb-true k (length l) e in
+        let i : suc (length l) - 1 - k ≡ suc (length l - 1 - k) = omega arith in
+        get-append-left (backwards l) (undo x ∷ []) k (omega (arith, long-backwards l)) ∙ again j ∙ ap (λ (n : ℕ). undoIf true (getElem? (x ∷ l) n)) (sym i)
+    go false e again =
+        let j : k ≡ length (backwards l) = omega (arith, long-backwards l, ltb-false k (length l) e) in
+        let i : suc (length l) - 1 - k ≡ 0 = omega (arith, long-backwards l) in
+        ap (λ (n : ℕ). getElem? (backwards l ++ (undo x ∷ [])) n) j ∙ get-last (backwards l) (undo x) ∙ ap (λ (n : ℕ). undoIf true (getElem? (x ∷ l) n)) (sym i)
 
-finds-binary : (k : BinaryGroupKind) (d : Bool) (a b : Bool → List Leaf) (m n : ℕ) (f g : Bool → Finder) →
-    ((e : Bool) → Finds (a e) m (f e)) → ((e : Bool) → Finds (b e) n (g e)) →
-    (i : ℕ) → getElem? (flatBinary k d a b) i ≡ seekBinary k d m n f g i
-finds-binary Commutator false a b m n f g p q i =
-    finds-parts (a false) _ m _ (f false) _ (p false) (finds-parts (b false) _ n _ (g false) _ (q false) (finds-parts (a true) (b true) m n (f true) (g true) (p true) (q true))) .finds i
-finds-binary Commutator true a b m n f g p q i =
-    finds-parts (b false) _ n _ (g false) _ (q false) (finds-parts (a false) _ m _ (f false) _ (p false) (finds-parts (b true) (a true) n m (g true) (f true) (q true) (p true))) .finds i
-finds-binary Conjugate d a b m n f g p q i =
-    finds-parts (a false) _ m _ (f false) _ (p false) (finds-parts (b d) (a true) n m (g d) (f true) (q d) (p true)) .finds i
+-- in one repeat of a group
+pub in-repeat : (b : Body Leaf) (m : ℤ) (k : ℕ) → k < countNode (block b m) → getElem? (flatNode undo false (block b m)) k ≡ getElem? (flatBody undo (turned m false) b) (k % countBody b)
+unfolding flatNode countNode
+in-repeat b m k h =
+    get-copies (flatBody undo (turned m false) b) (times b m) k (subst (λ (c : ℕ). k < times b m * c) (sym (countBody-is b (turned m false))) h)
+    ∙ ap (λ (c : ℕ). getElem? (flatBody undo (turned m false) b) (k % c)) (countBody-is b (turned m false))
 
-finds-order : (d : Bool) (a b : List Leaf) (m n : ℕ) (f g : Finder) → Finds a m f → Finds b n g → (i : ℕ) → getElem? (inOrder d a b) i ≡ seekOrder d m n f g i
-finds-order false a b m n f g p q i = finds-parts a b m n f g p q .finds i
-finds-order true a b m n f g p q i = finds-parts b a n m g f q p .finds i
+pub from-end : (b : Body Leaf) (k : ℕ) → k < countBody b → getElem? (flatBody undo true b) k ≡ undoIf true (getElem? (flatBody undo false b) (countBody b - 1 - k))
+from-end b k h =
+    ap (λ (l : List Leaf). getElem? l k) (flatBody-backwards b false)
+    ∙ get-backwards (flatBody undo false b) k (omega (arith, countBody-is b false))
+    ∙ ap (λ (c : ℕ). undoIf true (getElem? (flatBody undo false b) (c - 1 - k))) (countBody-is b false)
 
-leaf-found : (d : Bool) (x : Leaf) (k : ℕ) → getElem? (pick d (undo x) x ∷ []) k ≡ pick (ltb k 1) (some (pick d (undo x) x)) none
-leaf-found d x zero = refl
-leaf-found d x (suc k) = rw (le-ltb (suc k) 1 (omega arith))
+-- a list in the other direction
+undone : (t : Tree) {c : ℕ} → c ≡ count t → (k : ℕ) → k < c → getElem? (flat undo true t) k ≡ undoIf true (getElem? (flat undo false t) (c - 1 - k))
+undone t {c} p k h =
+    let long : length (flat undo false t) ≡ c = count-is t false ∙ sym p in
+    ap (λ (l : List Leaf). getElem? l k) (flat-backwards t false)
+    ∙ get-backwards (flat undo false t) k (omega arith)
+    ∙ ap (λ (n : ℕ). undoIf true (getElem? (flat undo false t) (n - 1 - k))) long
 
--- seeking finds each entry of the unrolled list, in either direction
-mutual
-  unfolding seekNode seekBody seek flatNode flatBody flat countNode countBody count
-  seekNode-finds : (n : Node Leaf) (d : Bool) → Finds (flatNode undo d n) (countNode n) (seekNode d n)
-  seekNode-finds (leaf x) d = record { long = refl; finds = leaf-found d x }
-  seekNode-finds (block b m) d =
-      finds-copies (flatBody undo (turned m d) b) (countBody b) (λ j. seekBody (turned m d) b j) (seekBody-finds b (turned m d)) (times b m)
+-- In A B A' B' and in A B A': A has a steps, A and B have both.
+module _ (g : BinaryGroupKind) (x y : Tree) {a both : ℕ} (p : a ≡ count x) (q : both ≡ a + count y) (k : ℕ) where
+  before-A : (l : List Leaf) → k < a → getElem? (flat undo false x ++ l) k ≡ getElem? (flat undo false x) k
+  before-A l h = get-append-left (flat undo false x) l k (omega (arith, count-is x false))
 
-  seekBody-finds : (b : Body Leaf) (d : Bool) → Finds (flatBody undo d b) (countBody b) (seekBody d b)
-  seekBody-finds (group g a) d = seek-finds a d
-  seekBody-finds (binaryGroup g a b) d =
-      record {
-        long = countBody-is (binaryGroup g a b) d;
-        finds = finds-binary g d (λ e. flat undo e a) (λ e. flat undo e b) (count a) (count b) (λ e j. seek e a j) (λ e j. seek e b j)
-          (λ e. seek-finds a e) (λ e. seek-finds b e)
-      }
+  behind-A : (d : Bool) (l : List Leaf) (j : ℕ) → a ≤ j → getElem? (flat undo d x ++ l) j ≡ getElem? l (j - a)
+  behind-A d l j h = get-append-right (flat undo d x) l j (omega (arith, count-is x d)) ∙ ap (λ (n : ℕ). getElem? l (j - n)) (count-is x d ∙ sym p)
 
-  pub seek-finds : (t : Tree) (d : Bool) → Finds (flat undo d t) (count t) (seek d t)
-  seek-finds nil d = record { long = refl; finds = λ k. refl }
-  seek-finds (cons n l) d =
-      record {
-        long = count-is (cons n l) d;
-        finds = finds-order d (flatNode undo d n) (flat undo d l) (countNode n) (count l) (λ j. seekNode d n j) (λ j. seek d l j)
-          (seekNode-finds n d) (seek-finds l d)
-      }
+  before-B : (l : List Leaf) → a ≤ k → k < both → getElem? (flat undo false x ++ (flat undo false y ++ l)) k ≡ getElem? (flat undo false y) (k - a)
+  before-B l h i = behind-A false (flat undo false y ++ l) k h ∙ get-append-left (flat undo false y) l (k - a) (omega (arith, count-is y false))
 
-pub seek-is : (t : Tree) (d : Bool) (k : ℕ) → seek d t k ≡ getElem? (flat undo d t) k
-seek-is t d k = sym (seek-finds t d .finds k)
+  behind-B : (l : List Leaf) → both ≤ k → getElem? (flat undo false x ++ (flat undo false y ++ l)) k ≡ getElem? l (k - both)
+  behind-B l h =
+      behind-A false (flat undo false y ++ l) k (omega arith)
+      ∙ get-append-right (flat undo false y) l (k - a) (omega (arith, count-is y false))
+      ∙ ap (getElem? l) (omega (arith, count-is y false))
+
+  from-A : both ≤ k → k < both + a → getElem? (flat undo true x) (k - both) ≡ undoIf true (getElem? (flat undo false x) (both + a - 1 - k))
+  from-A h i = let e : a - 1 - (k - both) ≡ both + a - 1 - k = omega arith in undone x p (k - both) (omega arith) ∙ ap (λ (n : ℕ). undoIf true (getElem? (flat undo false x) n)) e
+
+  pub in-A : k < a → getElem? (flatBody undo false (binaryGroup g x y)) k ≡ getElem? (flat undo false x) k
+  unfolding flatBody
+  in-A h = go g
+    where
+      go : (g : BinaryGroupKind) → getElem? (flatBody undo false (binaryGroup g x y)) k ≡ getElem? (flat undo false x) k
+      go Commutator = before-A _ h
+      go Conjugate = before-A _ h
+
+  pub in-B : a ≤ k → k < both → getElem? (flatBody undo false (binaryGroup g x y)) k ≡ getElem? (flat undo false y) (k - a)
+  unfolding flatBody
+  in-B h i = go g
+    where
+      go : (g : BinaryGroupKind) → getElem? (flatBody undo false (binaryGroup g x y)) k ≡ getElem? (flat undo false y) (k - a)
+      go Commutator = before-B _ h i
+      go Conjugate = before-B _ h i
+
+  pub in-A′ : both ≤ k → k < both + a → getElem? (flatBody undo false (binaryGroup g x y)) k ≡ undoIf true (getElem? (flat undo false x) (both + a - 1 - k))
+  unfolding flatBody
+  in-A′ h i = go g ∙ from-A h i
+    where
+      go : (g : BinaryGroupKind) → getElem? (flatBody undo false (binaryGroup g x y)) k ≡ getElem? (flat undo true x) (k - both)
+      go Commutator = behind-B _ h ∙ get-append-left (flat undo true x) (flat undo true y) (k - both) (omega (arith, count-is x true))
+      go Conjugate = behind-B _ h
+
+  pub in-B′ : both + a ≤ k → k < countBinary g a (count y) → getElem? (flatBody undo false (binaryGroup g x y)) k ≡ undoIf true (getElem? (flat undo false y) (countBinary g a (count y) - 1 - k))
+  unfolding flatBody
+  in-B′ h i = go g i
+    where
+      go : (g : BinaryGroupKind) → k < countBinary g a (count y) → getElem? (flatBody undo false (binaryGroup g x y)) k ≡ undoIf true (getElem? (flat undo false y) (countBinary g a (count y) - 1 - k))
+      go Commutator i =
+          let e : count y - 1 - (k - both - a) ≡ 2 * (a + count y) - 1 - k = omega arith in
+          behind-B _ (omega arith) ∙ behind-A true (flat undo true y) (k - both) (omega arith) ∙ undone y refl (k - both - a) (omega arith)
+          ∙ ap (λ (n : ℕ). undoIf true (getElem? (flat undo false y) n)) e
+      go Conjugate i = absurd (omega arith)

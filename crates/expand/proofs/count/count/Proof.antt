@@ -5,7 +5,8 @@ use lib.Dec.{lit≤}
 use lib.ListN.{length}
 use Rattle.notation.specs.Packed.{RECORD}
 use Rattle.nodes.proofs.Nodes.{record-room, rest-less, first-of, first-leaf}
-use Rattle.expand.proofs.Counting.{Counting, group-counts, leaf-counts, stored-most, counting-starts, counting-goes-on, counted}
+use Rattle.expand.proofs.Shapes.{first-steps, leaf-steps}
+use Rattle.expand.proofs.Counting.{Counting, counting-starts, left-few, counted-few, counting-goes-on, counted}
 use Rattle.expand.proofs.count.count.Statement.{statement}
 use Rattle.expand.proofs.count.count.Tie as tie
 
@@ -16,43 +17,48 @@ abbrev μ-loop : tie.MeasureT-loop
 μ-loop list t₀ steps₀ t steps = length t
 
 loop-holds : tie.Need-loop-holds Inv-loop μ-loop
-loop-holds c = counting-starts _ (c .before .pre)
+loop-holds c = counting-starts _ (c .before .pre .0) (c .before .pre .1)
 
 kind-requires : tie.Need-kind-requires Inv-loop μ-loop
 kind-requires c κs = record-room _ (c .before .loop .inv .packed) (c .loop-test .taken)
 
-sum-requires : tie.Need-sum-requires Inv-loop μ-loop
-sum-requires c κs = omega (arith, c .before .before .before .loop .inv .held)
+add-steps : tie.Need-add-steps Inv-loop μ-loop
+add-steps c =
+    let kinded = c .before in
+    let at-loop = kinded .before .before in
+    let leaf = first-leaf (at-loop .loop .inv .packed) (kinded .before .loop-test .taken) (kinded .kind .ensures) (c .if1 .taken) in
+    record { fits = omega (arith, counted-few (at-loop .loop .inv) (leaf .first) (leaf-steps leaf)) }
 
 sub-t : tie.Need-sub-t Inv-loop μ-loop
-sub-t c = let tested = c .before .before .before in record-room _ (tested .before .loop .inv .packed) (tested .loop-test .taken)
+sub-t c = let tested = c .before .before in record-room _ (tested .before .loop .inv .packed) (tested .loop-test .taken)
 
 part-t-start : tie.Need-part-t-start Inv-loop μ-loop
-part-t-start c = let tested = c .before .before .before in record-room _ (tested .before .loop .inv .packed) (tested .loop-test .taken)
+part-t-start c = let tested = c .before .before in record-room _ (tested .before .loop .inv .packed) (tested .loop-test .taken)
 
 part-t-end : tie.Need-part-t-end Inv-loop μ-loop
 part-t-end c = search needs
 
 loop-less : tie.Need-loop-less Inv-loop μ-loop
 loop-less c =
-    let tested = c .before .before .before .before in
+    let tested = c .before .before .before in
     rest-less (tested .before .loop .t .now) RECORD (lit≤ tt) (record-room _ (tested .before .loop .inv .packed) (tested .loop-test .taken))
 
 loop-again : tie.Need-loop-again Inv-loop μ-loop
 loop-again c =
-    let kinded = c .before .before .before in
+    let kinded = c .before .before in
     let at-loop = kinded .before .before in
-    let leaf = first-leaf (at-loop .loop .inv .packed) (kinded .before .loop-test .taken) (kinded .kind .ensures) (c .before .before .if1 .taken) in
-    counting-goes-on (at-loop .loop .inv) (leaf .first) (leaf-counts leaf) (c .before .sum .ensures)
+    let leaf = first-leaf (at-loop .loop .inv .packed) (kinded .before .loop-test .taken) (kinded .kind .ensures) (c .before .if1 .taken) in
+    counting-goes-on (at-loop .loop .inv) (leaf .first) (leaf-steps leaf)
 
 count-requires : tie.Need-count-requires Inv-loop μ-loop
 count-requires c κs = let tested = c .before .before in record-room _ (tested .before .loop .inv .packed) (tested .loop-test .taken)
 
-sum-requires-2 : tie.Need-sum-requires-2 Inv-loop μ-loop
-sum-requires-2 c κs =
+add-steps-2 : tie.Need-add-steps-2 Inv-loop μ-loop
+add-steps-2 c =
     let tested = c .before .before .before in
     let at-loop = tested .before in
-    omega (arith, at-loop .loop .inv .held, stored-most (first-of _ (at-loop .loop .inv .packed) (tested .loop-test .taken)) (c .count .ensures))
+    let first = first-of _ (at-loop .loop .inv .packed) (tested .loop-test .taken) in
+    record { fits = omega (arith, counted-few (at-loop .loop .inv) first (first-steps first (left-few (at-loop .loop .inv)) (c .count .ensures))) }
 
 node-end-requires : tie.Need-node-end-requires Inv-loop μ-loop
 node-end-requires c κs = search needs
@@ -67,12 +73,14 @@ part-t-end-2 : tie.Need-part-t-end-2 Inv-loop μ-loop
 part-t-end-2 c = search needs
 
 loop-less-2 : tie.Need-loop-less-2 Inv-loop μ-loop
-loop-less-2 c = rest-less (c .before .before .before .before .before .before .before .loop .t .now) _ (c .before .node-end .ensures .least) (c .before .node-end .ensures .most)
+loop-less-2 c = rest-less (c .before .before .before .before .before .before .loop .t .now) _ (c .before .node-end .ensures .least) (c .before .node-end .ensures .most)
 
 loop-again-2 : tie.Need-loop-again-2 Inv-loop μ-loop
 loop-again-2 c =
-    let first = c .before .node-end .ensures in
-    counting-goes-on (c .before .before .before .before .before .before .before .loop .inv) first (group-counts first (c .before .before .before .count .ensures)) (c .before .before .sum2 .ensures)
+    let ended = c .before in
+    let at-loop = ended .before .before .before .before .before in
+    let first = ended .node-end .ensures in
+    counting-goes-on (at-loop .loop .inv) first (first-steps first (left-few (at-loop .loop .inv)) (ended .before .count .ensures))
 
 returns : tie.Need-returns Inv-loop μ-loop
 returns c = counted (c .before .loop .inv) (c .loop-test .left)
@@ -85,14 +93,14 @@ count-spec =
     μ-loop
     loop-holds
     kind-requires
-    sum-requires
+    add-steps
     sub-t
     part-t-start
     part-t-end
     loop-less
     loop-again
     count-requires
-    sum-requires-2
+    add-steps-2
     node-end-requires
     sub-t-2
     part-t-start-2
