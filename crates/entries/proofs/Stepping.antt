@@ -18,10 +18,9 @@ use Rattle.record.proofs.RoundTrip.{length-headRecord}
 use Rattle.laws.proofs.ListEntries.{get-past}
 use Rattle.laws.proofs.Unrolling.{flat, firstRefusal, flatten-is}
 use Rattle.laws.proofs.Counting.{count-is}
-use Rattle.laws.proofs.Seeking.{seek, seek-is}
 use Rattle.expand.specs.declared.visit.Refusals.{Refusals}
 use Rattle.expand.specs.Meaning.{told, refuses}
-use Rattle.expand.specs.Places.{found}
+use Rattle.expand.specs.Places.{stepIn, found}
 use Rattle.expand.specs.Steps.{Wrote}
 use Rattle.expand.proofs.Steps.{length-records}
 use Rattle.sound.specs.Sound.{Sound, Counted}
@@ -135,12 +134,12 @@ module _ (text tree : List ℕ) (n : ℕ) (c : Counted text tree n) (buffer : Li
       lend-short (stepAt text tree k) buffer (leafRecord (f .0)) (rw (these, f .1)) (omega (arith, length-headRecord (leafHead (f .0))))
 
   pub seek-written : (k : ℕ) → k < n → RECORD ≤ length buffer → (after : List ℕ) →
-      after ≡ found (seek false (unpack tree) k) ++ drop RECORD buffer →
+      after ≡ found (stepIn tree k) ++ drop RECORD buffer →
       record { answer = result RECORD; buffer = after } ≡ seekStep text tree k buffer
   seek-written k h s after w =
       let f = there k h in
       let long : length (leafRecord (f .0)) ≡ RECORD = length-headRecord (leafHead (f .0)) in
-      let bytes : after ≡ leafRecord (f .0) ++ drop RECORD buffer = w ∙ ap (λ (o : Option Leaf). found o ++ drop RECORD buffer) (seek-is (unpack tree) false k ∙ f .1) in
+      let bytes : after ≡ leafRecord (f .0) ++ drop RECORD buffer = w ∙ ap (λ (o : Option Leaf). found o ++ drop RECORD buffer) (f .1) in
       ap (λ (b : List ℕ). record { answer = result RECORD; buffer = b }) bytes
       ∙ ap (λ (m : ℕ). record { answer = result m; buffer = leafRecord (f .0) ++ drop m buffer }) (sym long)
       ∙ lend-fits (stepAt text tree k) buffer (leafRecord (f .0)) (rw (these, f .1)) (omega arith)

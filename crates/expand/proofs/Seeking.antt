@@ -31,7 +31,7 @@ use Rattle.laws.proofs.Counting.{countNode-is}
 use Rattle.laws.proofs.Seeking.{undoIf, undo-none, undo-again, in-repeat, from-end, in-A, in-B, in-A′, in-B′}
 use Rattle.expand.specs.Meaning.{binaryKind}
 use Rattle.expand.specs.Steps.{Undoable}
-use Rattle.expand.specs.Places.{stepAt, found, Has, Sought}
+use Rattle.expand.specs.Places.{stepIn, found, Has, Sought}
 use Rattle.nodes.specs.Nodes.{IsNode, part, FirstNode, firstList, secondList, Lists}
 use Rattle.nodes.proofs.Nodes.{part-rest, part-length, record-room, front-field, FirstLeaf, leaf-node}
 use Rattle.expand.proofs.Shapes.{Shape, isLeaf, isGroup, isBinary, shape-of, bodyOf, at-least, positive-right, block-is, steps-are, repeats-some, first-counted, first-steps, leaf-steps}
@@ -51,7 +51,7 @@ pub room : {list : List ℕ} {place : ℕ} → Has list place → RECORD ≤ len
 room {list} h = record-room list (h .packed) (some-record h)
 
 pub sought-starts : (tree : List ℕ) (place : ℕ) → Has tree place → Sought tree place tree place false
-sought-starts tree place h = record { has = h; step = sym (undo-none (stepAt tree place)) }
+sought-starts tree place h = record { has = h; step = sym (undo-none (stepIn tree place)) }
 
 negative-turns : (m : ℤ) → isNegative m ≡ turned m false
 negative-turns (pos n) = refl
@@ -75,10 +75,10 @@ module _ {tree rest : List ℕ} {place remaining e steps : ℕ} {inverted : Bool
           few = omega (arith, first-counted f, s .has .few);
         };
         step = s .step ∙ ap (undoIf inverted) (ap (λ (l : List Leaf). getElem? l remaining) unrolled
-            ∙ get-append-right (flatNode undo false (f .node)) _ remaining (omega (arith, long)) ∙ ap (λ (n : ℕ). stepAt (part e (length rest) rest) (remaining - n)) long);
+            ∙ get-append-right (flatNode undo false (f .node)) _ remaining (omega (arith, long)) ∙ ap (λ (n : ℕ). stepIn (part e (length rest) rest) (remaining - n)) long);
       }
 
-  in-node : remaining < steps → stepAt tree place ≡ undoIf inverted (getElem? (flatNode undo false (f .node)) remaining)
+  in-node : remaining < steps → stepIn tree place ≡ undoIf inverted (getElem? (flatNode undo false (f .node)) remaining)
   in-node h =
       s .step ∙ ap (undoIf inverted) (ap (λ (l : List Leaf). getElem? l remaining) unrolled
           ∙ get-append-left (flatNode undo false (f .node)) _ remaining (omega (arith, long)))
@@ -90,7 +90,7 @@ leaf-step l = (fits-undoable (l .step) (leaf-node l .fits), sym (leaf-node l .by
 
 pub found-leaf : {tree rest : List ℕ} {place remaining : ℕ} {inverted : Bool} → Sought tree place rest remaining inverted → (l : FirstLeaf rest) → remaining ≡ 0 → (step : List ℕ) {now step′ : List ℕ} → now ≡ step →
     ((x : Leaf) → Undoable x → part 0 RECORD rest ≡ leafRecord x → step′ ≡ leafRecord (pick inverted (undo x) x) ++ drop RECORD now) →
-    step′ ≡ found (stepAt tree place) ++ drop RECORD step
+    step′ ≡ found (stepIn tree place) ++ drop RECORD step
 unfolding flatNode
 found-leaf {tree} {rest} {place} {remaining} {inverted} s l z step w c =
     c x (leaf-step l .0) (leaf-step l .1)
@@ -112,7 +112,7 @@ pub record Group (tree : List ℕ) (place : ℕ) (bs : List ℕ) (k m steps rema
   pub counts : steps ≡ countNode node
   pub below : remaining < steps
   pub few : steps ≤ MAX-STEPS
-  pub step : stepAt tree place ≡ undoIf inverted (getElem? (flatNode undo false node) remaining)
+  pub step : stepIn tree place ≡ undoIf inverted (getElem? (flatNode undo false node) remaining)
 
 pub in-group : {tree rest : List ℕ} {place remaining e k m steps : ℕ} {inverted : Bool} → Sought tree place rest remaining inverted → (f : FirstNode rest e) → k ≡ field 0 rest / 16 → k ≤ 5 →
     steps ≡ field 11 rest → remaining < steps → m ≡ field 3 (part 0 e rest) → Group tree place (part 0 e rest) k m steps remaining inverted
@@ -140,7 +140,7 @@ pub record Repeat (tree : List ℕ) (place : ℕ) (bs : List ℕ) (k once remain
   pub counts : once ≡ countBody (bodyOf node)
   pub below : remaining < once
   pub few : once ≤ MAX-STEPS
-  pub step : stepAt tree place ≡ undoIf inverted (getElem? (flatBody undo false (bodyOf node)) remaining)
+  pub step : stepIn tree place ≡ undoIf inverted (getElem? (flatBody undo false (bodyOf node)) remaining)
 
 module _ {tree bs : List ℕ} {place k m steps remaining : ℕ} {inverted : Bool} (g : Group tree place bs k m steps remaining inverted) {repeats : ℕ} (t : repeats ≡ natAbs (fromBits 32 m)) where
   node-some : 0 < countNode (g .node)
@@ -164,7 +164,7 @@ module _ {tree bs : List ℕ} {place k m steps remaining : ℕ} {inverted : Bool
   once-few : steps / repeats ≤ MAX-STEPS
   once-few = omega (arith, once-counts, at-least repeats (countBody (bodyOf (g .node))) repeats-one, steps-repeat, g .few)
 
-  played : stepAt tree place ≡ undoIf inverted (getElem? (flatBody undo (turned (fromBits 32 m) false) (bodyOf (g .node))) (remaining % (steps / repeats)))
+  played : stepIn tree place ≡ undoIf inverted (getElem? (flatBody undo (turned (fromBits 32 m) false) (bodyOf (g .node))) (remaining % (steps / repeats)))
   played =
       g .step
       ∙ ap (λ (n : Node Leaf). undoIf inverted (getElem? (flatNode undo false n) remaining)) is
@@ -174,7 +174,7 @@ module _ {tree bs : List ℕ} {place k m steps remaining : ℕ} {inverted : Bool
       is : g .node ≡ block (bodyOf (g .node)) (fromBits 32 m)
       is = block-is (g .shape) (g .low)
 
-  one-repeat : {at : ℕ} {d : Bool} → at < steps / repeats → stepAt tree place ≡ undoIf d (getElem? (flatBody undo false (bodyOf (g .node))) at) → Repeat tree place bs k (steps / repeats) at d
+  one-repeat : {at : ℕ} {d : Bool} → at < steps / repeats → stepIn tree place ≡ undoIf d (getElem? (flatBody undo false (bodyOf (g .node))) at) → Repeat tree place bs k (steps / repeats) at d
   one-repeat h p =
       record { node = g .node; multiplier = fromBits 32 m; isNode = g .isNode; shape = g .shape; low = g .low; counts = once-counts; below = h; few = once-few; step = p }
 
@@ -192,11 +192,11 @@ module _ {tree bs : List ℕ} {place k m steps remaining : ℕ} {inverted : Bool
 
 -- the other way into a list: forward, or from its end and undone
 module _ {tree bs list : List ℕ} {place k once remaining : ℕ} {inverted : Bool} (r : Repeat tree place bs k once remaining inverted) (packed : Packed list) (few : count (unpack list) ≤ MAX-STEPS) (at : ℕ) (h : at < count (unpack list)) where
-  enter : getElem? (flatBody undo false (bodyOf (r .node))) remaining ≡ stepAt list at → Sought tree place list at inverted
+  enter : getElem? (flatBody undo false (bodyOf (r .node))) remaining ≡ stepIn list at → Sought tree place list at inverted
   enter p = record { has = record { packed = packed; below = h; few = few }; step = r .step ∙ ap (undoIf inverted) p }
 
-  enter-undone : getElem? (flatBody undo false (bodyOf (r .node))) remaining ≡ undoIf true (stepAt list at) → Sought tree place list at (not inverted)
-  enter-undone p = record { has = record { packed = packed; below = h; few = few }; step = r .step ∙ ap (undoIf inverted) p ∙ undo-again inverted (stepAt list at) }
+  enter-undone : getElem? (flatBody undo false (bodyOf (r .node))) remaining ≡ undoIf true (stepIn list at) → Sought tree place list at (not inverted)
+  enter-undone p = record { has = record { packed = packed; below = h; few = few }; step = r .step ∙ ap (undoIf inverted) p ∙ undo-again inverted (stepIn list at) }
 
 -- a plain group is its list
 pub into-list : {tree bs : List ℕ} {place k once remaining : ℕ} {inverted : Bool} → Repeat tree place bs k once remaining inverted → k < 4 → Sought tree place (part RECORD (length bs) bs) remaining inverted

@@ -15,8 +15,8 @@ use Rattle.laws.proofs.Unrolling.{flat}
 use Rattle.laws.proofs.Seeking.{undoIf}
 
 -- the step at a place of what a list unrolls into
-abbrev pub stepAt : List ℕ → ℕ → Option Leaf
-stepAt list place = getElem? (flat undo false (unpack list)) place
+abbrev pub stepIn : List ℕ → ℕ → Option Leaf
+stepIn list place = getElem? (flat undo false (unpack list)) place
 
 -- the bytes of what was found
 abbrev pub found : Option Leaf → List ℕ
@@ -32,4 +32,4 @@ pub record Has (list : List ℕ) (place : ℕ) : Type 0 where
 -- What the loop keeps: the step sought is the step at the remaining place of the rest of the list, undone if the direction is inverted.
 pub record Sought (tree : List ℕ) (place : ℕ) (rest : List ℕ) (remaining : ℕ) (inverted : Bool) : Type 0 where
   pub has : Has rest remaining
-  pub step : stepAt tree place ≡ undoIf inverted (stepAt rest remaining)
+  pub step : stepIn tree place ≡ undoIf inverted (stepIn rest remaining)

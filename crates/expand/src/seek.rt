@@ -10,7 +10,7 @@ ghost use Rattle.notation.specs.Invert.{undo};
 ghost use Rattle.notation.specs.Packed.{RECORD as recordSize, leafRecord};
 ghost use Rattle.notation.specs.Counts.{countBinary};
 ghost use Rattle.expand.specs.Meaning.{binaryKind};
-ghost use Rattle.expand.specs.Places.{Has, stepAt, found};
+ghost use Rattle.expand.specs.Places.{Has, stepIn, found};
 ghost use Rattle.expand.specs.Steps.{Undoable};
 use crate::count::count;
 use nodes::first_end;
@@ -27,7 +27,7 @@ use record::undo::undo_record;
 pub fn seek(tree: &[u8], place: u64, step: &mut [u8])
     requires { ⌜ Has (now tree) place ⌝ }
     requires { ⌜ recordSize ≤ length (now step) ⌝ }
-    ensures { λ _. ⌜ now (step .exit) ≡ found (stepAt (now (tree .entry)) place) ++ drop recordSize (now (step .entry)) ⌝ }
+    ensures { λ _. ⌜ now (step .exit) ≡ found (stepIn (now (tree .entry)) place) ++ drop recordSize (now (step .entry)) ⌝ }
 {
     // The step sought is the step at the remaining place of the rest of the list, undone if the direction is inverted.
     let mut rest = tree;

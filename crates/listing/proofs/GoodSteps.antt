@@ -30,10 +30,9 @@ use Rattle.laws.proofs.Inverses.{inverted}
 use Rattle.laws.proofs.WellFormedInverses.{inverted-ok}
 use Rattle.laws.proofs.Unrolling.{ifReached, firstInOrder, inOrder, flatBinary, refusalBinary, flatNode, flatBody, flat, refusalNode, refusalBody, firstRefusal}
 use Rattle.laws.proofs.Counting.{count-is}
-use Rattle.laws.proofs.Seeking.{seek, seek-is}
 use Rattle.laws.proofs.Reached.{negatable, cleanNode, cleanNodes, first-left, first-right}
 use Rattle.laws.proofs.DemandThree.{inverted-fits}
-use Rattle.expand.specs.Places.{found}
+use Rattle.expand.specs.Places.{stepIn, found}
 use Rattle.sound.specs.Sound.{Counted}
 
 pub record Good (text : List ℕ) (x : Leaf) : Type 0 where
@@ -177,13 +176,13 @@ shown text x g =
 
 -- what seeking leaves in a buffer of one record
 pub sought : (text tree step after : List ℕ) (n k : ℕ) → Counted text tree n → k < n → length step ≤ RECORD →
-    after ≡ found (seek false (unpack tree) k) ++ drop RECORD step → (x : Leaf) → getElem? (flat undo false (unpack tree)) k ≡ some x → Shown text x after
+    after ≡ found (stepIn tree k) ++ drop RECORD step → (x : Leaf) → getElem? (flat undo false (unpack tree)) k ≡ some x → Shown text x after
 sought text tree step after n k c h s e x i =
     let t = there text tree n c k h in
     let same : t .step ≡ x = some-same (sym (t .is) ∙ i) in
     let rest : drop RECORD step ≡ [] = drop-of-length-le step {i = RECORD} s in
     let bytes : after ≡ leafRecord x =
-        e ∙ ap (λ (o : Option Leaf). found o ++ drop RECORD step) (seek-is (unpack tree) false k ∙ i) ∙ ap (λ (l : List ℕ). leafRecord x ++ l) rest ∙ append-nil (leafRecord x) in
+        e ∙ ap (λ (o : Option Leaf). found o ++ drop RECORD step) i ∙ ap (λ (l : List ℕ). leafRecord x ++ l) rest ∙ append-nil (leafRecord x) in
     subst (Shown text x) (sym bytes) (shown text x (subst (Good text) same (t .good)))
   where
     some-same : {a b : Leaf} → some a ≡ some b → a ≡ b
