@@ -15,7 +15,7 @@ use Rattle.notation.specs.Unroll.{flatten}
 use Rattle.notation.specs.Counts.{hold, count}
 use Rattle.notation.specs.Entries.{Lent, lend, steps, records, unrolled, flattenEntry, countSteps, stepAt, seekStep, refusalNumber, value, MAX-STEPS}
 use Rattle.record.proofs.RoundTrip.{length-headRecord}
-use Rattle.laws.proofs.ListEntries.{get-past}
+use Rattle.laws.proofs.ListEntries.{get-past, get-within}
 use Rattle.laws.proofs.Unrolling.{flat, firstRefusal, flatten-is}
 use Rattle.laws.proofs.Counting.{count-is}
 use Rattle.expand.specs.declared.visit.Refusals.{Refusals}
@@ -94,11 +94,6 @@ module _ (text tree : List ℕ) (o : Outcome ℕ) (e : o ≡ countSteps text tre
   seek-refused k = lend-handed (stepAt text tree k) buffer q (rw refused-steps)
 
 -- Where it is not, the steps are those of the tree.
-within : (l : List Leaf) (k : ℕ) → k < length l → (x : Leaf) × (getElem? l k ≡ some x)
-within [] k h = absurd (omega arith)
-within (x ∷ l) zero h = (x, refl)
-within (x ∷ l) (suc k) h = within l k (omega arith)
-
 module _ (text tree : List ℕ) (n : ℕ) (c : Counted text tree n) (buffer : List ℕ) where
   pub these : steps text tree ≡ result (flat undo false (unpack tree))
   unfolding steps
@@ -126,7 +121,7 @@ module _ (text tree : List ℕ) (n : ℕ) (c : Counted text tree n) (buffer : Li
       (rw (these, get-past (flat undo false (unpack tree)) k (omega (arith, count-is (unpack tree) false, c .steps))))
 
   there : (k : ℕ) → k < n → (x : Leaf) × (getElem? (flat undo false (unpack tree)) k ≡ some x)
-  there k h = within (flat undo false (unpack tree)) k (omega (arith, count-is (unpack tree) false, c .steps))
+  there k h = get-within (flat undo false (unpack tree)) k (omega (arith, count-is (unpack tree) false, c .steps))
 
   pub seek-short : (k : ℕ) → k < n → length buffer < RECORD → record { answer = refusal NO-ROOM; buffer = buffer } ≡ seekStep text tree k buffer
   seek-short k h s =

@@ -23,6 +23,11 @@ module _ {A : Type 0} where
   get-past (x ∷ l) zero h = absurd (omega arith)
   get-past (x ∷ l) (suc k) h = get-past l k (omega arith)
 
+  pub get-within : (l : List A) (k : ℕ) → k < length l → (x : A) × (getElem? l k ≡ some x)
+  get-within [] k h = absurd (omega arith)
+  get-within (x ∷ l) zero h = (x, refl)
+  get-within (x ∷ l) (suc k) h = get-within l k (omega arith)
+
   pub get-below : (l : List A) (k : ℕ) (x : A) → getElem? l k ≡ some x → k < length l
   get-below [] k x h = no-some (sym h)
   get-below (y ∷ l) zero x h = omega arith

@@ -2,14 +2,14 @@
 use Prim.Native.Nat.{ℕ, zero, suc, _+_, _-_, _*_, _%_, _≤_, _<_}
 use mathlib.Core.Path.{_≡_, refl, sym, ap, _∙_, subst}
 use mathlib.Core.Bool.{Bool, true, false, not}
-use mathlib.Core.List.{List, [], _∷_, _++_, map, reverse-cons}
+use mathlib.Core.List.{List, _++_, map}
 use mathlib.Core.Option.{Option, none, some}
 use native.Mathlib.Nat.{mod-eq-of-lt, mod-eq-sub-mod, zero-mul}
 use native.Mathlib.Omega.{arith}
 use borrow.Author.Tests.{ltb-true, ltb-false}
 use lib.Dec.{ltb}
 use lib.IntN.{ℤ}
-use lib.ListN.{length, length-append, getElem?}
+use lib.ListN.{length, length-map, getElem?}
 use Rattle.notation.specs.Basics.{pick}
 use Rattle.notation.specs.Tree.{Leaf, block, Body, binaryGroup, Tree}
 use Rattle.notation.specs.Invert.{undo}
@@ -17,8 +17,8 @@ use Rattle.notation.specs.Unroll.{copies, turned}
 use Rattle.notation.specs.Counts.{times, countBinary, countNode, countBody, count}
 use Rattle.notation.specs.declared.common.BinaryGroupKind.{BinaryGroupKind}
 use Rattle.notation.specs.declared.common.BinaryGroupKind.the-variants.{Commutator, Conjugate}
-use Rattle.laws.proofs.ListEntries.{get-append-left, get-append-right}
-use Rattle.laws.proofs.Unrolling.{undo-undo, backwards, long-backwards, flatNode, flatBody, flat, flatBody-backwards, flat-backwards}
+use Rattle.laws.proofs.ListEntries.{get-append-left, get-append-right, get-within, get-reverse, get-map}
+use Rattle.laws.proofs.Unrolling.{undo-undo, backwards, flatNode, flatBody, flat, flatBody-backwards, flat-backwards}
 use Rattle.laws.proofs.Counting.{countBody-is, count-is}
 
 -- a step, undone or not
@@ -51,24 +51,13 @@ get-copies l (suc n) k h = go (λ j i. get-copies l n j i) (ltb k (length l)) re
         get-append-right l (copies n l) k i ∙ again (k - length l) (omega arith) ∙ ap (getElem? l) (sym (mod-eq-sub-mod i))
 
 -- the other direction counts from the end
-get-last : (l : List Leaf) (x : Leaf) → getElem? (l ++ (x ∷ [])) (length l) ≡ some x
-get-last [] x = refl
-get-last (y ∷ l) x = get-last l x
-
 get-backwards : (l : List Leaf) (k : ℕ) → k < length l → getElem? (backwards l) k ≡ undoIf true (getElem? l (length l - 1 - k))
-get-backwards [] k h = absurd (omega arith)
-get-backwards (x ∷ l) k h = ap (λ (s : List Leaf). getElem? s k) (reverse-cons (undo x) (map undo l)) ∙ go (ltb k (length l)) refl (λ j. get-backwards l k j)
+get-backwards l k h = go (get-within l (length l - 1 - k) (omega arith))
   where
-    go : (t : Bool) → ltb k (length l) ≡ t → (k < length l → getElem? (backwards l) k ≡ undoIf true (getElem? l (length l - 1 - k))) →
-        getElem? (backwards l ++ (undo x ∷ [])) k ≡ undoIf true (getElem? (x ∷ l) (suc (length l) - 1 - k))
-    go true e again =
-        let j : k < length l = ltb-true k (length l) e in
-        let i : suc (length l) - 1 - k ≡ suc (length l - 1 - k) = omega arith in
-        get-append-left (backwards l) (undo x ∷ []) k (omega (arith, long-backwards l)) ∙ again j ∙ ap (λ (n : ℕ). undoIf true (getElem? (x ∷ l) n)) (sym i)
-    go false e again =
-        let j : k ≡ length (backwards l) = omega (arith, long-backwards l, ltb-false k (length l) e) in
-        let i : suc (length l) - 1 - k ≡ 0 = omega (arith, long-backwards l) in
-        ap (λ (n : ℕ). getElem? (backwards l ++ (undo x ∷ [])) n) j ∙ get-last (backwards l) (undo x) ∙ ap (λ (n : ℕ). undoIf true (getElem? (x ∷ l) n)) (sym i)
+    go : (x : Leaf) × (getElem? l (length l - 1 - k) ≡ some x) → getElem? (backwards l) k ≡ undoIf true (getElem? l (length l - 1 - k))
+    go (x, e) =
+        let i : length (map undo l) - suc (length l - 1 - k) ≡ k = omega (arith, length-map l undo) in
+        ap (getElem? (backwards l)) (sym i) ∙ get-reverse (map undo l) (length l - 1 - k) (undo x) (get-map undo l (length l - 1 - k) x e) ∙ ap (undoIf true) (sym e)
 
 -- in one repeat of a group
 pub in-repeat : (b : Body Leaf) (m : ℤ) (k : ℕ) → k < countNode (block b m) → getElem? (flatNode undo false (block b m)) k ≡ getElem? (flatBody undo (turned m false) b) (k % countBody b)

@@ -1,6 +1,5 @@
 -- `seek::both_count` meets its contract. Assumes nothing.
 use native.Mathlib.Omega.{arith}
-use Rattle.notation.specs.Counts.{countBinary}
 use borrow.Author.Needs.{needs}
 use Rattle.expand.proofs.seek.both_count.Statement.{statement}
 use Rattle.expand.proofs.seek.both_count.Tie as tie
