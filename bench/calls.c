@@ -1,11 +1,12 @@
 /* One call of one C function on a text from standard input, for callgrind to count: calls OPERATION. What is counted is the function `measured`
  * (--toggle-collect=measured); reading the tree and lending the buffer are outside. Operations as in main.rs, and `check`: all that a call does
- * before it looks at anything but text and tree (the family of a record that is not there).
+ * before it looks at anything but text and tree (the family of a record that is not there); `seek K`: place K.
  * calls OPERATION CALLS times as many calls, twelve times, and prints the least: nanoseconds of a call. PAD bytes of code stand before the library's,
  * which so lies elsewhere (placements.py). */
 #define _POSIX_C_SOURCE 199309L
 #include "hypuz_notation.h"
 
+#include <inttypes.h>
 #include <stdio.h>
 #include <stdlib.h>
 #include <string.h>
@@ -87,10 +88,11 @@ int main(int argc, char **argv) {
     if (hypuz_refusal(a)) return 3;
     c.tree_size = (size_t)hypuz_value(a);
     uint64_t n = hypuz_count_steps(text, c.text_size, tree, c.tree_size);
-    if (hypuz_refusal(n) || n == 0 || n > 10000000) return 4;
-    c.place = is(&c, "seek last") ? n - 1 : n * 2 / 3;
+    if (hypuz_refusal(n) || n == 0) return 4;
+    c.place = is(&c, "seek last") ? n - 1 : sscanf(c.operation, "seek %" SCNu64, &c.place) == 1 ? c.place : n * 2 / 3;
     c.record = middle(&c);
-    size_t list = n * HYPUZ_RECORD;
+    size_t list = is(&c, "flatten") ? n * HYPUZ_RECORD : HYPUZ_RECORD;
+    if (n > 10000000 && is(&c, "flatten")) return 4;
     c.out_size = is(&c, "display") ? 2 * c.text_size + 64 : list > c.tree_size ? list : c.tree_size;
     c.out = calloc(c.out_size, 1);
     function *write = writer(&c);
