@@ -37,6 +37,7 @@ LEVELS = (1, 8, 28, 32, 64)
 
 def driver(checkout, name):
     """calls.c, linked with the archive of a checkout."""
+    os.makedirs(OUT, exist_ok=True)
     built = os.path.join(OUT, name)
     archive = os.path.join(checkout, "target", "staticlib", "libhypuz_notation.a")
     source = os.path.join(ROOT, "bench", "calls.c")

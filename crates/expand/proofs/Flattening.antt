@@ -29,7 +29,7 @@ use Rattle.expand.specs.Meaning.{binaryKind}
 use Rattle.nodes.specs.Nodes.{IsNode, part, FirstNode, firstList, secondList, Lists}
 use Rattle.expand.specs.Steps.{Undoable, All, held, Wrote, IsGroup, either, completed, repeats, Pair, Room}
 use Rattle.nodes.proofs.Nodes.{part-rest, part-length, alone, FirstLeaf, leaf-node}
-use Rattle.expand.proofs.Shapes.{Shape, isLeaf, isGroup, isBinary, shape-of, bodyOf, at-least, block-is, times-are, steps-are, repeats-some, first-stored, one-count}
+use Rattle.expand.proofs.Shapes.{Shape, isLeaf, isGroup, isBinary, shape-of, bodyOf, at-least, both-within, block-is, times-are, steps-are, repeats-some, first-stored, one-count}
 use Rattle.expand.proofs.Steps.{length-records, records-append, all-flat, all-flatBody}
 use Rattle.expand.proofs.Held.{holds, same-repeats, same-completed}
 
@@ -140,14 +140,10 @@ module _ {bs : List ℕ} (g : IsGroup bs) (some : 0 < count (unpack bs)) {k m : 
   unfolding countBody count
   lists-count = go (g .node)
     where
-      both : (g : BinaryGroupKind) (a b : ℕ) → a + b ≤ countBinary g a b
-      both Commutator a b = omega arith
-      both Conjugate a b = omega arith
-
       go : (n : Node Leaf) → count (firstList n) + count (secondList n) ≤ countBody (bodyOf n)
       go (leaf x) = omega arith
       go (block (group g a) m) = omega arith
-      go (block (binaryGroup g a b) m) = both g (count a) (count b)
+      go (block (binaryGroup g a b) m) = both-within g (count a) (count b)
 
   body-room : {out : ℕ} → RECORD * count (unpack bs) ≤ out → RECORD * countBody (bodyOf (g .node)) ≤ out
   body-room r = omega (arith, block-count, at-least (natAbs (fromBits 32 m)) (countBody (bodyOf (g .node))) repeated)

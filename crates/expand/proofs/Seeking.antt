@@ -34,7 +34,7 @@ use Rattle.expand.specs.Steps.{Undoable}
 use Rattle.expand.specs.Places.{stepIn, found, Has, Sought}
 use Rattle.nodes.specs.Nodes.{IsNode, part, FirstNode, firstList, secondList, Lists}
 use Rattle.nodes.proofs.Nodes.{part-rest, part-length, record-room, front-field, FirstLeaf, leaf-node}
-use Rattle.expand.proofs.Shapes.{Shape, isLeaf, isGroup, isBinary, shape-of, bodyOf, at-least, positive-right, block-is, steps-are, repeats-some, first-counted, first-steps, leaf-steps}
+use Rattle.expand.proofs.Shapes.{Shape, isLeaf, isGroup, isBinary, shape-of, bodyOf, at-least, positive-right, both-within, block-is, steps-are, repeats-some, first-counted, first-steps, leaf-steps}
 use Rattle.expand.proofs.Steps.{fits-undoable}
 use Rattle.expand.proofs.Undoing.{step-starts, step-undone}
 
@@ -190,7 +190,7 @@ module _ {tree bs : List ℕ} {place k m steps remaining : ℕ} {inverted : Bool
       ∙ undo-again inverted (getElem? (flatBody undo false (bodyOf (g .node))) (countBody (bodyOf (g .node)) - 1 - remaining % (steps / repeats)))
       ∙ ap (λ (c : ℕ). undoIf (not inverted) (getElem? (flatBody undo false (bodyOf (g .node))) (c - 1 - remaining % (steps / repeats)))) (sym once-counts))
 
--- the other way into a list: forward, or from its end and undone
+-- into a list, forward, or from its end and undone
 module _ {tree bs list : List ℕ} {place k once remaining : ℕ} {inverted : Bool} (r : Repeat tree place bs k once remaining inverted) (packed : Packed list) (few : count (unpack list) ≤ MAX-STEPS) (at : ℕ) (h : at < count (unpack list)) where
   enter : getElem? (flatBody undo false (bodyOf (r .node))) remaining ≡ stepIn list at → Sought tree place list at inverted
   enter p = record { has = record { packed = packed; below = h; few = few }; step = r .step ∙ ap (undoIf inverted) p }
@@ -213,15 +213,15 @@ into-list {tree} {bs} {place} {k} {once} {remaining} {inverted} r h = go (r .nod
         (ap (λ (n : Node Leaf). getElem? (flatBody undo false (bodyOf n)) remaining) e ∙ ap (λ (t : Tree). getElem? (flat undo false t) remaining) (sym list))
     go (block (binaryGroup g a b) m) i (isBinary l l′ q) c e = absurd (omega arith)
 
--- A commutator or a conjugate: the lists A and B, where B begins at middle.
+-- The lists A and B of a commutator or a conjugate, by its bytes: B begins at middle.
+abbrev A : List ℕ → ℕ → Tree
+A bs middle = unpack (part RECORD middle bs)
+
+abbrev B : List ℕ → ℕ → Tree
+B bs middle = unpack (part middle (length bs) bs)
+
 module _ {tree bs : List ℕ} {place k once remaining middle : ℕ} {inverted : Bool} (r : Repeat tree place bs k once remaining inverted) (high : 4 ≤ k) (l : Lists bs middle) where
-  abbrev x : Tree
-  x = unpack (part RECORD middle bs)
-
-  abbrev y : Tree
-  y = unpack (part middle (length bs) bs)
-
-  body : bodyOf (r .node) ≡ binaryGroup (binaryKind (eqb k 4)) x y
+  body : bodyOf (r .node) ≡ binaryGroup (binaryKind (eqb k 4)) (A bs middle) (B bs middle)
   body = go (r .node) (r .shape) ∙ ap₂ (binaryGroup (binaryKind (eqb k 4))) (sym (l .unpacksFirst (r .node) (r .isNode))) (sym (l .unpacksSecond (r .node) (r .isNode)))
     where
       go : (n : Node Leaf) → Shape k (r .multiplier) n → bodyOf n ≡ binaryGroup (binaryKind (eqb k 4)) (firstList n) (secondList n)
@@ -229,56 +229,70 @@ module _ {tree bs : List ℕ} {place k once remaining middle : ℕ} {inverted : 
       go (block (group g a) m) (isGroup l q) = absurd (omega arith)
       go (block (binaryGroup g a b) m) (isBinary l l′ q) = rw q
 
-  all : once ≡ countBinary (binaryKind (eqb k 4)) (count x) (count y)
+  all : once ≡ countBinary (binaryKind (eqb k 4)) (count (A bs middle)) (count (B bs middle))
   unfolding countBody
   all = r .counts ∙ ap countBody body
 
-  lists-few : count x + count y ≤ once
-  lists-few = more (binaryKind (eqb k 4)) all
-    where
-      more : (g : BinaryGroupKind) → once ≡ countBinary g (count x) (count y) → count x + count y ≤ once
-      more Commutator e = omega arith
-      more Conjugate e = omega arith
+  lists-few : count (A bs middle) + count (B bs middle) ≤ once
+  lists-few = omega (arith, all, both-within (binaryKind (eqb k 4)) (count (A bs middle)) (count (B bs middle)))
 
-  pub first-few : count x ≤ MAX-STEPS
+  pub first-few : count (A bs middle) ≤ MAX-STEPS
   first-few = omega (arith, lists-few, r .few)
 
-  second-few : count y ≤ MAX-STEPS
-  second-few = omega (arith, lists-few, r .few)
+  pub first-part : {a : ℕ} → a ≡ count (A bs middle) → a ≤ once
+  first-part p = omega (arith, lists-few)
 
-  -- which of A B A' B' or A B A' has the place
-  module _ {a : ℕ} (p : a ≡ count x) where
-    pub first-part : a ≤ once
-    first-part = omega (arith, lists-few)
+-- The same once A and B are counted: A has a steps, both have so many together.
+pub record Parts (tree : List ℕ) (place : ℕ) (bs : List ℕ) (k once middle a both remaining : ℕ) (inverted : Bool) : Type 0 where
+  pub whole : Repeat tree place bs k once remaining inverted
+  pub high : 4 ≤ k
+  pub lists : Lists bs middle
+  pub first : a ≡ count (A bs middle)
+  pub together : (b : ℕ) → once ≡ countBinary (binaryKind (eqb k 4)) a b → both ≡ a + b
 
-    module _ {both : ℕ} (c : (b : ℕ) → once ≡ countBinary (binaryKind (eqb k 4)) a b → both ≡ a + b) where
-      q : both ≡ a + count y
-      q = c (count y) (all ∙ ap (λ (n : ℕ). countBinary (binaryKind (eqb k 4)) n (count y)) (sym p))
+module _ {tree bs : List ℕ} {place k once middle a both remaining : ℕ} {inverted : Bool} (p : Parts tree place bs k once middle a both remaining inverted) where
+  abbrev g : BinaryGroupKind
+  g = binaryKind (eqb k 4)
 
-      pub both-few : both + a ≤ 2 * MAX-STEPS
-      both-few = omega (arith, q, lists-few, r .few)
+  once-is : once ≡ countBinary g a (count (B bs middle))
+  once-is = all (p .whole) (p .high) (p .lists) ∙ ap (λ (n : ℕ). countBinary g n (count (B bs middle))) (sym (p .first))
 
-      here : getElem? (flatBody undo false (bodyOf (r .node))) remaining ≡ getElem? (flatBody undo false (binaryGroup (binaryKind (eqb k 4)) x y)) remaining
-      here = ap (λ (b : Body Leaf). getElem? (flatBody undo false b) remaining) body
+  both-is : both ≡ a + count (B bs middle)
+  both-is = p .together (count (B bs middle)) once-is
 
-      pub into-A : remaining < a → Sought tree place (part RECORD middle bs) remaining inverted
-      into-A h = enter r (l .packedFirst) first-few remaining (omega arith) (here ∙ in-A (binaryKind (eqb k 4)) x y p q remaining h)
+  few : a + count (B bs middle) ≤ once
+  few = omega (arith, p .first, lists-few (p .whole) (p .high) (p .lists))
 
-      pub into-B : a ≤ remaining → remaining < both → Sought tree place (part middle (length bs) bs) (remaining - a) inverted
-      into-B h i = enter r (l .packedSecond) second-few (remaining - a) (omega (arith, q)) (here ∙ in-B (binaryKind (eqb k 4)) x y p q remaining h i)
+  A-few : count (A bs middle) ≤ MAX-STEPS
+  A-few = omega (arith, few, p .first, p .whole .few)
 
-      pub into-A′ : both ≤ remaining → remaining < both + a → Sought tree place (part RECORD middle bs) (both + a - 1 - remaining) (not inverted)
-      into-A′ h i = enter-undone r (l .packedFirst) first-few (both + a - 1 - remaining) (omega (arith, q)) (here ∙ in-A′ (binaryKind (eqb k 4)) x y p q remaining h i)
+  B-few : count (B bs middle) ≤ MAX-STEPS
+  B-few = omega (arith, few, p .whole .few)
 
-      pub into-B′ : both + a ≤ remaining → Sought tree place (part middle (length bs) bs) (once - 1 - remaining) (not inverted)
-      into-B′ h =
-          let e : countBinary (binaryKind (eqb k 4)) a (count y) ≡ once = sym (all ∙ ap (λ (n : ℕ). countBinary (binaryKind (eqb k 4)) n (count y)) (sym p)) in
-          enter-undone r (l .packedSecond) second-few (once - 1 - remaining) (last (binaryKind (eqb k 4)) (sym e))
-          (here ∙ in-B′ (binaryKind (eqb k 4)) x y p q remaining h (omega (arith, r .below)) ∙ ap (λ (n : ℕ). undoIf true (getElem? (flat undo false y) (n - 1 - remaining))) e)
-        where
-          last : (g : BinaryGroupKind) → once ≡ countBinary g a (count y) → once - 1 - remaining < count y
-          last Commutator e = omega (arith, q, r .below)
-          last Conjugate e = absurd (omega (arith, q, r .below))
+  -- A' ends where a sum of 64 bits can tell
+  pub sum-few : both + a ≤ 2 * MAX-STEPS
+  sum-few = omega (arith, both-is, few, p .whole .few)
+
+  here : getElem? (flatBody undo false (bodyOf (p .whole .node))) remaining ≡ getElem? (flatBody undo false (binaryGroup g (A bs middle) (B bs middle))) remaining
+  here = ap (λ (b : Body Leaf). getElem? (flatBody undo false b) remaining) (body (p .whole) (p .high) (p .lists))
+
+  pub into-A : remaining < a → Sought tree place (part RECORD middle bs) remaining inverted
+  into-A h = enter (p .whole) (p .lists .packedFirst) A-few remaining (omega (arith, p .first)) (here ∙ in-A g (A bs middle) (B bs middle) (p .first) both-is remaining h)
+
+  pub into-B : a ≤ remaining → remaining < both → Sought tree place (part middle (length bs) bs) (remaining - a) inverted
+  into-B h i = enter (p .whole) (p .lists .packedSecond) B-few (remaining - a) (omega (arith, both-is)) (here ∙ in-B g (A bs middle) (B bs middle) (p .first) both-is remaining h i)
+
+  pub into-A′ : both ≤ remaining → remaining < both + a → Sought tree place (part RECORD middle bs) (both + a - 1 - remaining) (not inverted)
+  into-A′ h i = enter-undone (p .whole) (p .lists .packedFirst) A-few (both + a - 1 - remaining) (omega (arith, p .first, both-is)) (here ∙ in-A′ g (A bs middle) (B bs middle) (p .first) both-is remaining h i)
+
+  pub into-B′ : both + a ≤ remaining → Sought tree place (part middle (length bs) bs) (once - 1 - remaining) (not inverted)
+  into-B′ h =
+      enter-undone (p .whole) (p .lists .packedSecond) B-few (once - 1 - remaining) (last g once-is)
+      (here ∙ in-B′ g (A bs middle) (B bs middle) (p .first) both-is remaining h (omega (arith, once-is, p .whole .below)) ∙ ap (λ (n : ℕ). undoIf true (getElem? (flat undo false (B bs middle)) (n - 1 - remaining))) (sym once-is))
+    where
+      last : (g : BinaryGroupKind) → once ≡ countBinary g a (count (B bs middle)) → once - 1 - remaining < count (B bs middle)
+      last Commutator e = omega (arith, both-is, p .whole .below)
+      last Conjugate e = absurd (omega (arith, both-is, p .whole .below))
 
 -- a list of a group is shorter than the list that the group stands in
 pub inside-less : (rest : List ℕ) (e from to : ℕ) → RECORD ≤ from → RECORD ≤ length rest → length (part from to (part 0 e rest)) < length rest

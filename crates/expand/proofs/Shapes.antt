@@ -12,7 +12,7 @@ use Rattle.notation.specs.Basics.{pick}
 use Rattle.notation.specs.Numbers.{fromBits}
 use Rattle.notation.specs.Unroll.{isNiss}
 use Rattle.notation.specs.Tree.{Leaf, Node, leaf, block, Body, group, binaryGroup, nil, Tree}
-use Rattle.notation.specs.Counts.{times, countNode, countBody, count, stored}
+use Rattle.notation.specs.Counts.{times, countBinary, countNode, countBody, count, stored}
 use Rattle.notation.specs.Entries.{MAX-STEPS}
 use Rattle.notation.specs.Packed.{groupNumber, binaryNumber, unpack}
 use Rattle.notation.specs.declared.common.GroupKind.{GroupKind}
@@ -70,6 +70,10 @@ positive-left (suc n) c k h = omega arith
 
 pub positive-right : (n c k : ℕ) → k < n * c → 0 < c
 positive-right n c k h = positive-left c n k (omega (arith, mul-comm n c))
+
+pub both-within : (g : BinaryGroupKind) (a b : ℕ) → a + b ≤ countBinary g a b
+both-within Commutator a b = omega arith
+both-within Conjugate a b = omega arith
 
 module _ {k : ℕ} {m : ℤ} {n : Node Leaf} (s : Shape k m n) (low : k ≤ 5) where
   pub block-is : n ≡ block (bodyOf n) m

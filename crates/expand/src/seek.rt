@@ -56,7 +56,7 @@ pub fn seek(tree: &[u8], place: u64, step: &mut [u8])
         let group = &rest[0..end];
         let multiplier = fields::number(group);
         let once = steps / (magnitude(multiplier) as u64);
-        remaining = remaining % once;
+        remaining %= once;
         if is_negative(multiplier) {
             remaining = once - 1 - remaining;
             inverted = !inverted;

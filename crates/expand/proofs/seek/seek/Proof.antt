@@ -15,7 +15,7 @@ use Rattle.expand.proofs.Shapes.{first-steps, leaf-steps}
 use Rattle.nodes.specs.Nodes.{part}
 use Rattle.expand.proofs.Seeking.{
   some-record, room, sought-starts, sought-past, leaf-step, found-leaf, Group, in-group, Repeat, repeats-one, once-some, within-once, forward, from-the-end, into-list,
-  first-few, first-part, both-few, into-A, into-B, into-A′, into-B′, inside-less
+  first-few, first-part, Parts, sum-few, into-A, into-B, into-A′, into-B′, inside-less
 }
 use Rattle.expand.proofs.seek.seek.Statement.{statement}
 use Rattle.expand.proofs.seek.seek.Tie as tie
@@ -225,6 +225,17 @@ both-count-requires c κs =
 abbrev joined : tie.After-both-count Inv-loop μ-loop → tie.Joined4 Inv-loop μ-loop
 joined c = c .before .before .before .before .before
 
+parts-at : (c : tie.After-both-count Inv-loop μ-loop) →
+    Parts (looped (numbered (joined c)) .before .before .before .args .tree .now) (looped (numbered (joined c)) .before .before .before .args .place) (bytes (numbered (joined c)))
+    (numbered (joined c) .before .before .before .before .before .before .kind .result) (numbered (joined c) .before .before .before .before .count .result / joined c .before .before .magnitude .result)
+    (c .before .before .before .first-end .result) (c .before .count2 .result) (c .both-count .result) (joined c .if4 .remaining) (joined c .if4 .inverted)
+parts-at c =
+    let ended = c .before .before .before in
+    record { whole = repeat-at (joined c); high = ended .before .if5 .left; lists = ended .first-end .ensures; first = c .before .count2 .ensures; together = c .both-count .ensures }
+
+kept : (c : tie.After-both-count Inv-loop μ-loop) → looped (numbered (joined c)) .loop .step ≡ looped (numbered (joined c)) .before .before .before .args .step .now
+kept c = looped (numbered (joined c)) .loop .inv .1
+
 sub-rest-4 : tie.Need-sub-rest-4 Inv-loop μ-loop
 sub-rest-4 c = search needs
 
@@ -242,7 +253,7 @@ loop-less-4 c =
 loop-again-4 : tie.Need-loop-again-4 Inv-loop μ-loop
 loop-again-4 c =
     let counted = c .before .before in
-    (into-A (repeat-at (joined counted)) (counted .before .before .before .before .if5 .left) (counted .before .before .before .first-end .ensures) (counted .before .count2 .ensures) (counted .both-count .ensures) (c .before .if6 .taken), looped (numbered (joined counted)) .loop .inv .1)
+    (into-A (parts-at counted) (c .before .if6 .taken), kept counted)
 
 sub-rest-5 : tie.Need-sub-rest-5 Inv-loop μ-loop
 sub-rest-5 c = search needs
@@ -261,17 +272,17 @@ loop-less-5 c =
 loop-again-5 : tie.Need-loop-again-5 Inv-loop μ-loop
 loop-again-5 c =
     let counted = c .before .before .before .before in
-    (into-B (repeat-at (joined counted)) (counted .before .before .before .before .if5 .left) (counted .before .before .before .first-end .ensures) (counted .before .count2 .ensures) (counted .both-count .ensures) (c .before .before .before .if6 .left) (c .before .before .if7 .taken), looped (numbered (joined counted)) .loop .inv .1)
+    (into-B (parts-at counted) (c .before .before .before .if6 .left) (c .before .before .if7 .taken), kept counted)
 
 add-if8 : tie.Need-add-if8 Inv-loop μ-loop
 add-if8 c =
     let counted = c .before .before in
-    record { fits = omega (arith, both-few (repeat-at (joined counted)) (counted .before .before .before .before .if5 .left) (counted .before .before .before .first-end .ensures) (counted .before .count2 .ensures) (counted .both-count .ensures)) }
+    record { fits = omega (arith, sum-few (parts-at counted)) }
 
 add-remaining : tie.Need-add-remaining Inv-loop μ-loop
 add-remaining c =
     let counted = c .before .before .before in
-    record { fits = omega (arith, both-few (repeat-at (joined counted)) (counted .before .before .before .before .if5 .left) (counted .before .before .before .first-end .ensures) (counted .before .count2 .ensures) (counted .both-count .ensures)) }
+    record { fits = omega (arith, sum-few (parts-at counted)) }
 
 sub-remaining-4 : tie.Need-sub-remaining-4 Inv-loop μ-loop
 sub-remaining-4 c = omega (arith, c .if8 .taken)
@@ -296,7 +307,7 @@ loop-less-6 c =
 loop-again-6 : tie.Need-loop-again-6 Inv-loop μ-loop
 loop-again-6 c =
     let counted = c .before .before .before .before .before in
-    (into-A′ (repeat-at (joined counted)) (counted .before .before .before .before .if5 .left) (counted .before .before .before .first-end .ensures) (counted .before .count2 .ensures) (counted .both-count .ensures) (c .before .before .before .if7 .left) (c .before .before .if8 .taken), looped (numbered (joined counted)) .loop .inv .1)
+    (into-A′ (parts-at counted) (c .before .before .before .if7 .left) (c .before .before .if8 .taken), kept counted)
 
 sub-remaining-6 : tie.Need-sub-remaining-6 Inv-loop μ-loop
 sub-remaining-6 c =
@@ -325,7 +336,7 @@ loop-less-7 c =
 loop-again-7 : tie.Need-loop-again-7 Inv-loop μ-loop
 loop-again-7 c =
     let counted = c .before .before .before .before .before in
-    (into-B′ (repeat-at (joined counted)) (counted .before .before .before .before .if5 .left) (counted .before .before .before .first-end .ensures) (counted .before .count2 .ensures) (counted .both-count .ensures) (c .before .before .if8 .left), looped (numbered (joined counted)) .loop .inv .1)
+    (into-B′ (parts-at counted) (c .before .before .if8 .left), kept counted)
 
 pub seek-spec : {M : Type 1} → statement M
 seek-spec =
