@@ -18,8 +18,6 @@ use Rattle.notation.specs.Invert.{undo}
 use Rattle.notation.specs.Unroll.{copies, turned}
 use Rattle.notation.specs.Counts.{countBinary, countNode, countBody, count}
 use Rattle.notation.specs.declared.common.GroupKind.the-variants.{Simple}
-use Rattle.notation.specs.declared.common.BinaryGroupKind.{BinaryGroupKind}
-use Rattle.notation.specs.declared.common.BinaryGroupKind.the-variants.{Commutator, Conjugate}
 use Rattle.record.specs.Meaning.{field}
 use Rattle.laws.proofs.Packing.{FitsNode, FitsBody, FitsTree}
 use Rattle.laws.proofs.Walking.{Packed, no-node}
@@ -29,7 +27,7 @@ use Rattle.expand.specs.Meaning.{binaryKind}
 use Rattle.nodes.specs.Nodes.{IsNode, part, FirstNode, firstList, secondList, Lists}
 use Rattle.expand.specs.Steps.{Undoable, All, held, Wrote, IsGroup, either, completed, repeats, Pair, Room}
 use Rattle.nodes.proofs.Nodes.{part-rest, part-length, alone, FirstLeaf, leaf-node}
-use Rattle.expand.proofs.Shapes.{Shape, isLeaf, isGroup, isBinary, shape-of, bodyOf, at-least, both-within, block-is, times-are, steps-are, repeats-some, first-stored, one-count}
+use Rattle.expand.proofs.Shapes.{Shape, isLeaf, isGroup, isBinary, shape-of, bodyOf, at-least, both-within, block-is, group-body, binary-body, times-are, steps-are, repeats-some, first-stored, one-count}
 use Rattle.expand.proofs.Steps.{length-records, records-append, all-flat, all-flatBody}
 use Rattle.expand.proofs.Held.{holds, same-repeats, same-completed}
 
@@ -199,12 +197,7 @@ module _ {bs : List ℕ} (g : IsGroup bs) (some : 0 < count (unpack bs)) {k m : 
       module _ (l : k < 4) where
         group-flat : flat undo false t ≡ flatBody undo false (bodyOf (g .node))
         unfolding flatBody
-        group-flat = ap (flat undo false) first-is ∙ go (g .node) shape
-          where
-            go : {z : ℤ} (n : Node Leaf) → Shape k z n → flat undo false (firstList n) ≡ flatBody undo false (bodyOf n)
-            go (leaf x) (isLeaf l′) = absurd (omega (arith, g .low))
-            go (block (group g a) m) (isGroup l′ q) = refl
-            go (block (binaryGroup g a b) m) (isBinary l′ l″ q) = absurd (omega arith)
+        group-flat = ap (flat undo false) first-is ∙ sym (ap (flatBody undo false) (group-body shape l .1))
 
         pub group-room : Room s₁ a (natAbs (fromBits 32 m))
         group-room = block-room w group-flat r
@@ -225,22 +218,14 @@ module _ {bs : List ℕ} (g : IsGroup bs) (some : 0 < count (unpack bs)) {k m : 
 
         binary-count : countBody (bodyOf (g .node)) ≡ countBinary (binaryKind (eqb k 4)) (count t) (count t′)
         unfolding countBody
-        binary-count = go (g .node) shape ∙ sym (ap₂ (countBinary (binaryKind (eqb k 4))) (ap count first-is) (ap count second-is))
-          where
-            go : {z : ℤ} (n : Node Leaf) → Shape k z n → countBody (bodyOf n) ≡ countBinary (binaryKind (eqb k 4)) (count (firstList n)) (count (secondList n))
-            go (leaf x) (isLeaf l′) = absurd (omega (arith, g .low))
-            go (block (group g a) m) (isGroup l′ q) = absurd (omega arith)
-            go (block (binaryGroup g a b) m) (isBinary l′ l″ q) = rw q
+        binary-count = ap countBody (binary-body shape l low) ∙ sym (ap₂ (countBinary (binaryKind (eqb k 4))) (ap count first-is) (ap count second-is))
 
         binary-flat : completed (eqb k 4) (flat undo false t) (flat undo false t′) ≡ flatBody undo false (bodyOf (g .node))
         unfolding flatBody
-        binary-flat = ap₂ (λ (x x′ : Tree). completed (eqb k 4) (flat undo false x) (flat undo false x′)) first-is second-is ∙ go (g .node) shape
-          where
-            go : {z : ℤ} (n : Node Leaf) → Shape k z n → completed (eqb k 4) (flat undo false (firstList n)) (flat undo false (secondList n)) ≡ flatBody undo false (bodyOf n)
-            go (leaf x) (isLeaf l′) = absurd (omega (arith, g .low))
-            go (block (group g a) m) (isGroup l′ q) = absurd (omega arith)
-            go (block (binaryGroup g a b) m) (isBinary l′ l″ q) =
-                rw q (ap₂ (λ (x x′ : Bool → List Leaf). flatBinary g false x x′) (fun-ext λ d. either-flat a d) (fun-ext λ d. either-flat b d))
+        binary-flat =
+            ap₂ (λ (x x′ : Bool → List Leaf). flatBinary (binaryKind (eqb k 4)) false x x′) (fun-ext λ d. either-flat t d) (fun-ext λ d. either-flat t′ d)
+            ∙ ap₂ (λ (x x′ : Tree). flatBody undo false (binaryGroup (binaryKind (eqb k 4)) x x′)) first-is second-is
+            ∙ sym (ap (flatBody undo false) (binary-body shape l low))
 
         both-bytes : s₂ ≡ records (flat undo false t) ++ (records (flat undo false t′) ++ drop (a + b) out)
         both-bytes =

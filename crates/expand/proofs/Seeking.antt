@@ -34,7 +34,7 @@ use Rattle.expand.specs.Steps.{Undoable}
 use Rattle.expand.specs.Places.{stepIn, found, Has, Sought}
 use Rattle.nodes.specs.Nodes.{IsNode, part, FirstNode, firstList, secondList, Lists}
 use Rattle.nodes.proofs.Nodes.{part-rest, part-length, record-room, front-field, FirstLeaf, leaf-node}
-use Rattle.expand.proofs.Shapes.{Shape, isLeaf, isGroup, isBinary, shape-of, bodyOf, at-least, positive-right, both-within, block-is, steps-are, repeats-some, first-counted, first-steps, leaf-steps}
+use Rattle.expand.proofs.Shapes.{Shape, isLeaf, isGroup, isBinary, shape-of, bodyOf, at-least, positive-right, both-within, block-is, group-body, binary-body, steps-are, repeats-some, first-counted, first-steps, leaf-steps}
 use Rattle.expand.proofs.Steps.{fits-undoable}
 use Rattle.expand.proofs.Undoing.{step-starts, step-undone}
 
@@ -198,20 +198,25 @@ module _ {tree bs list : List ℕ} {place k once remaining : ℕ} {inverted : Bo
   enter-undone : getElem? (flatBody undo false (bodyOf (r .node))) remaining ≡ undoIf true (stepIn list at) → Sought tree place list at (not inverted)
   enter-undone p = record { has = record { packed = packed; below = h; few = few }; step = r .step ∙ ap (undoIf inverted) p ∙ undo-again inverted (stepIn list at) }
 
--- a plain group is its list
-pub into-list : {tree bs : List ℕ} {place k once remaining : ℕ} {inverted : Bool} → Repeat tree place bs k once remaining inverted → k < 4 → Sought tree place (part RECORD (length bs) bs) remaining inverted
-unfolding flatBody countBody
-into-list {tree} {bs} {place} {k} {once} {remaining} {inverted} r h = go (r .node) (r .isNode) (r .shape) (r .counts) refl
+-- a plain group is its list, which is all behind its record
+only-list : {k : ℕ} {m : ℤ} {n : Node Leaf} {bs : List ℕ} → k < 4 → IsNode bs n → Shape k m n → Packed (part RECORD (length bs) bs) × (unpack (part RECORD (length bs) bs) ≡ firstList n)
+only-list {k} {m} {n} {bs} h i s = go n i s
   where
-    go : (n : Node Leaf) → IsNode bs n → Shape k (r .multiplier) n → once ≡ countBody (bodyOf n) → r .node ≡ n → Sought tree place (part RECORD (length bs) bs) remaining inverted
-    go (leaf x) i (isLeaf l) c e = absurd (omega arith)
-    go (block (group g a) m) i (isGroup l q) c e =
+    go : (n : Node Leaf) → IsNode bs n → Shape k m n → Packed (part RECORD (length bs) bs) × (unpack (part RECORD (length bs) bs) ≡ firstList n)
+    go (leaf x) i (isLeaf l) = absurd (omega arith)
+    go (block (group g a) m) i (isGroup l q) =
         let o = one-list bs g a m (i .fits) (i .bytes) in
         let rest = part-rest RECORD bs in
-        let list : unpack (part RECORD (length bs) bs) ≡ a = ap unpack rest ∙ o .unpacksList in
-        enter r (subst Packed (sym rest) (o .packedList)) (omega (arith, ap count list, r .few)) remaining (omega (arith, ap count list, r .below))
-        (ap (λ (n : Node Leaf). getElem? (flatBody undo false (bodyOf n)) remaining) e ∙ ap (λ (t : Tree). getElem? (flat undo false t) remaining) (sym list))
-    go (block (binaryGroup g a b) m) i (isBinary l l′ q) c e = absurd (omega arith)
+        (subst Packed (sym rest) (o .packedList), ap unpack rest ∙ o .unpacksList)
+    go (block (binaryGroup g a b) m) i (isBinary l l′ q) = absurd (omega arith)
+
+pub into-list : {tree bs : List ℕ} {place k once remaining : ℕ} {inverted : Bool} → Repeat tree place bs k once remaining inverted → k < 4 → Sought tree place (part RECORD (length bs) bs) remaining inverted
+unfolding flatBody countBody
+into-list {tree} {bs} {place} {k} {once} {remaining} r h =
+    let list = only-list h (r .isNode) (r .shape) in
+    let body : bodyOf (r .node) ≡ group (group-body (r .shape) h .0) (unpack (part RECORD (length bs) bs)) = group-body (r .shape) h .1 ∙ ap (group (group-body (r .shape) h .0)) (sym (list .1)) in
+    let all : once ≡ count (unpack (part RECORD (length bs) bs)) = r .counts ∙ ap countBody body in
+    enter r (list .0) (omega (arith, r .few)) remaining (omega (arith, r .below)) (ap (λ (b : Body Leaf). getElem? (flatBody undo false b) remaining) body)
 
 -- The lists A and B of a commutator or a conjugate, by its bytes: B begins at middle.
 abbrev A : List ℕ → ℕ → Tree
@@ -222,12 +227,7 @@ B bs middle = unpack (part middle (length bs) bs)
 
 module _ {tree bs : List ℕ} {place k once remaining middle : ℕ} {inverted : Bool} (r : Repeat tree place bs k once remaining inverted) (high : 4 ≤ k) (l : Lists bs middle) where
   body : bodyOf (r .node) ≡ binaryGroup (binaryKind (eqb k 4)) (A bs middle) (B bs middle)
-  body = go (r .node) (r .shape) ∙ ap₂ (binaryGroup (binaryKind (eqb k 4))) (sym (l .unpacksFirst (r .node) (r .isNode))) (sym (l .unpacksSecond (r .node) (r .isNode)))
-    where
-      go : (n : Node Leaf) → Shape k (r .multiplier) n → bodyOf n ≡ binaryGroup (binaryKind (eqb k 4)) (firstList n) (secondList n)
-      go (leaf x) (isLeaf l) = absurd (omega (arith, r .low))
-      go (block (group g a) m) (isGroup l q) = absurd (omega arith)
-      go (block (binaryGroup g a b) m) (isBinary l l′ q) = rw q
+  body = binary-body (r .shape) high (r .low) ∙ ap₂ (binaryGroup (binaryKind (eqb k 4))) (sym (l .unpacksFirst (r .node) (r .isNode))) (sym (l .unpacksSecond (r .node) (r .isNode)))
 
   all : once ≡ countBinary (binaryKind (eqb k 4)) (count (A bs middle)) (count (B bs middle))
   unfolding countBody

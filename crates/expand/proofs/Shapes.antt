@@ -21,7 +21,7 @@ use Rattle.notation.specs.declared.common.BinaryGroupKind.{BinaryGroupKind}
 use Rattle.notation.specs.declared.common.BinaryGroupKind.the-variants.{Commutator, Conjugate}
 use Rattle.record.specs.Meaning.{field}
 use Rattle.laws.proofs.Walking.{head-stored}
-use Rattle.nodes.specs.Nodes.{IsNode, part, FirstNode}
+use Rattle.nodes.specs.Nodes.{IsNode, part, FirstNode, firstList, secondList}
 use Rattle.nodes.proofs.Nodes.{alone, fields-of, front-field, first-low, kind-of, leaf-kind, multiplier-of, FirstLeaf}
 use Rattle.expand.specs.Meaning.{binaryKind}
 use Rattle.expand.specs.Steps.{IsGroup}
@@ -100,6 +100,23 @@ module _ {k : ℕ} {m : ℤ} {n : Node Leaf} (s : Shape k m n) (low : k ≤ 5) w
 
     pub repeats-some : 1 ≤ natAbs m
     repeats-some = positive-left (natAbs m) (countBody (bodyOf n)) 0 (omega (arith, steps-are))
+
+-- a plain group has one list, a commutator or a conjugate two
+pub group-body : {k : ℕ} {m : ℤ} {n : Node Leaf} → Shape k m n → k < 4 → (g : GroupKind) × (bodyOf n ≡ group g (firstList n))
+group-body {k} {m} {n} s h = go n s
+  where
+    go : (n : Node Leaf) → Shape k m n → (g : GroupKind) × (bodyOf n ≡ group g (firstList n))
+    go (leaf x) (isLeaf l) = absurd (omega arith)
+    go (block (group g a) m) (isGroup l q) = (g, refl)
+    go (block (binaryGroup g a b) m) (isBinary l l′ q) = absurd (omega arith)
+
+pub binary-body : {k : ℕ} {m : ℤ} {n : Node Leaf} → Shape k m n → 4 ≤ k → k ≤ 5 → bodyOf n ≡ binaryGroup (binaryKind (eqb k 4)) (firstList n) (secondList n)
+binary-body {k} {m} {n} s h low = go n s
+  where
+    go : (n : Node Leaf) → Shape k m n → bodyOf n ≡ binaryGroup (binaryKind (eqb k 4)) (firstList n) (secondList n)
+    go (leaf x) (isLeaf l) = absurd (omega arith)
+    go (block (group g a) m) (isGroup l q) = absurd (omega arith)
+    go (block (binaryGroup g a b) m) (isBinary l l′ q) = rw q
 
 -- The record stores the count of the node, held.
 pub first-stored : {bs : List ℕ} {e : ℕ} (f : FirstNode bs e) → field 11 bs ≡ stored (f .node)

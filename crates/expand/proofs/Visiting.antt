@@ -12,7 +12,7 @@ use lib.ListN.{length}
 use Rattle.notation.specs.Basics.{pick}
 use Rattle.notation.specs.Numbers.{fromBits, toBits}
 use Rattle.notation.specs.Refusals.{NISS}
-use Rattle.notation.specs.Tree.{Leaf, rotation, move, pause, pair, slash, megaminx, Node, leaf, block, group, binaryGroup, Tree}
+use Rattle.notation.specs.Tree.{Leaf, rotation, move, pause, pair, slash, megaminx, Node, leaf, block, Body, group, binaryGroup, Tree}
 use Rattle.notation.specs.Packed.{RECORD, leafHead, unpack}
 use Rattle.notation.specs.Invert.{isMin, overflows}
 use Rattle.notation.specs.Unroll.{turned, isNiss}
@@ -29,7 +29,7 @@ use Rattle.nodes.proofs.Nodes.{part-length, fields-of, kind-of, alone, front-fi
 use Rattle.expand.specs.Meaning.{told, refuses, leafRefuses, overflowsAt, binaryKind}
 use Rattle.expand.specs.Steps.{IsGroup}
 use Rattle.expand.specs.declared.visit.Refusals.{Refusals}
-use Rattle.expand.proofs.Shapes.{Shape, isLeaf, isGroup, isBinary, shape-of, bodyOf, block-is}
+use Rattle.expand.proofs.Shapes.{Shape, isLeaf, isGroup, isBinary, shape-of, bodyOf, block-is, group-body, binary-body}
 
 -- the first refusals, by direction
 abbrev ofNode : Node Leaf → Bool → Option ℕ
@@ -37,6 +37,9 @@ ofNode n d = refusalNode d n
 
 abbrev ofTree : Tree → Bool → Option ℕ
 ofTree t d = firstRefusal d t
+
+abbrev inBody : Body Leaf → Bool → Option ℕ
+inBody b d = refusalBody d b
 
 abbrev after : (met next : Bool → Option ℕ) → Bool → Option ℕ
 after met next d = firstInOrder d (met d) (next d)
@@ -192,27 +195,18 @@ module _ {bs : List ℕ} (g : IsGroup bs) {k : ℕ} (e : k ≡ field 0 bs / 16) 
 
         pub group-refused : {r : Bool → Option ℕ} → k < 4 → r ≡ turnedBy (fromBits 32 m) a → r ≡ ofTree (unpack bs)
         unfolding refusalBody
-        group-refused h q = body-refused (first-refused ∙ fun-ext (λ d. go n kind-shape d)) q
-          where
-            go : {m : ℤ} (n : Node Leaf) → Shape k m n → (d : Bool) → firstRefusal d (firstList n) ≡ refusalBody d (bodyOf n)
-            go (leaf x) (isLeaf l) d = absurd (omega arith)
-            go (block (group g a) m) (isGroup l q) d = refl
-            go (block (binaryGroup g a b) m) (isBinary l l′ q) d = absurd (omega arith)
+        group-refused h q = body-refused (first-refused ∙ sym (ap inBody (group-body kind-shape h .1))) q
 
         abbrev ofBoth : (a b : Bool → Option ℕ) → Bool → Option ℕ
         ofBoth a b d = refusalBinary (binaryKind (eqb k 4)) d a b
 
         pub binary-refused : {r b c : Bool → Option ℕ} → 4 ≤ k → b ≡ ofTree (unpack (part mid (length bs) bs)) → c ≡ ofBoth a b → r ≡ turnedBy (fromBits 32 m) c → r ≡ ofTree (unpack bs)
         unfolding refusalBody
-        binary-refused {r} {b} {c} h p′ w q = body-refused (w ∙ ap₂ ofBoth first-refused second-refused ∙ fun-ext (λ d. go n kind-shape d)) q
+        binary-refused {r} {b} {c} h p′ w q =
+            body-refused (w ∙ ap₂ ofBoth first-refused second-refused ∙ sym (ap inBody (binary-body kind-shape h low))) q
           where
             second-refused : b ≡ ofTree (secondList n)
             second-refused = p′ ∙ ap ofTree (l .unpacksSecond n (g .isNode))
-
-            go : {m : ℤ} (n : Node Leaf) → Shape k m n → (d : Bool) → ofBoth (ofTree (firstList n)) (ofTree (secondList n)) d ≡ refusalBody d (bodyOf n)
-            go (leaf x) (isLeaf l) d = absurd (omega (arith, low))
-            go (block (group g a) m) (isGroup l q) d = absurd (omega arith)
-            go (block (binaryGroup g a b) m) (isBinary l l′ q) d = rw q
 
 -- The loop: what was met, and then what is left, is the whole.
 first-assoc : (p q r : Option ℕ) → first (first p q) r ≡ first p (first q r)
