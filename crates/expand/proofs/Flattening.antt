@@ -7,7 +7,7 @@ use native.Mathlib.Nat.{mul-assoc, mul-comm}
 use native.Mathlib.Omega.{arith}
 use borrow.Rule.Slice.PartMut.{putMid, midOf, same-len-mid}
 use lib.Dec.{eqb}
-use lib.IntN.{ℤ, natAbs}
+use lib.IntN.{natAbs}
 use lib.ListN.{length, take, drop, length-append, length-drop}
 use lib.Seq.{take-at, drop-at, drop-length, drop-drop}
 use Rattle.notation.specs.Numbers.{fromBits}
@@ -27,7 +27,7 @@ use Rattle.expand.specs.Meaning.{binaryKind}
 use Rattle.nodes.specs.Nodes.{IsNode, part, FirstNode, firstList, secondList, Lists}
 use Rattle.expand.specs.Steps.{Undoable, All, held, Wrote, IsGroup, either, completed, repeats, Pair, Room}
 use Rattle.nodes.proofs.Nodes.{part-rest, part-length, alone, FirstLeaf, leaf-node}
-use Rattle.expand.proofs.Shapes.{Shape, isLeaf, isGroup, isBinary, shape-of, bodyOf, at-least, both-within, block-is, group-body, binary-body, times-are, steps-are, repeats-some, first-stored, one-count}
+use Rattle.expand.proofs.Shapes.{Shape, shape-of, bodyOf, at-least, both-within, block-is, group-body, binary-body, times-are, steps-are, repeats-some, first-stored, one-count}
 use Rattle.expand.proofs.Steps.{length-records, records-append, all-flat, all-flatBody}
 use Rattle.expand.proofs.Held.{holds, same-repeats, same-completed}
 

@@ -32,7 +32,7 @@ use Rattle.laws.proofs.Seeking.{undoIf, undo-none, undo-again, in-repeat, from-
 use Rattle.expand.specs.Meaning.{binaryKind}
 use Rattle.expand.specs.Steps.{Undoable}
 use Rattle.expand.specs.Places.{stepIn, found, Has, Sought}
-use Rattle.nodes.specs.Nodes.{IsNode, part, FirstNode, firstList, secondList, Lists}
+use Rattle.nodes.specs.Nodes.{IsNode, part, FirstNode, firstList, Lists}
 use Rattle.nodes.proofs.Nodes.{part-rest, part-length, record-room, front-field, FirstLeaf, leaf-node}
 use Rattle.expand.proofs.Shapes.{Shape, isLeaf, isGroup, isBinary, shape-of, bodyOf, at-least, positive-right, both-within, block-is, group-body, binary-body, steps-are, repeats-some, first-counted, first-steps, leaf-steps}
 use Rattle.expand.proofs.Steps.{fits-undoable}
