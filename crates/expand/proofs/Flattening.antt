@@ -26,8 +26,8 @@ use Rattle.laws.proofs.Counting.{countNode-is, countBody-is, count-is, stored-n
 use Rattle.expand.specs.Meaning.{binaryKind}
 use Rattle.nodes.specs.Nodes.{IsNode, part, FirstNode, firstList, secondList, Lists}
 use Rattle.expand.specs.Steps.{Undoable, All, held, Wrote, IsGroup, either, completed, repeats, Pair, Room}
-use Rattle.nodes.proofs.Nodes.{part-rest, part-length, alone, FirstLeaf, leaf-node}
-use Rattle.expand.proofs.Shapes.{Shape, shape-of, bodyOf, at-least, both-within, block-is, group-body, binary-body, times-are, steps-are, repeats-some, first-stored, one-count}
+use Rattle.nodes.proofs.Nodes.{part-rest, part-length, FirstLeaf, leaf-node}
+use Rattle.expand.proofs.Shapes.{Shape, shape-of, bodyOf, at-least, both-within, block-is, group-body, binary-body, times-are, steps-are, repeats-some, first-stored, one-count, one-flat}
 use Rattle.expand.proofs.Steps.{length-records, records-append, all-flat, all-flatBody}
 use Rattle.expand.proofs.Held.{holds, same-repeats, same-completed}
 
@@ -94,11 +94,6 @@ leaf-written {bs} {out} {out′} l q =
       size = refl;
       bytes = q ∙ ap (λ (a : List ℕ). a ++ drop RECORD out) (sym (leaf-node l .bytes) ∙ sym (append-nil (leafRecord (l .step))));
     })
-
--- a node's bytes unroll into what the node does
-one-flat : {bs : List ℕ} {n : Node Leaf} → IsNode bs n → flat undo false (unpack bs) ≡ flatNode undo false n
-unfolding flat
-one-flat {bs} {n} s = ap (flat undo false) (alone s) ∙ append-nil (flatNode undo false n)
 
 pub node-written : {bs s s₁ : List ℕ} {n : Node Leaf} {r : ℕ} → IsNode bs n → Wrote s s₁ (flat undo false (unpack bs)) r → Wrote s s₁ (flatNode undo false n) r
 node-written {bs} {s} {s₁} {n} {r} i w = subst (λ (l : List Leaf). Wrote s s₁ l r) (one-flat i) w

@@ -1,6 +1,6 @@
 -- Seeking: what each turn of the loop leaves of the step sought. Assumes nothing.
 use Prim.Native.Nat.{ℕ, zero, suc, _+_, _-_, _*_, _/_, _%_, _≤_, _<_}
-use mathlib.Core.Path.{_≡_, refl, sym, ap, ap₂, _∙_, subst}
+use mathlib.Core.Path.{_≡_, refl, sym, ap, ap₂, _∙_}
 use mathlib.Core.Bool.{Bool, true, false, not}
 use mathlib.Core.List.{List, [], _∷_, _++_}
 use mathlib.Core.Option.{Option, some}
@@ -11,7 +11,7 @@ use lib.IntN.{ℤ, pos, negsuc, natAbs}
 use lib.ListN.{length, drop, getElem?}
 use Rattle.notation.specs.Basics.{pick}
 use Rattle.notation.specs.Numbers.{fromBits}
-use Rattle.notation.specs.Tree.{Leaf, Node, leaf, block, Body, group, binaryGroup, Tree}
+use Rattle.notation.specs.Tree.{Leaf, Node, block, Body, group, binaryGroup, Tree}
 use Rattle.notation.specs.Packed.{RECORD, leafRecord, packNode, unpack}
 use Rattle.notation.specs.Invert.{undo}
 use Rattle.notation.specs.Unroll.{turned}
@@ -24,17 +24,17 @@ use Rattle.record.specs.Meaning.{field}
 use Rattle.record.specs.Undone.{StartsRecord}
 use Rattle.record.proofs.Undoing.{Undone}
 use Rattle.laws.proofs.Packing.{FitsNode}
-use Rattle.laws.proofs.Walking.{Packed, no-node, one-list}
+use Rattle.laws.proofs.Walking.{Packed, no-node}
 use Rattle.laws.proofs.ListEntries.{get-append-left, get-append-right}
 use Rattle.laws.proofs.Unrolling.{flatNode, flatBody, flat}
 use Rattle.laws.proofs.Counting.{countNode-is}
 use Rattle.laws.proofs.Seeking.{undoIf, undo-none, undo-again, in-repeat, from-end, in-A, in-B, in-A′, in-B′}
 use Rattle.expand.specs.Meaning.{binaryKind}
-use Rattle.expand.specs.Steps.{Undoable}
+use Rattle.expand.specs.Steps.{Undoable, IsGroup}
 use Rattle.expand.specs.Places.{stepIn, found, Has, Sought}
-use Rattle.nodes.specs.Nodes.{IsNode, part, FirstNode, firstList, Lists}
-use Rattle.nodes.proofs.Nodes.{part-rest, part-length, record-room, front-field, FirstLeaf, leaf-node}
-use Rattle.expand.proofs.Shapes.{Shape, isLeaf, isGroup, isBinary, shape-of, bodyOf, at-least, positive-right, both-within, block-is, group-body, binary-body, steps-are, repeats-some, first-counted, first-steps, leaf-steps}
+use Rattle.nodes.specs.Nodes.{IsNode, part, FirstNode, Lists}
+use Rattle.nodes.proofs.Nodes.{part-length, record-room, node-packed, FirstLeaf, leaf-node}
+use Rattle.expand.proofs.Shapes.{Shape, shape-of, bodyOf, at-least, positive-right, both-within, block-is, group-body, binary-body, steps-are, repeats-some, first-counted, leaf-steps, one-count, one-flat}
 use Rattle.expand.proofs.Steps.{fits-undoable}
 use Rattle.expand.proofs.Undoing.{step-starts, step-undone}
 
@@ -50,15 +50,18 @@ some-record {list} {place} h = go (length list) refl
 pub room : {list : List ℕ} {place : ℕ} → Has list place → RECORD ≤ length list
 room {list} h = record-room list (h .packed) (some-record h)
 
-pub sought-starts : (tree : List ℕ) (place : ℕ) → Has tree place → Sought tree place tree place false
+pub sought-starts : (tree : List ℕ) (place : ℕ) → Has tree place → Sought (stepIn tree place) tree place false
 sought-starts tree place h = record { has = h; step = sym (undo-none (stepIn tree place)) }
+
+pub sought-itself : (list : List ℕ) (place : ℕ) (inverted : Bool) → Has list place → Sought (undoIf inverted (stepIn list place)) list place inverted
+sought-itself list place inverted h = record { has = h; step = refl }
 
 negative-turns : (m : ℤ) → isNegative m ≡ turned m false
 negative-turns (pos n) = refl
 negative-turns (negsuc n) = refl
 
 -- What the first node leaves: its steps are passed, or the step sought is one of them.
-module _ {tree rest : List ℕ} {place remaining e steps : ℕ} {inverted : Bool} (s : Sought tree place rest remaining inverted) (f : FirstNode rest e) (exact : steps ≡ countNode (f .node)) where
+module _ {o : Option Leaf} {rest : List ℕ} {remaining e steps : ℕ} {inverted : Bool} (s : Sought o rest remaining inverted) (f : FirstNode rest e) (exact : steps ≡ countNode (f .node)) where
   long : length (flatNode undo false (f .node)) ≡ steps
   long = countNode-is (f .node) false ∙ sym exact
 
@@ -66,7 +69,7 @@ module _ {tree rest : List ℕ} {place remaining e steps : ℕ} {inverted : Bool
   unfolding flat
   unrolled = ap (flat undo false) (f .unpacks)
 
-  pub sought-past : steps ≤ remaining → Sought tree place (part e (length rest) rest) (remaining - steps) inverted
+  pub sought-past : steps ≤ remaining → Sought o (part e (length rest) rest) (remaining - steps) inverted
   sought-past h =
       record {
         has = record {
@@ -78,7 +81,7 @@ module _ {tree rest : List ℕ} {place remaining e steps : ℕ} {inverted : Bool
             ∙ get-append-right (flatNode undo false (f .node)) _ remaining (omega (arith, long)) ∙ ap (λ (n : ℕ). stepIn (part e (length rest) rest) (remaining - n)) long);
       }
 
-  in-node : remaining < steps → stepIn tree place ≡ undoIf inverted (getElem? (flatNode undo false (f .node)) remaining)
+  in-node : remaining < steps → o ≡ undoIf inverted (getElem? (flatNode undo false (f .node)) remaining)
   in-node h =
       s .step ∙ ap (undoIf inverted) (ap (λ (l : List Leaf). getElem? l remaining) unrolled
           ∙ get-append-left (flatNode undo false (f .node)) _ remaining (omega (arith, long)))
@@ -88,11 +91,11 @@ pub leaf-step : {rest : List ℕ} (l : FirstLeaf rest) → Undoable (l .step) ×
 unfolding packNode FitsNode
 leaf-step l = (fits-undoable (l .step) (leaf-node l .fits), sym (leaf-node l .bytes))
 
-pub found-leaf : {tree rest : List ℕ} {place remaining : ℕ} {inverted : Bool} → Sought tree place rest remaining inverted → (l : FirstLeaf rest) → remaining ≡ 0 → (step : List ℕ) {now step′ : List ℕ} → now ≡ step →
+pub found-leaf : {o : Option Leaf} {rest : List ℕ} {remaining : ℕ} {inverted : Bool} → Sought o rest remaining inverted → (l : FirstLeaf rest) → remaining ≡ 0 → (step : List ℕ) {now step′ : List ℕ} → now ≡ step →
     ((x : Leaf) → Undoable x → part 0 RECORD rest ≡ leafRecord x → step′ ≡ leafRecord (pick inverted (undo x) x) ++ drop RECORD now) →
-    step′ ≡ found (stepIn tree place) ++ drop RECORD step
+    step′ ≡ found (o) ++ drop RECORD step
 unfolding flatNode
-found-leaf {tree} {rest} {place} {remaining} {inverted} s l z step w c =
+found-leaf {o} {rest} {remaining} {inverted} s l z step w c =
     c x (leaf-step l .0) (leaf-step l .1)
     ∙ ap (λ (y : List ℕ). leafRecord (pick inverted (undo x) x) ++ drop RECORD y) w
     ∙ ap (λ (o : Option Leaf). found o ++ drop RECORD step) (sym (in-node s (l .first) (leaf-steps l) (omega arith) ∙ ap (undoIf inverted) here))
@@ -103,8 +106,17 @@ found-leaf {tree} {rest} {place} {remaining} {inverted} s l z step w c =
     here : getElem? (flatNode undo false (l .first .node)) remaining ≡ some x
     here = ap (λ (n : Node Leaf). getElem? (flatNode undo false n) remaining) (l .isStep) ∙ ap (getElem? (x ∷ [])) z
 
+-- a group's bytes are a list of their own
+pub sought-within : {o : Option Leaf} {rest : List ℕ} {remaining e steps : ℕ} {inverted : Bool} → Sought o rest remaining inverted → (f : FirstNode rest e) → steps ≡ countNode (f .node) → remaining < steps →
+    Sought o (part 0 e rest) remaining inverted
+sought-within {remaining = remaining} {inverted = inverted} s f exact h =
+    record {
+      has = record { packed = node-packed (f .isNode); below = omega (arith, one-count (f .isNode)); few = omega (arith, one-count (f .isNode), first-counted f, s .has .few) };
+      step = in-node s f exact h ∙ ap (undoIf inverted) (ap (λ (l : List Leaf). getElem? l remaining) (sym (one-flat (f .isNode))));
+    }
+
 -- A group that has the step sought, by its bytes, its kind k and its multiplier's bits m.
-pub record Group (tree : List ℕ) (place : ℕ) (bs : List ℕ) (k m steps remaining : ℕ) (inverted : Bool) : Type 0 where
+pub record Group (o : Option Leaf) (bs : List ℕ) (k m steps remaining : ℕ) (inverted : Bool) : Type 0 where
   pub node : Node Leaf
   pub isNode : IsNode bs node
   pub shape : Shape k (fromBits 32 m) node
@@ -112,26 +124,24 @@ pub record Group (tree : List ℕ) (place : ℕ) (bs : List ℕ) (k m steps rema
   pub counts : steps ≡ countNode node
   pub below : remaining < steps
   pub few : steps ≤ MAX-STEPS
-  pub step : stepIn tree place ≡ undoIf inverted (getElem? (flatNode undo false node) remaining)
+  pub step : o ≡ undoIf inverted (getElem? (flatNode undo false node) remaining)
 
-pub in-group : {tree rest : List ℕ} {place remaining e k m steps : ℕ} {inverted : Bool} → Sought tree place rest remaining inverted → (f : FirstNode rest e) → k ≡ field 0 rest / 16 → k ≤ 5 →
-    steps ≡ field 11 rest → remaining < steps → m ≡ field 3 (part 0 e rest) → Group tree place (part 0 e rest) k m steps remaining inverted
-in-group {tree} {rest} {place} {remaining} {e} {k} {m} s f p low q h n =
-    let exact = first-steps f (s .has .few) q in
-    let kind : k ≡ field 0 (part 0 e rest) / 16 = p ∙ ap (λ (b : ℕ). b / 16) (sym (front-field rest e (f .least) 0)) in
+pub in-group : {o : Option Leaf} {bs : List ℕ} {remaining k m steps : ℕ} {inverted : Bool} → IsGroup bs → steps ≡ count (unpack bs) → k ≡ field 0 bs / 16 → m ≡ field 3 bs →
+    Sought o bs remaining inverted → Group o bs k m steps remaining inverted
+in-group {remaining = remaining} {inverted = inverted} g c p n s =
     record {
-      node = f .node;
-      isNode = f .isNode;
-      shape = rw (kind, n) (shape-of (f .isNode));
-      low = low;
-      counts = exact;
-      below = h;
-      few = omega (arith, first-counted f, s .has .few);
-      step = in-node s f exact h;
+      node = g .node;
+      isNode = g .isNode;
+      shape = rw (p, n) (shape-of (g .isNode));
+      low = omega (arith, g .low);
+      counts = c ∙ one-count (g .isNode);
+      below = omega (arith, s .has .below);
+      few = omega (arith, s .has .few);
+      step = s .step ∙ ap (undoIf inverted) (ap (λ (l : List Leaf). getElem? l remaining) (one-flat (g .isNode)));
     }
 
 -- The same in one repeat of it, forward, which has so many steps.
-pub record Repeat (tree : List ℕ) (place : ℕ) (bs : List ℕ) (k once remaining : ℕ) (inverted : Bool) : Type 0 where
+pub record Repeat (o : Option Leaf) (bs : List ℕ) (k once remaining : ℕ) (inverted : Bool) : Type 0 where
   pub node : Node Leaf
   pub multiplier : ℤ
   pub isNode : IsNode bs node
@@ -140,9 +150,12 @@ pub record Repeat (tree : List ℕ) (place : ℕ) (bs : List ℕ) (k once remain
   pub counts : once ≡ countBody (bodyOf node)
   pub below : remaining < once
   pub few : once ≤ MAX-STEPS
-  pub step : stepIn tree place ≡ undoIf inverted (getElem? (flatBody undo false (bodyOf node)) remaining)
+  pub step : o ≡ undoIf inverted (getElem? (flatBody undo false (bodyOf node)) remaining)
 
-module _ {tree bs : List ℕ} {place k m steps remaining : ℕ} {inverted : Bool} (g : Group tree place bs k m steps remaining inverted) {repeats : ℕ} (t : repeats ≡ natAbs (fromBits 32 m)) where
+pub at-place : {o : Option Leaf} {bs : List ℕ} {k once r r′ : ℕ} {d d′ : Bool} → Repeat o bs k once r d → r′ ≡ r → d′ ≡ d → Repeat o bs k once r′ d′
+at-place x p q = rw (p, q) x
+
+module _ {o : Option Leaf} {bs : List ℕ} {k m steps remaining : ℕ} {inverted : Bool} (g : Group o bs k m steps remaining inverted) {repeats : ℕ} (t : repeats ≡ natAbs (fromBits 32 m)) where
   node-some : 0 < countNode (g .node)
   node-some = omega (arith, g .counts, g .below)
 
@@ -164,7 +177,7 @@ module _ {tree bs : List ℕ} {place k m steps remaining : ℕ} {inverted : Bool
   once-few : steps / repeats ≤ MAX-STEPS
   once-few = omega (arith, once-counts, at-least repeats (countBody (bodyOf (g .node))) repeats-one, steps-repeat, g .few)
 
-  played : stepIn tree place ≡ undoIf inverted (getElem? (flatBody undo (turned (fromBits 32 m) false) (bodyOf (g .node))) (remaining % (steps / repeats)))
+  played : o ≡ undoIf inverted (getElem? (flatBody undo (turned (fromBits 32 m) false) (bodyOf (g .node))) (remaining % (steps / repeats)))
   played =
       g .step
       ∙ ap (λ (n : Node Leaf). undoIf inverted (getElem? (flatNode undo false n) remaining)) is
@@ -174,15 +187,15 @@ module _ {tree bs : List ℕ} {place k m steps remaining : ℕ} {inverted : Bool
       is : g .node ≡ block (bodyOf (g .node)) (fromBits 32 m)
       is = block-is (g .shape) (g .low)
 
-  one-repeat : {at : ℕ} {d : Bool} → at < steps / repeats → stepIn tree place ≡ undoIf d (getElem? (flatBody undo false (bodyOf (g .node))) at) → Repeat tree place bs k (steps / repeats) at d
+  one-repeat : {at : ℕ} {d : Bool} → at < steps / repeats → o ≡ undoIf d (getElem? (flatBody undo false (bodyOf (g .node))) at) → Repeat o bs k (steps / repeats) at d
   one-repeat h p =
       record { node = g .node; multiplier = fromBits 32 m; isNode = g .isNode; shape = g .shape; low = g .low; counts = once-counts; below = h; few = once-few; step = p }
 
   -- a negative multiplier plays a repeat from its end, undone
-  pub forward : isNegative (fromBits 32 m) ≡ false → Repeat tree place bs k (steps / repeats) (remaining % (steps / repeats)) inverted
+  pub forward : isNegative (fromBits 32 m) ≡ false → Repeat o bs k (steps / repeats) (remaining % (steps / repeats)) inverted
   forward p = one-repeat within-once (played ∙ ap (λ (d : Bool). undoIf inverted (getElem? (flatBody undo d (bodyOf (g .node))) (remaining % (steps / repeats)))) (sym (negative-turns (fromBits 32 m)) ∙ p))
 
-  pub from-the-end : isNegative (fromBits 32 m) ≡ true → Repeat tree place bs k (steps / repeats) (steps / repeats - 1 - remaining % (steps / repeats)) (not inverted)
+  pub from-the-end : isNegative (fromBits 32 m) ≡ true → Repeat o bs k (steps / repeats) (steps / repeats - 1 - remaining % (steps / repeats)) (not inverted)
   from-the-end p =
       one-repeat (omega (arith, within-once))
       (played ∙ ap (λ (d : Bool). undoIf inverted (getElem? (flatBody undo d (bodyOf (g .node))) (remaining % (steps / repeats)))) (sym (negative-turns (fromBits 32 m)) ∙ p)
@@ -191,32 +204,21 @@ module _ {tree bs : List ℕ} {place k m steps remaining : ℕ} {inverted : Bool
       ∙ ap (λ (c : ℕ). undoIf (not inverted) (getElem? (flatBody undo false (bodyOf (g .node))) (c - 1 - remaining % (steps / repeats)))) (sym once-counts))
 
 -- into a list, forward, or from its end and undone
-module _ {tree bs list : List ℕ} {place k once remaining : ℕ} {inverted : Bool} (r : Repeat tree place bs k once remaining inverted) (packed : Packed list) (few : count (unpack list) ≤ MAX-STEPS) (at : ℕ) (h : at < count (unpack list)) where
-  enter : getElem? (flatBody undo false (bodyOf (r .node))) remaining ≡ stepIn list at → Sought tree place list at inverted
+module _ {o : Option Leaf} {bs list : List ℕ} {k once remaining : ℕ} {inverted : Bool} (r : Repeat o bs k once remaining inverted) (packed : Packed list) (few : count (unpack list) ≤ MAX-STEPS) (at : ℕ) (h : at < count (unpack list)) where
+  enter : getElem? (flatBody undo false (bodyOf (r .node))) remaining ≡ stepIn list at → Sought o list at inverted
   enter p = record { has = record { packed = packed; below = h; few = few }; step = r .step ∙ ap (undoIf inverted) p }
 
-  enter-undone : getElem? (flatBody undo false (bodyOf (r .node))) remaining ≡ undoIf true (stepIn list at) → Sought tree place list at (not inverted)
+  enter-undone : getElem? (flatBody undo false (bodyOf (r .node))) remaining ≡ undoIf true (stepIn list at) → Sought o list at (not inverted)
   enter-undone p = record { has = record { packed = packed; below = h; few = few }; step = r .step ∙ ap (undoIf inverted) p ∙ undo-again inverted (stepIn list at) }
 
--- a plain group is its list, which is all behind its record
-only-list : {k : ℕ} {m : ℤ} {n : Node Leaf} {bs : List ℕ} → k < 4 → IsNode bs n → Shape k m n → Packed (part RECORD (length bs) bs) × (unpack (part RECORD (length bs) bs) ≡ firstList n)
-only-list {k} {m} {n} {bs} h i s = go n i s
-  where
-    go : (n : Node Leaf) → IsNode bs n → Shape k m n → Packed (part RECORD (length bs) bs) × (unpack (part RECORD (length bs) bs) ≡ firstList n)
-    go (leaf x) i (isLeaf l) = absurd (omega arith)
-    go (block (group g a) m) i (isGroup l q) =
-        let o = one-list bs g a m (i .fits) (i .bytes) in
-        let rest = part-rest RECORD bs in
-        (subst Packed (sym rest) (o .packedList), ap unpack rest ∙ o .unpacksList)
-    go (block (binaryGroup g a b) m) i (isBinary l l′ q) = absurd (omega arith)
-
-pub into-list : {tree bs : List ℕ} {place k once remaining : ℕ} {inverted : Bool} → Repeat tree place bs k once remaining inverted → k < 4 → Sought tree place (part RECORD (length bs) bs) remaining inverted
+-- a plain group is its list
+pub into-list : {o : Option Leaf} {bs : List ℕ} {k once remaining middle : ℕ} {inverted : Bool} → Repeat o bs k once remaining inverted → k < 4 → Lists bs middle → Sought o (part RECORD middle bs) remaining inverted
 unfolding flatBody countBody
-into-list {tree} {bs} {place} {k} {once} {remaining} r h =
-    let list = only-list h (r .isNode) (r .shape) in
-    let body : bodyOf (r .node) ≡ group (group-body (r .shape) h .0) (unpack (part RECORD (length bs) bs)) = group-body (r .shape) h .1 ∙ ap (group (group-body (r .shape) h .0)) (sym (list .1)) in
-    let all : once ≡ count (unpack (part RECORD (length bs) bs)) = r .counts ∙ ap countBody body in
-    enter r (list .0) (omega (arith, r .few)) remaining (omega (arith, r .below)) (ap (λ (b : Body Leaf). getElem? (flatBody undo false b) remaining) body)
+into-list {o} {bs} {k} {once} {remaining} {middle} r h l =
+    let kind = group-body (r .shape) h in
+    let body : bodyOf (r .node) ≡ group (kind .0) (unpack (part RECORD middle bs)) = kind .1 ∙ ap (group (kind .0)) (sym (l .unpacksFirst (r .node) (r .isNode))) in
+    let all : once ≡ count (unpack (part RECORD middle bs)) = r .counts ∙ ap countBody body in
+    enter r (l .packedFirst) (omega (arith, r .few)) remaining (omega (arith, r .below)) (ap (λ (b : Body Leaf). getElem? (flatBody undo false b) remaining) body)
 
 -- The lists A and B of a commutator or a conjugate, by its bytes: B begins at middle.
 abbrev A : List ℕ → ℕ → Tree
@@ -225,7 +227,7 @@ A bs middle = unpack (part RECORD middle bs)
 abbrev B : List ℕ → ℕ → Tree
 B bs middle = unpack (part middle (length bs) bs)
 
-module _ {tree bs : List ℕ} {place k once remaining middle : ℕ} {inverted : Bool} (r : Repeat tree place bs k once remaining inverted) (high : 4 ≤ k) (l : Lists bs middle) where
+module _ {o : Option Leaf} {bs : List ℕ} {k once remaining middle : ℕ} {inverted : Bool} (r : Repeat o bs k once remaining inverted) (high : 4 ≤ k) (l : Lists bs middle) where
   body : bodyOf (r .node) ≡ binaryGroup (binaryKind (eqb k 4)) (A bs middle) (B bs middle)
   body = binary-body (r .shape) high (r .low) ∙ ap₂ (binaryGroup (binaryKind (eqb k 4))) (sym (l .unpacksFirst (r .node) (r .isNode))) (sym (l .unpacksSecond (r .node) (r .isNode)))
 
@@ -243,14 +245,14 @@ module _ {tree bs : List ℕ} {place k once remaining middle : ℕ} {inverted : 
   first-part p = omega (arith, lists-few)
 
 -- The same once A and B are counted: A has a steps, both have so many together.
-pub record Parts (tree : List ℕ) (place : ℕ) (bs : List ℕ) (k once middle a both remaining : ℕ) (inverted : Bool) : Type 0 where
-  pub whole : Repeat tree place bs k once remaining inverted
+pub record Parts (o : Option Leaf) (bs : List ℕ) (k once middle a both remaining : ℕ) (inverted : Bool) : Type 0 where
+  pub whole : Repeat o bs k once remaining inverted
   pub high : 4 ≤ k
   pub lists : Lists bs middle
   pub first : a ≡ count (A bs middle)
   pub together : (b : ℕ) → once ≡ countBinary (binaryKind (eqb k 4)) a b → both ≡ a + b
 
-module _ {tree bs : List ℕ} {place k once middle a both remaining : ℕ} {inverted : Bool} (p : Parts tree place bs k once middle a both remaining inverted) where
+module _ {o : Option Leaf} {bs : List ℕ} {k once middle a both remaining : ℕ} {inverted : Bool} (p : Parts o bs k once middle a both remaining inverted) where
   abbrev g : BinaryGroupKind
   g = binaryKind (eqb k 4)
 
@@ -276,16 +278,16 @@ module _ {tree bs : List ℕ} {place k once middle a both remaining : ℕ} {inve
   here : getElem? (flatBody undo false (bodyOf (p .whole .node))) remaining ≡ getElem? (flatBody undo false (binaryGroup g (A bs middle) (B bs middle))) remaining
   here = ap (λ (b : Body Leaf). getElem? (flatBody undo false b) remaining) (body (p .whole) (p .high) (p .lists))
 
-  pub into-A : remaining < a → Sought tree place (part RECORD middle bs) remaining inverted
+  pub into-A : remaining < a → Sought o (part RECORD middle bs) remaining inverted
   into-A h = enter (p .whole) (p .lists .packedFirst) A-few remaining (omega (arith, p .first)) (here ∙ in-A g (A bs middle) (B bs middle) (p .first) both-is remaining h)
 
-  pub into-B : a ≤ remaining → remaining < both → Sought tree place (part middle (length bs) bs) (remaining - a) inverted
+  pub into-B : a ≤ remaining → remaining < both → Sought o (part middle (length bs) bs) (remaining - a) inverted
   into-B h i = enter (p .whole) (p .lists .packedSecond) B-few (remaining - a) (omega (arith, both-is)) (here ∙ in-B g (A bs middle) (B bs middle) (p .first) both-is remaining h i)
 
-  pub into-A′ : both ≤ remaining → remaining < both + a → Sought tree place (part RECORD middle bs) (both + a - 1 - remaining) (not inverted)
+  pub into-A′ : both ≤ remaining → remaining < both + a → Sought o (part RECORD middle bs) (both + a - 1 - remaining) (not inverted)
   into-A′ h i = enter-undone (p .whole) (p .lists .packedFirst) A-few (both + a - 1 - remaining) (omega (arith, p .first, both-is)) (here ∙ in-A′ g (A bs middle) (B bs middle) (p .first) both-is remaining h i)
 
-  pub into-B′ : both + a ≤ remaining → Sought tree place (part middle (length bs) bs) (once - 1 - remaining) (not inverted)
+  pub into-B′ : both + a ≤ remaining → Sought o (part middle (length bs) bs) (once - 1 - remaining) (not inverted)
   into-B′ h =
       enter-undone (p .whole) (p .lists .packedSecond) B-few (once - 1 - remaining) (last g once-is)
       (here ∙ in-B′ g (A bs middle) (B bs middle) (p .first) both-is remaining h (omega (arith, once-is, p .whole .below)) ∙ ap (λ (n : ℕ). undoIf true (getElem? (flat undo false (B bs middle)) (n - 1 - remaining))) (sym once-is))

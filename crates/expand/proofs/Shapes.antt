@@ -2,7 +2,7 @@
 use Prim.Native.Nat.{ℕ, zero, suc, _+_, _*_, _/_, _≤_, _<_}
 use mathlib.Core.Path.{_≡_, refl, sym, ap, _∙_, subst}
 use mathlib.Core.Bool.{Bool, true, false}
-use mathlib.Core.List.{List}
+use mathlib.Core.List.{List, append-nil}
 use native.Mathlib.Nat.{zero-mul, mul-comm}
 use native.Mathlib.Omega.{arith}
 use lib.Dec.{eqb}
@@ -11,6 +11,7 @@ use lib.ListN.{length}
 use Rattle.notation.specs.Basics.{pick}
 use Rattle.notation.specs.Numbers.{fromBits}
 use Rattle.notation.specs.Unroll.{isNiss}
+use Rattle.notation.specs.Invert.{undo}
 use Rattle.notation.specs.Tree.{Leaf, Node, leaf, block, Body, group, binaryGroup, nil, Tree}
 use Rattle.notation.specs.Counts.{times, countBinary, countNode, countBody, count, stored}
 use Rattle.notation.specs.Entries.{MAX-STEPS}
@@ -20,6 +21,7 @@ use Rattle.notation.specs.declared.common.GroupKind.the-variants.{Simple, Macro
 use Rattle.notation.specs.declared.common.BinaryGroupKind.{BinaryGroupKind}
 use Rattle.notation.specs.declared.common.BinaryGroupKind.the-variants.{Commutator, Conjugate}
 use Rattle.record.specs.Meaning.{field}
+use Rattle.laws.proofs.Unrolling.{flatNode, flat}
 use Rattle.laws.proofs.Walking.{head-stored}
 use Rattle.nodes.specs.Nodes.{IsNode, part, FirstNode, firstList, secondList}
 use Rattle.nodes.proofs.Nodes.{alone, fields-of, front-field, first-low, kind-of, leaf-kind, multiplier-of, FirstLeaf}
@@ -139,3 +141,8 @@ leaf-steps l = sym (ap countNode (l .isStep))
 pub one-count : {bs : List ℕ} {n : Node Leaf} → IsNode bs n → count (unpack bs) ≡ countNode n
 unfolding count
 one-count s = omega (arith, ap count (alone s))
+
+-- and unroll into what the node does
+pub one-flat : {bs : List ℕ} {n : Node Leaf} → IsNode bs n → flat undo false (unpack bs) ≡ flatNode undo false n
+unfolding flat
+one-flat {bs} {n} s = ap (flat undo false) (alone s) ∙ append-nil (flatNode undo false n)

@@ -2,16 +2,18 @@
 // the place a list is entered. The time depends neither on the number of steps nor on what stands inside a group that is passed.
 ghost use mathlib.Core.Path.{_≡_};
 ghost use mathlib.Core.List.{_++_};
+ghost use mathlib.Core.Option.{Option};
 ghost use Prim.Native.Nat.{ℕ, _+_, _≤_};
 ghost use lib.ListN.{length, drop};
 ghost use Rattle.notation.specs.Basics.{pick};
 ghost use Rattle.notation.specs.Tree.{Leaf};
 ghost use Rattle.notation.specs.Invert.{undo};
-ghost use Rattle.notation.specs.Packed.{RECORD as recordSize, leafRecord};
-ghost use Rattle.notation.specs.Counts.{countBinary};
+ghost use Rattle.notation.specs.Packed.{RECORD as recordSize, leafRecord, unpack};
+ghost use Rattle.notation.specs.Counts.{countBinary, count};
+ghost use Rattle.nodes.specs.Nodes.{Lists};
 ghost use Rattle.expand.specs.Meaning.{binaryKind};
-ghost use Rattle.expand.specs.Places.{Has, stepIn, found};
-ghost use Rattle.expand.specs.Steps.{Undoable};
+ghost use Rattle.expand.specs.Places.{Has, Sought, stepIn, listOf, found};
+ghost use Rattle.expand.specs.Steps.{Undoable, IsGroup};
 use crate::count::count;
 use nodes::first_end;
 use nodes::node_end;
@@ -34,9 +36,8 @@ pub fn seek(tree: &[u8], place: u64, step: &mut [u8])
     let mut remaining = place;
     let mut inverted = false;
     loop {
-        let kind = fields::kind(rest);
         // A leaf is one record and one step: neither its count nor its lists need be read.
-        if kinds::CONJUGATE < kind {
+        if kinds::CONJUGATE < fields::kind(rest) {
             if remaining == 0 {
                 write_step(&rest[0..RECORD], inverted, step);
                 return;
@@ -52,38 +53,54 @@ pub fn seek(tree: &[u8], place: u64, step: &mut [u8])
             rest = &rest[end..];
             continue;
         }
-        // The group has the place: which one in a single repeat, forward.
+        // The group has the place: it is looked for in one of its lists.
         let group = &rest[0..end];
-        let multiplier = fields::number(group);
-        let once = steps / (magnitude(multiplier) as u64);
-        remaining %= once;
-        if is_negative(multiplier) {
-            remaining = once - 1 - remaining;
-            inverted = !inverted;
-        }
-        if kind < kinds::COMMUTATOR {
-            rest = &group[RECORD..];
-            continue;
-        }
-        // A B A' B' or A B A': A' and B' are A and B from the end, undone.
         let middle = first_end(group);
-        let a = count(&group[RECORD..middle]);
-        let both = both_count(kind == kinds::COMMUTATOR, once, a);
-        if remaining < a {
-            rest = &group[RECORD..middle];
-        } else if remaining < both {
-            remaining -= a;
+        if enter(group, steps, &mut remaining, &mut inverted) {
             rest = &group[middle..];
-        } else if remaining < both + a {
-            remaining = both + a - 1 - remaining;
-            inverted = !inverted;
-            rest = &group[RECORD..middle];
         } else {
-            remaining = once - 1 - remaining;
-            inverted = !inverted;
-            rest = &group[middle..];
+            rest = &group[RECORD..middle];
         }
     }
+}
+
+// Turns the place in a group and the direction into those in one of its lists, and answers whether that is the second.
+fn enter(group: &[u8], steps: u64, place: &mut u64, inverted: &mut bool) -> bool
+    requires { ⌜ IsGroup (now group) × Has (now group) (now place) ⌝ }
+    requires { ⌜ steps ≡ count (unpack (now group)) ⌝ }
+    ensures { λ r. ⌜ ((sought : Option Leaf) (middle : ℕ) → Lists (now (group .entry)) middle →
+        Sought sought (now (group .entry)) (now (place .entry)) (now (inverted .entry)) → Sought sought (listOf r middle (now (group .entry))) (now (place .exit)) (now (inverted .exit))) ⌝ }
+{
+    let kind = fields::kind(group);
+    let multiplier = fields::number(group);
+    // Whole repeats are passed. Of a negative multiplier a repeat comes from its end, undone.
+    let once = steps / (magnitude(multiplier) as u64);
+    *place %= once;
+    if is_negative(multiplier) {
+        *place = once - 1 - *place;
+        *inverted = !*inverted;
+    }
+    if kind < kinds::COMMUTATOR {
+        return false;
+    }
+    // A B A' B' or A B A': in A' and B' the steps of A and B come from the end, undone.
+    let middle = first_end(group);
+    let a = count(&group[RECORD..middle]);
+    let both = both_count(kind == kinds::COMMUTATOR, once, a);
+    if *place < a {
+        return false;
+    }
+    if *place < both {
+        *place -= a;
+        return true;
+    }
+    *inverted = !*inverted;
+    if *place < both + a {
+        *place = both + a - 1 - *place;
+        return false;
+    }
+    *place = once - 1 - *place;
+    true
 }
 
 // Writes a step's record, undone if it is inverted.
