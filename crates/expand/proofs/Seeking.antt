@@ -93,7 +93,7 @@ leaf-step l = (fits-undoable (l .step) (leaf-node l .fits), sym (leaf-node l .by
 
 pub found-leaf : {o : Option Leaf} {rest : List ℕ} {remaining : ℕ} {inverted : Bool} → Sought o rest remaining inverted → (l : FirstLeaf rest) → remaining ≡ 0 → (step : List ℕ) {now step′ : List ℕ} → now ≡ step →
     ((x : Leaf) → Undoable x → part 0 RECORD rest ≡ leafRecord x → step′ ≡ leafRecord (pick inverted (undo x) x) ++ drop RECORD now) →
-    step′ ≡ found (o) ++ drop RECORD step
+    step′ ≡ found o ++ drop RECORD step
 unfolding flatNode
 found-leaf {o} {rest} {remaining} {inverted} s l z step w c =
     c x (leaf-step l .0) (leaf-step l .1)

@@ -103,7 +103,7 @@ fn enter(group: &[u8], steps: u64, place: &mut u64, inverted: &mut bool) -> bool
     true
 }
 
-// Writes a step's record, undone if it is inverted.
+// Writes a step's record, undone if the direction is inverted.
 fn write_step(from: &[u8], inverted: bool, step: &mut [u8])
     requires { ⌜ ((x : Leaf) × (Undoable x × (now from ≡ leafRecord x))) ⌝ }
     requires { ⌜ (length (now from) ≡ recordSize) × (recordSize ≤ length (now step)) ⌝ }
