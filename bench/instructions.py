@@ -61,7 +61,7 @@ def seeking_alone(driver, place, text):
 
 def levels(drivers):
     """Seeking alone, by levels. A cell is left out where the count is refused: what is nested in commutators doubles at each level."""
-    print("\nSeeking alone, instructions, before and after.\n\n| groups in |" + "".join(f" {n} levels |" for n in LEVELS) + "\n|---|" + "---|" * len(LEVELS))
+    print("\nSeeking alone, instructions, before and after.\n\n| groups in |" + "".join(f" {n} level{'s' * (n > 1)} |" for n in LEVELS) + "\n|---|" + "---|" * len(LEVELS))
     for what, start, inner, end, before in NESTED:
         cells = []
         for n in LEVELS:
