@@ -209,7 +209,7 @@ unfoldable pub clauseByClause : List ℕ → List ℕ → List Bool
 clauseByClause text tree =
     let rs = fieldsOf (length tree / RECORD) tree in
     every (λ b. ltb b 256) tree -- it is a run of bytes
-    ∷ eqb (length tree % RECORD) 0 -- a length that is a multiple of 30
+    ∷ eqb (length tree % RECORD) 0 -- a length that is a multiple of 38
     ∷ every kindOk rs
     ∷ every unusedOk rs
     ∷ every (partsInside text) rs

@@ -61,7 +61,7 @@ lend (result l) buffer =
 
 -- Texts: refusals 1 and 2.
 abbrev pub MAX-TEXT : ℕ
-MAX-TEXT = 65535
+MAX-TEXT = 16777215
 
 abbrev pub textOk : List ℕ → Outcome (Unit {0})
 textOk text = do

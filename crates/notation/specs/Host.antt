@@ -18,11 +18,11 @@ VALUES = 72057594037927936
 abbrev pub coded : Outcome ℕ → ℕ
 coded o = refusalNumber o * VALUES + value o % VALUES
 
--- 2^16
+-- 2^24
 abbrev pub PART : ℕ
-PART = 65536
+PART = 16777216
 
--- a part of the text as its offset times 2^16 plus its length
+-- a part of the text as its offset times 2^24 plus its length
 abbrev pub partNumber : Outcome Span → Outcome ℕ
 partNumber (refusal r) = refusal r
 partNumber (result p) = result (p .offset * PART + p .size)

@@ -1,4 +1,4 @@
--- The packed record: a tree is a run of 30-byte records in reading order, a group before its contents.
+-- The packed record: a tree is a run of 38-byte records in reading order, a group before its contents.
 use Prim.Native.Nat.{ℕ, zero, suc, _+_, _*_, _/_, _%_}
 use mathlib.Core.Bool.{Bool, true, false}
 use mathlib.Core.List.{List, [], _∷_, _++_}
@@ -24,18 +24,18 @@ use Rattle.notation.specs.declared.common.MegaminxScrambleMove.the-varia
 abbrev pub widths : List ℕ
 widths =
     1 -- kind, tilde, layer form, constraints present
-    ∷ 2 -- records in the first list, nested ones included
-    ∷ 2 -- in the second list
+    ∷ 3 -- records in the first list, nested ones included
+    ∷ 3 -- in the second list
     ∷ 4 -- multiplier, or u of a pair
     ∷ 4 -- d of a pair, or low and high layer
-    ∷ 2 ∷ 2 -- family: offset and length in the text
-    ∷ 2 ∷ 2 -- constraints with braces
-    ∷ 2 ∷ 2 -- layer set with braces
+    ∷ 3 ∷ 3 -- family: offset and length in the text
+    ∷ 3 ∷ 3 -- constraints with braces
+    ∷ 3 ∷ 3 -- layer set with braces
     ∷ 5 -- step count
     ∷ []
 
 abbrev pub RECORD : ℕ
-RECORD = 30
+RECORD = 38
 
 -- the fields one after the other
 unfoldable pub layOut : List ℕ → List ℕ → List ℕ

@@ -80,7 +80,7 @@ unfoldable mutual
   depth nil = 0
   depth (cons n l) = max (nodeDepth n) (depth l)
 
--- A length that is a multiple of 30, kinds 0 to 14, unused fields 0, right step counts and lists that end inside the list that holds them:
+-- A length that is a multiple of 38, kinds 0 to 14, unused fields 0, right step counts and lists that end inside the list that holds them:
 -- these are the runs of bytes that packing writes, so that unpacking and packing give them back.
 unfoldable pub wellFormed : List ℕ → List ℕ → Bool
 wellFormed text tree =

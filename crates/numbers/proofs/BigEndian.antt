@@ -1,17 +1,22 @@
 -- Big-endian fields: the laws of digits in base 256, and fields read and written in place.
 use Prim.Native.Nat.{ℕ, suc, _+_, _*_, _/_, _%_, _^_, _<_, _≤_}
-use mathlib.Core.Path.{_≡_, sym, _∙_, ap}
+use mathlib.Core.Path.{_≡_, sym, _∙_, ap, subst}
 use mathlib.Core.List.{List, [], _∷_, _++_, append-nil}
 use native.Mathlib.Nat.{add-suc, suc-add, add-zero}
 use native.Mathlib.Numerals.{add-one}
 use native.Mathlib.Omega.{arith}
+use lib.Arith.{digits-mod}
 use lib.Dec.{lit<}
 use lib.ListN.{length, getD, take, drop, set, length-drop}
 use lib.Seq.{sets, drop-cons, take-add, drop-drop, length-take-le}
+use mir.Syntax.{w8}
+use mir.Val.{Fits}
 use Rattle.notation.specs.Numbers.{positional, digits, fromBigEndian, bigEndian}
 use Rattle.numbers.proofs.Positional.{
   Below,
   below-nil,
+  below-take,
+  below-drop,
   length-digits,
   digits-below,
   digits-append,
@@ -22,6 +27,10 @@ use Rattle.numbers.proofs.Positional.{
   positional-append,
   positional-digits,
 }
+
+-- the bytes of a slice
+pub slice-below : (bs : List ℕ) → ((i : ℕ) → Fits w8 (getD bs i 0)) → Below 256 bs
+slice-below bs f = record { at = λ i. f i .fits }
 
 pub length-bigEndian : (w n : ℕ) → length (bigEndian w n) ≡ w
 length-bigEndian w n = length-digits 256 w n [] ∙ add-zero w
@@ -66,6 +75,19 @@ two-parts s at u w h =
     ∙ positional-append 256 0 (take u (drop at s)) (take w (drop u (drop at s)))
     ∙ positional-from 256 (fromBigEndian (take u (drop at s))) (take w (drop u (drop at s)))
     ∙ rw (long, drop-drop)
+
+-- the last part of a field alone
+pub part-lt : (s : List ℕ) (at w : ℕ) → Below 256 s → at + w ≤ length s → fromBigEndian (take w (drop at s)) < 256 ^ w
+part-lt s at w b h =
+    subst (λ (n : ℕ). fromBigEndian (take w (drop at s)) < 256 ^ n)
+    (length-take-le w (drop at s) (simp length-drop (omega arith)))
+    (fromBigEndian-lt (take w (drop at s)) (below-take 256 w (drop at s) (lit< tt) (below-drop 256 at s b)))
+
+pub last-part : (s : List ℕ) (at u w : ℕ) → Below 256 s → at + (u + w) ≤ length s
+    → fromBigEndian (take (u + w) (drop at s)) % 256 ^ w ≡ fromBigEndian (take w (drop (at + u) s))
+last-part s at u w b h =
+    ap (λ (n : ℕ). n % 256 ^ w) (two-parts s at u w h)
+    ∙ digits-mod (fromBigEndian (take u (drop at s))) (part-lt s (at + u) w b (omega arith))
 
 -- and writing them
 pub store-one : (l : List ℕ) (at n : ℕ) → n < 256 → set l at n ≡ sets l at (bigEndian 1 n)

@@ -1,6 +1,6 @@
-// Fields of one, two, four and five bytes, most significant byte first.
+// Fields of one, two, three, four and five bytes, most significant byte first.
 ghost use mathlib.Core.Path.{_≡_};
-ghost use Prim.Native.Nat.{_+_, _<_, _≤_};
+ghost use Prim.Native.Nat.{_+_, _^_, _<_, _≤_};
 ghost use lib.ListN.{length, take, drop};
 ghost use lib.Seq.{sets};
 ghost use Rattle.notation.specs.Numbers.{bigEndian, fromBigEndian};
@@ -19,6 +19,15 @@ pub fn read_u16(s: &[u8], at: usize) -> u16
     ensures { λ r. ⌜ r ≡ fromBigEndian (take 2 (drop at (now (s .entry)))) ⌝ }
 {
     (s[at] as u16) * 256 + (s[at + 1] as u16)
+}
+
+// The number in the three bytes from `at` on. It is taken from the four that begin one before, as which the machine has them at once.
+pub fn read_u24(s: &[u8], at: usize) -> u32
+    requires { ⌜ (0 < at) × (at + 3 ≤ length (now s)) ⌝ }
+    ensures { λ r. ⌜ r ≡ fromBigEndian (take 3 (drop at (now (s .entry)))) ⌝ }
+    ensures { λ r. ⌜ r < 256 ^ 3 ⌝ }
+{
+    read_u32(s, at - 1) % 16777216
 }
 
 // The number in the four bytes from `at` on.
@@ -52,6 +61,15 @@ pub fn write_u16(out: &mut [u8], at: usize, n: u16)
 {
     out[at] = (n / 256) as u8;
     out[at + 1] = (n % 256) as u8;
+}
+
+// Writes the last 24 bits of n over the three bytes from `at` on.
+pub fn write_u24(out: &mut [u8], at: usize, n: u32)
+    requires { ⌜ at + 3 ≤ length (now out) ⌝ }
+    ensures { λ _. ⌜ now (out .exit) ≡ sets (now (out .entry)) at (bigEndian 3 n) ⌝ }
+{
+    write_u8(out, at, (n / 65536 % 256) as u8);
+    write_u16(out, at + 1, (n % 65536) as u16);
 }
 
 // Writes n over the four bytes from `at` on.

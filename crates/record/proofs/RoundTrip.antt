@@ -112,7 +112,7 @@ in-order-fits k t f p n n′ m o family constraints set count hk ht hf hp hn hn�
     (and-field (c .size)
     (and-field hc no-field)))))))))))
 
-nowhere-fits : FitsSpan nowhere
+pub nowhere-fits : FitsSpan nowhere
 nowhere-fits = record { offset = lit< tt; size = lit< tt }
 
 or-nowhere-fits : (c : Option Span) → FitsConstraints c → FitsSpan (orNowhere c)

@@ -4,6 +4,7 @@ ghost use Prim.Native.Nat.{_≤_};
 ghost use lib.ListN.{length};
 ghost use Rattle.notation.specs.Packed.{RECORD, familyAt, leafHead};
 ghost use Rattle.record.specs.Meaning as meaning;
+ghost use Rattle.record.specs.Range.{FitsSpan};
 use crate::fields;
 use crate::spanned::LayerPrefixContents;
 use crate::spanned::Move;
@@ -39,7 +40,9 @@ pub fn layered_move(t: &[u8]) -> Move
 
 // An empty family stands nowhere.
 fn family_at(p: Span) -> Span
+    requires { ⌜ FitsSpan (meaning.span p) ⌝ }
     ensures { λ r. ⌜ meaning.span r ≡ familyAt (p .offset) (p .size) ⌝ }
+    ensures { λ r. ⌜ FitsSpan (meaning.span r) ⌝ }
 {
     if p.size == 0 {
         Span { offset: 0, size: 0 }
@@ -52,6 +55,7 @@ fn family_at(p: Span) -> Span
 pub fn family_of(t: &[u8]) -> Span
     requires { ⌜ RECORD ≤ length (now t) ⌝ }
     ensures { λ r. ⌜ meaning.span r ≡ familyAt (meaning.field 5 (now (t .entry))) (meaning.field 6 (now (t .entry))) ⌝ }
+    ensures { λ r. ⌜ FitsSpan (meaning.span r) ⌝ }
 {
     family_at(fields::family(t))
 }

@@ -28,8 +28,8 @@ pub const LEAF: u64 = 1;
 pub struct Fields {
     // The kind, and of a move its tilde, layer form and whether it has constraints.
     pub small: u8,
-    pub first: u16,
-    pub second: u16,
+    pub first: u32,
+    pub second: u32,
     pub number: u32,
     pub other: u32,
     pub family: Span,
@@ -100,7 +100,7 @@ fn same_parts(a: Fields, b: Fields) -> bool
     a.layer_set.size == b.layer_set.size
 }
 
-pub fn group_fields(kind: GroupKind, first: u16, multiplier: u32, count: u64) -> Fields
+pub fn group_fields(kind: GroupKind, first: u32, multiplier: u32, count: u64) -> Fields
     ensures { λ f. ⌜ meaning.listed f ≡ packed.headFields (packed.groupHead kind first (fromBits 32 multiplier) count) ⌝ }
 {
     without_parts(group_number(kind), first, 0, multiplier, 0, count)
@@ -108,8 +108,8 @@ pub fn group_fields(kind: GroupKind, first: u16, multiplier: u32, count: u64) ->
 
 pub fn binary_group_fields(
     kind: BinaryGroupKind,
-    first: u16,
-    second: u16,
+    first: u32,
+    second: u32,
     multiplier: u32,
     count: u64,
 ) -> Fields
@@ -145,8 +145,8 @@ pub fn megaminx_fields(k: MegaminxScrambleMove) -> Fields
 // The fields of a node that names no part of the text.
 pub fn without_parts(
     kind: u8,
-    first: u16,
-    second: u16,
+    first: u32,
+    second: u32,
     number: u32,
     other: u32,
     count: u64,

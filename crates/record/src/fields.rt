@@ -1,21 +1,22 @@
 // The fields of the first record of a slice, read and written one by one. Only here is it looked up where a field stands.
 ghost use mathlib.Core.Path.{_≡_};
-ghost use Prim.Native.Nat.{_+_, _/_, _%_, _≤_};
+ghost use Prim.Native.Nat.{_+_, _/_, _%_, _<_, _≤_};
 ghost use lib.ListN.{length, take, drop};
 ghost use lib.Dec.{eqb};
 ghost use lib.Seq.{sets};
 ghost use Rattle.notation.specs.Numbers.{bigEndian, fromBigEndian};
 ghost use Rattle.notation.specs.Tree as tree;
 ghost use Rattle.notation.specs.Packed.{RECORD};
+ghost use Rattle.record.specs.Range.{FitsSpan};
 ghost use Rattle.record.specs.Meaning.{field, placeWidth, spanAt, span, withField, withLists, withSpan};
 use crate::layout;
 use crate::spanned::Span;
 use numbers::big_endian::read_u8;
-use numbers::big_endian::read_u16;
+use numbers::big_endian::read_u24;
 use numbers::big_endian::read_u32;
 use numbers::big_endian::read_u40;
 use numbers::big_endian::write_u8;
-use numbers::big_endian::write_u16;
+use numbers::big_endian::write_u24;
 use numbers::big_endian::write_u32;
 use numbers::big_endian::write_u40;
 
@@ -58,19 +59,19 @@ pub fn constraints_present(t: &[u8]) -> bool
 }
 
 // Records in the first list, nested ones included.
-pub fn first(t: &[u8]) -> u16
+pub fn first(t: &[u8]) -> u32
     requires { ⌜ RECORD ≤ length (now t) ⌝ }
     ensures { λ r. ⌜ r ≡ field 1 (now (t .entry)) ⌝ }
 {
-    read_u16(t, layout::FIRST)
+    read_u24(t, layout::FIRST)
 }
 
 // Records in the second list.
-pub fn second(t: &[u8]) -> u16
+pub fn second(t: &[u8]) -> u32
     requires { ⌜ RECORD ≤ length (now t) ⌝ }
     ensures { λ r. ⌜ r ≡ field 2 (now (t .entry)) ⌝ }
 {
-    read_u16(t, layout::SECOND)
+    read_u24(t, layout::SECOND)
 }
 
 // The multiplier, or u of a pair.
@@ -91,18 +92,20 @@ pub fn other(t: &[u8]) -> u32
 
 // The span whose offset and size stand from `at` on.
 fn span_at(t: &[u8], at: usize) -> Span
-    requires { ⌜ at + (placeWidth + placeWidth) ≤ length (now t) ⌝ }
+    requires { ⌜ (0 < at) × (at + (placeWidth + placeWidth) ≤ length (now t)) ⌝ }
     ensures { λ r. ⌜ span r ≡ tree.span (fromBigEndian (take placeWidth (drop at (now (t .entry))))) (fromBigEndian (take placeWidth (drop (at + placeWidth) (now (t .entry))))) ⌝ }
+    ensures { λ r. ⌜ FitsSpan (span r) ⌝ }
 {
     Span {
-        offset: read_u16(t, at),
-        size: read_u16(t, at + layout::PLACE_BYTES),
+        offset: read_u24(t, at),
+        size: read_u24(t, at + layout::PLACE_BYTES),
     }
 }
 
 pub fn family(t: &[u8]) -> Span
     requires { ⌜ RECORD ≤ length (now t) ⌝ }
     ensures { λ r. ⌜ span r ≡ spanAt 5 (now (t .entry)) ⌝ }
+    ensures { λ r. ⌜ FitsSpan (span r) ⌝ }
 {
     span_at(t, layout::FAMILY)
 }
@@ -111,6 +114,7 @@ pub fn family(t: &[u8]) -> Span
 pub fn constraints(t: &[u8]) -> Span
     requires { ⌜ RECORD ≤ length (now t) ⌝ }
     ensures { λ r. ⌜ span r ≡ spanAt 7 (now (t .entry)) ⌝ }
+    ensures { λ r. ⌜ FitsSpan (span r) ⌝ }
 {
     span_at(t, layout::CONSTRAINTS)
 }
@@ -119,6 +123,7 @@ pub fn constraints(t: &[u8]) -> Span
 pub fn layer_set(t: &[u8]) -> Span
     requires { ⌜ RECORD ≤ length (now t) ⌝ }
     ensures { λ r. ⌜ span r ≡ spanAt 9 (now (t .entry)) ⌝ }
+    ensures { λ r. ⌜ FitsSpan (span r) ⌝ }
 {
     span_at(t, layout::LAYER_SET)
 }
@@ -147,12 +152,12 @@ pub fn set_small(out: &mut [u8], n: u8)
 }
 
 // How many records each list has.
-pub fn set_lists(out: &mut [u8], first: u16, second: u16)
+pub fn set_lists(out: &mut [u8], first: u32, second: u32)
     requires { ⌜ RECORD ≤ length (now out) ⌝ }
     ensures { λ _. ⌜ now (out .exit) ≡ withLists first second (now (out .entry)) ⌝ }
 {
-    write_u16(out, layout::FIRST, first);
-    write_u16(out, layout::SECOND, second);
+    write_u24(out, layout::FIRST, first);
+    write_u24(out, layout::SECOND, second);
 }
 
 pub fn set_number(out: &mut [u8], n: u32)
@@ -173,8 +178,8 @@ fn set_span(out: &mut [u8], at: usize, p: Span)
     requires { ⌜ at + (placeWidth + placeWidth) ≤ length (now out) ⌝ }
     ensures { λ _. ⌜ now (out .exit) ≡ sets (sets (now (out .entry)) at (bigEndian placeWidth (p .offset))) (at + placeWidth) (bigEndian placeWidth (p .size)) ⌝ }
 {
-    write_u16(out, at, p.offset);
-    write_u16(out, at + layout::PLACE_BYTES, p.size);
+    write_u24(out, at, p.offset);
+    write_u24(out, at + layout::PLACE_BYTES, p.size);
 }
 
 pub fn set_family(out: &mut [u8], p: Span)

@@ -2,11 +2,11 @@
 // reader and writer of fields.rt promises its field by number, and so holds at no other offset.
 
 // The widths in bytes of the number of records in a list, of a number, of an offset or a size in the text, and of a step count.
-const LIST_BYTES: usize = 2;
+const LIST_BYTES: usize = 3;
 
 const NUMBER_BYTES: usize = 4;
 
-pub const PLACE_BYTES: usize = 2;
+pub const PLACE_BYTES: usize = 3;
 
 const SPAN_BYTES: usize = PLACE_BYTES + PLACE_BYTES;
 

@@ -10,8 +10,6 @@ use borrow.Author.Tests.{lt-ltb, ltb-false, eqb-false}
 use lib.Dec.{ltb, eqb, lit<}
 use lib.IntN.{pos, negsuc}
 use lib.ListN.{length, take, drop, getD, length-take, length-drop}
-use mir.Syntax.{w8}
-use mir.Val.{Fits as Fits8}
 use Rattle.notation.specs.Basics.{pick}
 use Rattle.notation.specs.Numbers.{fromBits, fitsBits}
 use Rattle.notation.specs.Tree.{Span, span, Layers, noLayers, singleLayer, layerRange, layerSet, pause}
@@ -181,10 +179,6 @@ all-fit (suc k) (x ∷ bs) b = opened-fits k (all-fit k) (x ∷ bs) b (headAt (x
 
 pub unpack-fits : (bs : List ℕ) → Below 256 bs → FitsTree (unpack bs)
 unpack-fits bs b = all-fit (length bs) bs b
-
--- The bytes of a slice.
-pub slice-below : (bs : List ℕ) → ((i : ℕ) → Fits8 w8 (getD bs i 0)) → Below 256 bs
-slice-below bs f = record { at = λ i. f i .fits }
 
 -- What a caller of `well_formed` knows where it gave true.
 pub record Accepted (text tree : List ℕ) : Type 0 where

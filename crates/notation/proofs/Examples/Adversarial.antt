@@ -1,14 +1,16 @@
 -- Texts and trees that a reviewer thought of: odd whitespace, empty sets, leading zeros, each flag alone, NISS and −2147483648 at every
 -- place, parts that start inside a character, limits of layers, the lister.
-use Prim.Native.Nat.{ℕ}
+use Prim.Native.Nat.{ℕ, _<_}
 use Prim.Native.String as S
 use Prim.Native.String.{String}
 use mathlib.Core.Path.{_≡_, refl}
 use mathlib.Core.Bool.{Bool, true, false}
 use mathlib.Core.List.{List, [], _∷_, _++_, map}
 use mathlib.Core.Option.{none, some}
+use borrow.Author.Tests.{lt-leb}
+use lib.Dec.{lit<}
 use lib.IntN.{pos}
-use lib.ListN.{replicate}
+use lib.ListN.{length, replicate, length-replicate}
 use Rattle.notation.specs.Features.{MAXIMAL}
 use Rattle.notation.specs.Tree.{span, rotation, move, pause, noLayers, layerSet}
 use Rattle.notation.specs.Packed.{leafRecord, headRecord, groupHead, binaryHead}
@@ -16,7 +18,7 @@ use Rattle.notation.specs.Refusals.{Outcome, refusal, result, _>>=_}
 use Rattle.notation.specs.Unroll.{copies}
 use Rattle.notation.specs.WellFormed.{wellFormed}
 use Rattle.notation.specs.Layers.{Range}
-use Rattle.notation.specs.Entries.{treeIn, refusalNumber, reading, deepInverse, display, layerRanges}
+use Rattle.notation.specs.Entries.{MAX-TEXT, treeIn, refusalNumber, reading, deepInverse, display, layerRanges}
 use Rattle.notation.specs.Lister.{lister}
 use Rattle.notation.specs.Marked.{from, stepCount, ascii}
 use Rattle.notation.specs.declared.features.LayerFeatures.{LayerFeatures}
@@ -43,10 +45,13 @@ oddAndRejected : refusals MAXIMAL
 unfolding opened bytes
 oddAndRejected = refl
 
--- 65,536 spaces
-tooLong : (refusalNumber (treeIn MAXIMAL (replicate 65536 32)) ≡ 1)
+-- 16,777,216 spaces: what their length alone tells, since so many cannot be counted off here
+overLong : (text : List ℕ) (n : ℕ) → length text ≡ n → MAX-TEXT < n → treeIn MAXIMAL text ≡ refusal 1
 unfolding opened
-tooLong = refl
+overLong text n e h = rw (e, lt-leb n MAX-TEXT h)
+
+tooLong : treeIn MAXIMAL (replicate 16777216 32) ≡ refusal 1
+tooLong = overLong (replicate 16777216 32) 16777216 (length-replicate {A = ℕ} 16777216 32) (lit< tt)
 
 -- unrolling
 unrolls : map stepCount ("[R, (^(U))0]" ∷ "[[^(R), U]0, F]'" ∷ "((^(R))0)2'" ∷ "^(R)0 (-2147483648,0)" ∷ "((-2147483648,0) ^(R))'" ∷ "(^(R) (-2147483648,0))'" ∷ "[(-2147483648,0),]" ∷ "[,(-2147483648,0)]'" ∷ "[:(-2147483648,0)]" ∷ "[:(-2147483648,0)]'" ∷ "[(0,-2147483648):]" ∷ "((-2147483648,0))0" ∷ "([:^()])0' R" ∷ "[^(R)0, R]0" ∷ [])
@@ -76,7 +81,7 @@ wellFormedOrNot : map (wellFormed (bytes "β{β}R{β}"))
     ∷ (headRecord (groupHead Simple 1 (pos 1) 0) ++ headRecord (groupHead Simple 1 (pos 1) 1) ++ leafRecord pause)
     ∷ (headRecord (groupHead Simple 2 (pos 1) 1) ++ headRecord (groupHead Simple 1 (pos 1) 1) ++ leafRecord pause)
     ∷ (headRecord (binaryHead Commutator 0 1 (pos 1) 2) ++ leafRecord pause)
-    ∷ (headRecord (binaryHead Commutator 1 65535 (pos 1) 2) ++ leafRecord pause)
+    ∷ (headRecord (binaryHead Commutator 1 16777215 (pos 1) 2) ++ leafRecord pause)
     ∷ [])
     ≡ true ∷ false ∷ false ∷ true ∷ false ∷ false ∷ false ∷ false ∷ true ∷ false ∷ true ∷ true ∷ false ∷ []
 unfolding opened bytes

@@ -15,7 +15,7 @@ use Rattle.notation.proofs.Opened.{opened}
 -- the last five bytes of each of n records
 abbrev counts : ℕ → List ℕ → List ℕ
 counts ℕ.zero bs = []
-counts (ℕ.suc n) bs = fromBigEndian (drop 25 (take RECORD bs)) ∷ counts n (drop RECORD bs)
+counts (ℕ.suc n) bs = fromBigEndian (drop 33 (take RECORD bs)) ∷ counts n (drop RECORD bs)
 
 abbrev shown : Outcome (List ℕ) → List ℕ
 shown (refusal r) = []

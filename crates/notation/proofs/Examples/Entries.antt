@@ -23,9 +23,9 @@ treeOf s = bytesOr (reading MAXIMAL (ascii s))
 abbrev lent : Outcome ℕ → List ℕ → Lent ℕ
 lent a b = record { answer = a; buffer = b }
 
--- `R U` takes 60 bytes: one short keeps the buffer, two to spare stay as they were
-buffers : (parseNotation MAXIMAL (ascii "R U") (replicate 59 9) ≡ lent (refusal 5) (replicate 59 9))
-    × (parseNotation MAXIMAL (ascii "R U") (replicate 62 9) ≡ lent (result 60) (treeOf "R U" ++ (9 ∷ 9 ∷ [])))
+-- `R U` takes 76 bytes: one short keeps the buffer, two to spare stay as they were
+buffers : (parseNotation MAXIMAL (ascii "R U") (replicate 75 9) ≡ lent (refusal 5) (replicate 75 9))
+    × (parseNotation MAXIMAL (ascii "R U") (replicate 78 9) ≡ lent (result 76) (treeOf "R U" ++ (9 ∷ 9 ∷ [])))
     × (parseNotation MAXIMAL (ascii "R)") (replicate 3 9) ≡ lent (refusal 4) (9 ∷ 9 ∷ 9 ∷ []))
     × (displayEntry (ascii "( R )2") (treeOf "( R )2") (replicate 5 9) ≡ lent (result 4) (ascii "(R)2" ++ (9 ∷ [])))
     × (displayEntry (ascii "( R )2") (treeOf "( R )2") (replicate 3 9) ≡ lent (refusal 5) (replicate 3 9))
@@ -34,7 +34,7 @@ unfolding opened
 buffers = (refl, refl, refl, refl, refl, refl)
 
 -- seeking goes by the unrolled list: place 3 of `[R, U]` is U undone, place 4 is none, and 10 comes before 5
-seeking : (seekStep (ascii "[R, U]") (treeOf "[R, U]") 3 (replicate 30 9) ≡ lent (result 30) (treeOf "    U'"))
+seeking : (seekStep (ascii "[R, U]") (treeOf "[R, U]") 3 (replicate 38 9) ≡ lent (result 38) (treeOf "    U'"))
     × (map (λ k. seekStep (ascii "[R, U]") (treeOf "[R, U]") k []) (3 ∷ 4 ∷ []) ≡ lent (refusal 5) [] ∷ lent (refusal 10) [] ∷ [])
     × (seekStep [] [] 0 [] ≡ lent (refusal 10) [])
 unfolding opened copies

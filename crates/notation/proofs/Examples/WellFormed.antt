@@ -36,10 +36,10 @@ one : Leaf → Verdicts
 one x = ok (headRecord (leafHead x))
 
 -- length, kind, unused fields, a leaf's count, which is 1
-shape : (map ok ([] ∷ headRecord (leafHead pause) ∷ take 29 (headRecord (leafHead pause)) ∷ take 25 (headRecord (leafHead pause)) ∷ (0 ∷ []) ∷ []) ≡ good ∷ good ∷ bad ∷ bad ∷ bad ∷ [])
+shape : (map ok ([] ∷ headRecord (leafHead pause) ∷ take 37 (headRecord (leafHead pause)) ∷ take 30 (headRecord (leafHead pause)) ∷ (0 ∷ []) ∷ []) ≡ good ∷ good ∷ bad ∷ bad ∷ bad ∷ [])
     × (map (λ b. ok (set (headRecord (leafHead pause)) 0 b)) (0x80 ∷ 0xa0 ∷ 0xe0 ∷ 0xf0 ∷ 0x88 ∷ 0x82 ∷ 0x81 ∷ []) ≡ good ∷ good ∷ good ∷ bad ∷ bad ∷ bad ∷ bad ∷ [])
-    × (map (λ i. ok (set (headRecord (leafHead pause)) i 1)) (1 ∷ 2 ∷ 3 ∷ 4 ∷ 5 ∷ 8 ∷ 9 ∷ 12 ∷ 13 ∷ 16 ∷ 17 ∷ 20 ∷ 21 ∷ 24 ∷ 25 ∷ 28 ∷ []) ≡ replicate 16 bad)
-    × (map (λ b. ok (set (headRecord (leafHead pause)) 29 b)) (0 ∷ 1 ∷ 2 ∷ []) ≡ bad ∷ good ∷ bad ∷ [])
+    × (map (λ i. ok (set (headRecord (leafHead pause)) i 1)) (1 ∷ 3 ∷ 4 ∷ 6 ∷ 7 ∷ 10 ∷ 11 ∷ 14 ∷ 15 ∷ 17 ∷ 18 ∷ 20 ∷ 21 ∷ 26 ∷ 27 ∷ 32 ∷ 33 ∷ 36 ∷ []) ≡ replicate 18 bad)
+    × (map (λ b. ok (set (headRecord (leafHead pause)) 37 b)) (0 ∷ 1 ∷ 2 ∷ []) ≡ bad ∷ good ∷ bad ∷ [])
 unfolding opened bytes text ok
 shape = (refl, refl, refl, refl)
 
@@ -57,14 +57,14 @@ unfolding opened bytes text ok
 lists = refl
 
 -- families: inside the text, of family characters, not empty in a move, whole characters, an empty one at offset 0
-families : (map (λ p. one (move false noLayers p none (pos 1))) (span 4 1 ∷ span 4 0 ∷ span 0 1 ∷ span 4 2 ∷ span 12 2 ∷ span 12 1 ∷ span 11 1 ∷ span 13 1 ∷ span 65535 1 ∷ []) ≡ good ∷ bad ∷ bad ∷ bad ∷ good ∷ bad ∷ bad ∷ bad ∷ bad ∷ [])
+families : (map (λ p. one (move false noLayers p none (pos 1))) (span 4 1 ∷ span 4 0 ∷ span 0 1 ∷ span 4 2 ∷ span 12 2 ∷ span 12 1 ∷ span 11 1 ∷ span 13 1 ∷ span 65540 1 ∷ span 16777215 1 ∷ []) ≡ good ∷ bad ∷ bad ∷ bad ∷ good ∷ bad ∷ bad ∷ bad ∷ bad ∷ bad ∷ [])
     × (map (λ p. one (rotation p none (pos 1))) (span 0 0 ∷ span 1 0 ∷ span 6 1 ∷ []) ≡ good ∷ bad ∷ good ∷ [])
 unfolding opened bytes text ok one
 families = (refl, refl)
 
 -- layers, layer and constraint parts, multipliers
 parts : (map (λ l. one (move true l (span 4 1) none (pos 1))) (singleLayer 1 ∷ singleLayer 0 ∷ singleLayer 32768 ∷ layerRange 1 32767 ∷ layerRange 2 2 ∷ layerRange 3 2 ∷ layerRange 0 2 ∷ layerSet (span 1 3) ∷ layerSet (span 5 3) ∷ layerSet (span 1 2) ∷ []) ≡ good ∷ bad ∷ bad ∷ good ∷ good ∷ bad ∷ bad ∷ good ∷ bad ∷ bad ∷ [])
-    × (map (λ p. one (move false noLayers (span 4 1) (some p) (pos 1))) (span 5 3 ∷ span 1 3 ∷ span 5 4 ∷ span 5 65535 ∷ []) ≡ good ∷ bad ∷ bad ∷ bad ∷ [])
+    × (map (λ p. one (move false noLayers (span 4 1) (some p) (pos 1))) (span 5 3 ∷ span 1 3 ∷ span 5 4 ∷ span 5 65539 ∷ span 65541 3 ∷ []) ≡ good ∷ bad ∷ bad ∷ bad ∷ bad ∷ [])
     × (map (λ m. one (rotation (span 0 0) none m)) (negsuc 2147483646 ∷ negsuc 2147483647 ∷ []) ≡ good ∷ bad ∷ [])
     × (map (λ m. ok (headRecord (groupHead Simple 0 m 0))) (negsuc 2147483646 ∷ negsuc 2147483647 ∷ []) ≡ good ∷ bad ∷ [])
     × (one (pair (negsuc 2147483647) (negsuc 2147483647)) ≡ good)
@@ -98,17 +98,17 @@ niss n c = headRecord (groupHead Niss n (pos 1) c)
 
 alone : List (ℕ × List ℕ)
 alone =
-    (0, set (headRecord (leafHead (pair (pos 0) (pos 0)))) 8 256) -- no byte
+    (0, set (headRecord (leafHead (pair (pos 0) (pos 0)))) 10 256) -- no byte
     ∷ (1, take 1 stop) -- one byte
     ∷ (2, set stop 0 0xf0) -- kind 15
     ∷ (3, set stop 0 0x88) -- a pause with a tilde
-    ∷ (3, set stop 2 1 ++ stop) -- a pause with a list
-    ∷ (3, set (headRecord (groupHead Simple 0 (pos 1) 0)) 4 1 ++ stop) -- a simple group with a second list
-    ∷ (3, set stop 8 1) -- a pause with a multiplier
-    ∷ (3, set (headRecord (leafHead turn)) 12 1) -- a layer where the form says none
-    ∷ (3, set (headRecord (leafHead (rotation (span 0 0) none (pos 1)))) 14 3) -- an empty family not at 0
-    ∷ (3, set (headRecord (leafHead turn)) 18 4) -- constraints that are not present
-    ∷ (3, set (headRecord (leafHead turn)) 24 1) -- a set where the form says none
+    ∷ (3, set stop 3 1 ++ stop) -- a pause with a list
+    ∷ (3, set (headRecord (groupHead Simple 0 (pos 1) 0)) 6 1 ++ stop) -- a simple group with a second list
+    ∷ (3, set stop 10 1) -- a pause with a multiplier
+    ∷ (3, set (headRecord (leafHead turn)) 14 1) -- a layer where the form says none
+    ∷ (3, set (headRecord (leafHead (rotation (span 0 0) none (pos 1)))) 17 3) -- an empty family not at 0
+    ∷ (3, set (headRecord (leafHead turn)) 23 4) -- constraints that are not present
+    ∷ (3, set (headRecord (leafHead turn)) 32 1) -- a set where the form says none
     ∷ (4, headRecord (leafHead (move false noLayers (span 3 1) (some (span 4 4)) (pos 1)))) -- constraints past the end, good up to there
     ∷ (5, opening 1 1 2 ++ stop) -- a second list past the end
     ∷ (5, opening 1 1 2 ++ opening 1 0 0 ++ stop) -- a group's list past the end of the first list
@@ -123,7 +123,7 @@ alone =
     ∷ (9, headRecord (leafHead (move false noLayers (span 0 0) none (pos 1)))) -- a move without a family
     ∷ (10, headRecord (leafHead (move false (layerSet (span 4 3)) (span 3 1) none (pos 1)))) -- constraints for a layer set
     ∷ (10, headRecord (leafHead (move false noLayers (span 3 1) (some (span 0 3)) (pos 1)))) -- a layer set for constraints
-    ∷ (11, set stop 29 2) -- a leaf that counts 2
+    ∷ (11, set stop 37 2) -- a leaf that counts 2
     ∷ (11, simple 1 3 2 ++ stop) -- three times one step
     ∷ (11, simple 1 0 1 ++ stop) -- multiplier 0
     ∷ (11, niss 1 1 ++ stop) -- a NISS group counts 0

@@ -3,7 +3,7 @@ use mathlib.Core.Path.{sym, ap, _∙_}
 use borrow.Author.Needs.{needs}
 use borrow.Author.Tests.{not-true, not-false}
 use Rattle.tree.specs.Meaning.{counted}
-use Rattle.tree.proofs.Bytes.{slice-below}
+use Rattle.numbers.proofs.BigEndian.{slice-below}
 use Rattle.tree.proofs.Turns.{list-passed, list-refused}
 use Rattle.sound.proofs.Outcomes.{too-long, not-utf8, not-well-formed, is-sound}
 use Rattle.sound.proofs.check.Statement.{statement}

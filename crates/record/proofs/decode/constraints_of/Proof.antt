@@ -10,7 +10,7 @@ constraints-requires : tie.Need-constraints-requires
 constraints-requires c κs = search needs
 
 returns : tie.Need-returns
-returns c = rw (sym (c .before .before .constraints-present .ensures) ∙ c .before .if1 .taken, c .constraints .ensures)
+returns c = rw (sym (c .before .before .constraints-present .ensures) ∙ c .before .if1 .taken, c .constraints .ensures .0)
 
 returns-2 : tie.Need-returns-2
 returns-2 c = rw (sym (c .before .constraints-present .ensures) ∙ c .if1 .left)

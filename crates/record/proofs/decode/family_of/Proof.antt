@@ -9,10 +9,11 @@ family-requires : tie.Need-family-requires
 family-requires c κs = search needs
 
 family-at-requires : tie.Need-family-at-requires
-family-at-requires c κs = search needs
+family-at-requires c κs = c .family .ensures .1
 
 returns : tie.Need-returns
-returns c = c .family-at .ensures ∙ ap (λ (p : tree.Span). familyAt (p .offset) (p .size)) (c .before .family .ensures)
+returns c =
+    (c .family-at .ensures .0 ∙ ap (λ (p : tree.Span). familyAt (p .offset) (p .size)) (c .before .family .ensures .0), c .family-at .ensures .1)
 
 pub family-of-spec : {M : Type 1} → statement M
 family-of-spec = tie.close (tie.spec family-requires family-at-requires returns)

@@ -22,7 +22,7 @@ returns c =
     rw (
       c .before .before .before .before .tilde .ensures,
       c .before .before .before .layers .ensures,
-      c .before .before .family-of .ensures,
+      c .before .before .family-of .ensures .0,
       c .before .constraints-of .ensures,
       c .number .ensures,
     )

@@ -33,7 +33,7 @@ returns-4 : tie.Need-returns-4
 returns-4 c =
     let k = c .before .before .layer-form .result in
     let form : k ≡ 3 = omega (arith, none-below k 3 (c .before .match .rest), c .before .before .layer-form .ensures) in
-    rw (c .layer-set .ensures, sym (c .before .before .layer-form .ensures) ∙ form)
+    rw (c .layer-set .ensures .0, sym (c .before .before .layer-form .ensures) ∙ form)
 
 pub layers-spec : {M : Type 1} → statement M
 layers-spec =

@@ -12,7 +12,7 @@ number-requires : tie.Need-number-requires
 number-requires c κs = search needs
 
 returns : tie.Need-returns
-returns c = rw (c .before .before .family-of .ensures, c .before .constraints-of .ensures, c .number .ensures)
+returns c = rw (c .before .before .family-of .ensures .0, c .before .constraints-of .ensures, c .number .ensures)
 
 pub rotation-spec : {M : Type 1} → statement M
 rotation-spec = tie.close (tie.spec family-of-requires constraints-of-requires number-requires returns)

@@ -35,7 +35,7 @@ returns : tie.Need-returns
 returns c =
     let t = c .before .before .before .before .before .before .before .before .before .before .args .t .now in
     all-fields t (c .before .before .before .before .before .before .before .before .small .ensures) (c .before .before .before .before .before .before .before .first .ensures) (c .before .before .before .before .before .before .second .ensures) (c .before .before .before .before .before .number .ensures) (c .before .before .before .before .other .ensures)
-    (c .before .before .before .family .ensures) (c .before .before .constraints .ensures) (c .before .layer-set .ensures) (c .count .ensures)
+    (c .before .before .before .family .ensures .0) (c .before .before .constraints .ensures .0) (c .before .layer-set .ensures .0) (c .count .ensures)
 
 pub fields-at-spec : {M : Type 1} → statement M
 fields-at-spec =

@@ -9,7 +9,7 @@ span-at-requires : tie.Need-span-at-requires
 span-at-requires c κs = search needs
 
 returns : tie.Need-returns
-returns c = c .span-at .ensures ∙ rw (field-at (c .before .before .args .t .now) 7 (lit< tt), field-at (c .before .before .args .t .now) 8 (lit< tt))
+returns c = (c .span-at .ensures .0 ∙ rw (field-at (c .before .before .args .t .now) 7 (lit< tt), field-at (c .before .before .args .t .now) 8 (lit< tt)), c .span-at .ensures .1)
 
 pub constraints-spec : {M : Type 1} → statement M
 constraints-spec = tie.close (tie.spec span-at-requires returns)

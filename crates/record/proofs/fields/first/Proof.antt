@@ -5,11 +5,11 @@ use Rattle.record.proofs.Packed.{field-at}
 use Rattle.record.proofs.fields.first.Statement.{statement}
 use Rattle.record.proofs.fields.first.Tie as tie
 
-read-u16-requires : tie.Need-read-u16-requires
-read-u16-requires c κs = search needs
+read-u24-requires : tie.Need-read-u24-requires
+read-u24-requires c κs = search needs
 
 returns : tie.Need-returns
-returns c = c .read-u16 .ensures ∙ sym (field-at (c .before .before .args .t .now) 1 (lit< tt))
+returns c = c .read-u24 .ensures .0 ∙ sym (field-at (c .before .before .args .t .now) 1 (lit< tt))
 
 pub first-spec : {M : Type 1} → statement M
-first-spec = tie.close (tie.spec read-u16-requires returns)
+first-spec = tie.close (tie.spec read-u24-requires returns)

@@ -7,7 +7,7 @@ use borrow.Author.Needs.{needs}
 use lib.ListN.{length}
 use Rattle.notation.specs.Packed.{RECORD}
 use Rattle.tree.specs.Meaning.{counted as answer}
-use Rattle.tree.proofs.Bytes.{slice-below}
+use Rattle.numbers.proofs.BigEndian.{slice-below}
 use Rattle.tree.proofs.Turns.{GroupTold, group-told, counted, too-short, too-long, bad-node, no-more, refused, Left, at-first, shorter, past-group, past-leaf, count-held, no-level, group-refused, FirstRead, first-refused, first-held, SecondRead, no-second, second-list-refused, second-held, count-compared}
 use borrow.Fn.Kinds.{In}
 use borrow.Fn.PlainCycle.{Measures, is, falls, and}

@@ -2,7 +2,7 @@
 use mathlib.Core.Path.{sym, subst}
 use Prim.Native.Nat.{ℕ, _<_}
 use borrow.Author.Needs.{needs}
-use Rattle.tree.proofs.Bytes.{slice-below}
+use Rattle.numbers.proofs.BigEndian.{slice-below}
 use Rattle.tree.proofs.Heads.{group-says}
 use Rattle.tree.proofs.Turns.{GroupRead, group-written, multiplier-read, multiplier-refused, second-refused}
 use Rattle.tree.proofs.walk.group_record_ok.Statement.{statement}

@@ -8,7 +8,8 @@ use borrow.Author.Tests.{eqb-true, not-true, not-false}
 use Rattle.notation.specs.Packed.{headAt, leafHead}
 use Rattle.record.specs.Meaning.{rotationLeaf, moveLeaf}
 use Rattle.record.proofs.Packed.{headAt-kind}
-use Rattle.tree.proofs.Bytes.{slice-below, field-lt}
+use Rattle.numbers.proofs.BigEndian.{slice-below}
+use Rattle.tree.proofs.Bytes.{field-lt}
 use Rattle.tree.proofs.Turns.{LeafRead, leaf-not-one, leaf-passed, leaf-refused, pair-read, alone-read, no-kind}
 use Rattle.tree.proofs.walk.leaf_ok.Statement.{statement}
 use Rattle.tree.proofs.walk.leaf_ok.Tie as tie
