@@ -22,8 +22,8 @@ use parse::parse_notation;
 // 2^56
 const VALUES: u64 = 72057594037927936;
 
-// 2^16
-const PART: u64 = 65536;
+// 2^24
+const PART: u64 = 16777216;
 
 fn code(answer: Answer) -> u64
     ensures { λ r. ⌜ r ≡ coded (rule.outcome answer) ⌝ }

@@ -175,7 +175,7 @@ pub record Tidy (f : Features) (text : List ℕ) (t : Tree) : Type 0 where
   pub accepted : Accepted f text t
   pub inBounds : treeOk text t ≡ true
   pub fits : treeFits t ≡ true
-  pub small : size t < 65536
+  pub small : size t ≤ MAX-TEXT
   pub ranged : inRange f (unspanned text t) ≡ true
   pub nested : parens t ≤ 64
 
@@ -218,7 +218,7 @@ module _ (f : Features) (text : List ℕ) (t : Tree) (list : List Leaf) (p : Tid
 
   inverted-checks : checked text (pack (inverted t)) ≡ result (inverted t)
   inverted-checks =
-      let z : size (inverted t) < 65536 = (let e = inverted-size t in let s = p .small in omega arith) in
+      let z : size (inverted t) ≤ MAX-TEXT = (let e = inverted-size t in let s = p .small in omega arith) in
       let fit = tree-fits text (p .accepted .short) (inverted t) (inverted-ok text t (p .inBounds)) (inverted-fits t is-clean (p .fits)) z in
       let d = inverted-depth t in let q = parens-depth t in let n = p .nested in
       checks text (pack (inverted t)) (inverted t) (p .accepted .short) (p .accepted .isUtf8)

@@ -22,6 +22,7 @@ use Rattle.notation.specs.Packed.{
   RECORD, Head, leafHead, groupHead, binaryHead, headRecord, nodeSize, bodySize, size, bodyHead, packNode, packBody, pack, headAt, openHead, unpackFrom,
   unpack
 }
+use Rattle.notation.specs.Entries.{MAX-TEXT}
 use Rattle.record.specs.Range.{FitsSpan, FitsFamily, FitsConstraints, FitsLayers, FitsNumber, FitsLeaf, FitsHead}
 use Rattle.record.proofs.RoundTrip.{length-headRecord, headAt-headRecord}
 use Rattle.record.proofs.Same.{same-refl, same-eq}
@@ -153,8 +154,8 @@ unpackFrom-pack (suc k) t = deeper k (λ t. unpackFrom-pack k t) t
 pub unpack-pack : (t : Tree) → FitsTree t → unpack (pack t) ≡ t
 unpack-pack t f = unpackFrom-pack (length (pack t)) t f (omega (arith, length-pack t))
 
--- A tree in bounds over a text of at most 65,535 bytes fits its records.
-module _ (text : List ℕ) (short : length text ≤ 65535) where
+-- A tree in bounds over a text within the limit fits its records.
+module _ (text : List ℕ) (short : length text ≤ MAX-TEXT) where
   span-fits : (p : Span) → inside text p ≡ true → FitsSpan p
   span-fits p h =
       let e : p .offset + p .size ≤ length text = leb-true (p .offset + p .size) (length text) h in
@@ -207,22 +208,22 @@ module _ (text : List ℕ) (short : length text ≤ 65535) where
 
   mutual
     unfolding FitsTree FitsNode FitsBody nodeOk bodyOk treeOk nodeFits bodyFits treeFits nodeSize bodySize size
-    node-fits : (n : Node Leaf) → nodeOk text n ≡ true → nodeFits n ≡ true → nodeSize n < 65536 → FitsNode n
+    node-fits : (n : Node Leaf) → nodeOk text n ≡ true → nodeFits n ≡ true → nodeSize n ≤ MAX-TEXT → FitsNode n
     node-fits (leaf x) h e z = leaf-fits x h e
     node-fits (block b m) h e z =
         (body-head b m (and-left _ _ h) (omega arith), body-fits b (and-right (multiplierOk m) _ h) e (omega arith))
 
-    body-head : (b : Body Leaf) (m : ℤ) → multiplierOk m ≡ true → bodySize b < 65536 → FitsHead (bodyHead b m)
-    body-head (group k a) m h z = (z, number-fits m h, omega arith)
+    body-head : (b : Body Leaf) (m : ℤ) → multiplierOk m ≡ true → bodySize b ≤ MAX-TEXT → FitsHead (bodyHead b m)
+    body-head (group k a) m h z = (omega arith, number-fits m h, omega arith)
     body-head (binaryGroup k a b) m h z = (omega arith, omega arith, number-fits m h, omega arith)
 
-    body-fits : (b : Body Leaf) → bodyOk text b ≡ true → bodyFits b ≡ true → bodySize b < 65536 → FitsBody b
+    body-fits : (b : Body Leaf) → bodyOk text b ≡ true → bodyFits b ≡ true → bodySize b ≤ MAX-TEXT → FitsBody b
     body-fits (group k a) h e z = tree-fits a h e z
     body-fits (binaryGroup k a b) h e z =
         (tree-fits a (and-left _ _ h) (and-left _ _ e) (omega arith),
           tree-fits b (and-right (treeOk text a) _ h) (and-right (treeFits a) _ e) (omega arith))
 
-    pub tree-fits : (t : Tree) → treeOk text t ≡ true → treeFits t ≡ true → size t < 65536 → FitsTree t
+    pub tree-fits : (t : Tree) → treeOk text t ≡ true → treeFits t ≡ true → size t ≤ MAX-TEXT → FitsTree t
     tree-fits nil h e z = tt
     tree-fits (cons n l) h e z =
         (node-fits n (and-left _ _ h) (and-left _ _ e) (omega arith),

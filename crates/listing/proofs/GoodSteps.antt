@@ -16,6 +16,7 @@ use Rattle.notation.specs.Tree.{Span, Leaf, rotation, move, pause, pair, slash,
 use Rattle.notation.specs.Packed.{RECORD, leafRecord, nodeSize, size, packNode, pack, unpack}
 use Rattle.notation.specs.Meaning.{stepOf, unspanned}
 use Rattle.notation.specs.WellFormed.{multiplierOk, leafOk, nodeOk, bodyOk, treeOk}
+use Rattle.notation.specs.Entries.{MAX-TEXT}
 use Rattle.notation.specs.Invert.{undo, overflows}
 use Rattle.notation.specs.Unroll.{copies, turned, isNiss}
 use Rattle.notation.specs.Print.{putStep, putNode, putNodes, putOthers}
@@ -60,7 +61,7 @@ leaf-fits (pair u d) h = and-both (fitsBits 32 u) _ (h .0) (h .1)
 leaf-fits slash h = refl
 leaf-fits (megaminx k) h = refl
 
-module _ (text : List ℕ) (short : length text ≤ 65535) where
+module _ (text : List ℕ) (short : length text ≤ MAX-TEXT) where
   undone-good : (x : Leaf) → overflows x ≡ false → Good text x → Good text (undo x)
   unfolding inverted append treeOk nodeOk treeFits nodeFits cleanNodes cleanNode FitsTree FitsNode nodeSize size
   undone-good x o g =

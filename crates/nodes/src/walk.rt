@@ -25,9 +25,9 @@ pub fn first_end(node: &[u8]) -> usize
     RECORD + RECORD * wide(fields::first(node))
 }
 
-fn wide(n: u16) -> usize
+fn wide(n: u32) -> usize
     ensures { λ r. ⌜ r ≡ n ⌝ }
-    ensures { λ r. ⌜ r < 65536 ⌝ }
+    ensures { λ r. ⌜ r < 4294967296 ⌝ }
 {
     n as usize
 }

@@ -6,9 +6,11 @@ ghost use Prim.Native.Nat.{_-_, _+_, _≤_};
 ghost use lib.Dec.{eqb};
 ghost use lib.ListN.{length};
 ghost use Rattle.notation.specs.Packed.{familyAt};
+ghost use Rattle.notation.specs.Entries.{MAX-TEXT};
 ghost use Rattle.notation.specs.Tree as tree;
 ghost use Rattle.notation.specs.Utf8.{byteAt};
 ghost use Rattle.record.specs.Meaning.{span};
+ghost use Rattle.record.specs.Range.{FitsSpan};
 
 // Whether this byte stands at `at`.
 pub fn has(text: &[u8], at: usize, byte: u8) -> bool
@@ -35,26 +37,28 @@ pub fn has_two(text: &[u8], at: usize, first: u8, second: u8) -> bool
 
 // The part of the text from one offset to another.
 pub fn span_between(from: usize, to: usize) -> Span
-    requires { ⌜ (from ≤ to) × (to ≤ 65535) ⌝ }
+    requires { ⌜ (from ≤ to) × (to ≤ MAX-TEXT) ⌝ }
     ensures { λ r. ⌜ span r ≡ tree.span from (to - from) ⌝ }
+    ensures { λ r. ⌜ FitsSpan (span r) ⌝ }
 {
     Span {
-        offset: from as u16,
-        size: (to - from) as u16,
+        offset: from as u32,
+        size: (to - from) as u32,
     }
 }
 
 // The same for a family: an empty one stands nowhere.
 pub fn family_span(from: usize, to: usize) -> Span
-    requires { ⌜ (from ≤ to) × (to ≤ 65535) ⌝ }
+    requires { ⌜ (from ≤ to) × (to ≤ MAX-TEXT) ⌝ }
     ensures { λ r. ⌜ span r ≡ familyAt from (to - from) ⌝ }
+    ensures { λ r. ⌜ FitsSpan (span r) ⌝ }
 {
     if from == to {
         Span { offset: 0, size: 0 }
     } else {
         Span {
-            offset: from as u16,
-            size: (to - from) as u16,
+            offset: from as u32,
+            size: (to - from) as u32,
         }
     }
 }

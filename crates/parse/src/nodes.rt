@@ -4,6 +4,7 @@
 ghost use mathlib.Core.Path.{_≡_};
 ghost use Prim.Native.Nat.{_+_, _*_, _%_, _≤_, _<_};
 ghost use lib.ListN.{length, drop, getD, set};
+ghost use Rattle.notation.specs.Entries.{MAX-TEXT};
 ghost use Rattle.notation.specs.Grammar as rule;
 ghost use Rattle.notation.specs.Packed as packed;
 ghost use Rattle.record.specs.Meaning.{listed};
@@ -74,7 +75,7 @@ fn binary_group_kind(text: &[u8], at: usize) -> BinaryKind
 
 // A record with the number of its list's tally where the count will stand. The number is below 256; said here, it spares three stores.
 fn put_record(tree: &mut [u8], slot: usize, f: Fields, tally: u64)
-    requires { ⌜ slot ≤ 65535 ⌝ }
+    requires { ⌜ slot ≤ MAX-TEXT ⌝ }
     ensures { λ _. ⌜ now (tree .exit) ≡ nodes.put (packed.RECORD * slot) (packed.layOut packed.widths (set (listed f) 11 (tally % 256))) (now (tree .entry)) ⌝ }
 {
     let at = RECORD * slot;
@@ -184,7 +185,7 @@ fn group(
         let Closing::Took(bits, next) = close(text, list.next, b')') else {
             return NodeAnswer::Nothing;
         };
-        let first = (list.slot - (slot + 1)) as u16;
+        let first = (list.slot - (slot + 1)) as u32;
         put_record(tree, slot, group_fields(kind, first, bits, 0), tally);
         NodeAnswer::Took(next, list.slot)
     } else {
@@ -212,8 +213,8 @@ fn binary_group(
     let Closing::Took(bits, next) = close(text, b.next, b']') else {
         return NodeAnswer::Nothing;
     };
-    let first = (a.slot - (slot + 1)) as u16;
-    let second = (b.slot - a.slot) as u16;
+    let first = (a.slot - (slot + 1)) as u32;
+    let second = (b.slot - a.slot) as u32;
     put_record(tree, slot, binary_group_fields(kind, first, second, bits, 0), tally);
     NodeAnswer::Took(next, b.slot)
 }

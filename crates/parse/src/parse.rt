@@ -37,6 +37,7 @@ ghost use Prim.Native.Nat.{_≤_, _<_};
 ghost use lib.Dec.{eqb};
 ghost use lib.ListN.{length, drop};
 ghost use Rattle.notation.specs.Utf8.{byteAt};
+ghost use Rattle.notation.specs.Entries.{MAX-TEXT};
 ghost use Rattle.notation.specs.Grammar as rule;
 ghost use Rattle.parse.specs.Meaning as means;
 
@@ -72,7 +73,7 @@ fn numbered_layers(text: &[u8], at: usize) -> Layers
 
 // The layers before a family; none is fine. No number starts with a brace.
 pub fn layer_prefix_contents(text: &[u8], at: usize, features: Features) -> Layers
-    requires { ⌜ (at ≤ length (now text)) × (length (now text) ≤ 65535) ⌝ }
+    requires { ⌜ (at ≤ length (now text)) × (length (now text) ≤ MAX-TEXT) ⌝ }
     ensures { λ r. ⌜ means.layersReading (now (text .entry)) r ≡ rule.layerPrefixContents features at (drop at (now (text .entry))) ⌝ }
 {
     if features.layers.layer_sets && has(text, at, b'{') {
@@ -116,7 +117,7 @@ fn tilde(text: &[u8], at: usize, features: Features) -> Tilde
 
 // The constraints after a family; none is fine.
 fn constraints(text: &[u8], at: usize, features: Features) -> Constraints
-    requires { ⌜ (at ≤ length (now text)) × (length (now text) ≤ 65535) ⌝ }
+    requires { ⌜ (at ≤ length (now text)) × (length (now text) ≤ MAX-TEXT) ⌝ }
     ensures { λ r. ⌜ means.constraintsReading (now (text .entry)) r ≡ rule.constraints features at (drop at (now (text .entry))) ⌝ }
 {
     if features.transform_constraints && has(text, at, b'{') {
@@ -195,7 +196,7 @@ pub fn group_kind(text: &[u8], at: usize) -> Group
 
 // A rotation, whose `@` was seen.
 fn rotation(text: &[u8], at: usize, features: Features) -> LeafAnswer
-    requires { ⌜ (at < length (now text)) × (length (now text) ≤ 65535) ⌝ }
+    requires { ⌜ (at < length (now text)) × (length (now text) ≤ MAX-TEXT) ⌝ }
     requires { ⌜ eqb (byteAt (now text) at) 64 ≡ true ⌝ }
     ensures { λ r. ⌜ means.recordReading (now (text .entry)) r ≡ means.repeated (rule.rotationNode features at (drop at (now (text .entry)))) ⌝ }
 {
@@ -220,7 +221,7 @@ fn rotation(text: &[u8], at: usize, features: Features) -> LeafAnswer
 
 // A move: layers, a family of at least one character, constraints and a multiplier.
 fn move_(text: &[u8], at: usize, features: Features) -> LeafAnswer
-    requires { ⌜ (at ≤ length (now text)) × (length (now text) ≤ 65535) ⌝ }
+    requires { ⌜ (at ≤ length (now text)) × (length (now text) ≤ MAX-TEXT) ⌝ }
     ensures { λ r. ⌜ means.recordReading (now (text .entry)) r ≡ means.repeated (rule.moveNode features at (drop at (now (text .entry)))) ⌝ }
 {
     let sign = tilde(text, at, features);
@@ -249,7 +250,7 @@ fn move_(text: &[u8], at: usize, features: Features) -> LeafAnswer
 
 // A scramble move, or else a move.
 fn scramble_or_move(text: &[u8], at: usize, features: Features) -> LeafAnswer
-    requires { ⌜ (at < length (now text)) × (length (now text) ≤ 65535) ⌝ }
+    requires { ⌜ (at < length (now text)) × (length (now text) ≤ MAX-TEXT) ⌝ }
     ensures { λ r. ⌜ means.recordReading (now (text .entry)) r ≡ means.scrambleOrMove features at (drop at (now (text .entry))) ⌝ }
 {
     if features.megaminx && is_scramble(text, at) {
@@ -261,7 +262,7 @@ fn scramble_or_move(text: &[u8], at: usize, features: Features) -> LeafAnswer
 
 // A node that is no group. Its first byte tells which one it can be.
 pub fn leaf(text: &[u8], at: usize, features: Features) -> LeafAnswer
-    requires { ⌜ (at ≤ length (now text)) × (length (now text) ≤ 65535) ⌝ }
+    requires { ⌜ (at ≤ length (now text)) × (length (now text) ≤ MAX-TEXT) ⌝ }
     ensures means { λ r. ⌜ means.recordReading (now (text .entry)) r ≡ rule.andThen (rule.node features rule.fail at (drop at (now (text .entry)))) (λ n. rule.done (means.nodeFields n)) ⌝ }
     ensures within { λ r. ⌜ means.Within at (length (now (text .entry))) r ⌝ }
 {

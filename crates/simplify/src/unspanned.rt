@@ -7,6 +7,7 @@ ghost use lib.IntN.{natAbs};
 ghost use lib.ListN.{length, drop, replicate};
 ghost use Rattle.notation.specs.Numbers.{fromBits};
 ghost use Rattle.notation.specs.Layers as rule;
+ghost use Rattle.notation.specs.Entries.{MAX-TEXT};
 ghost use Rattle.notation.specs.Grammar.{padded, just};
 ghost use Rattle.notation.specs.Meaning.{layerSetIn, orEmpty};
 ghost use Rattle.notation.specs.WellFormed.{isSome, layersOk};
@@ -183,7 +184,7 @@ pub fn simplify(
     out: &mut [u8],
 ) -> Answer
     requires { ⌜ meaning.IsLayer «max_layer» ⌝ }
-    requires { ⌜ length (now text) ≤ 65535 ⌝ }
+    requires { ⌜ length (now text) ≤ MAX-TEXT ⌝ }
     requires { ⌜ layersOk (now text) (record′.layers layers) ≡ true ⌝ }
     ensures { λ r. ⌜ elements.Gives (rangesIn (now (text .entry)) «max_layer» «allow_negatives» (record′.layers layers)) r (now (out .exit)) (now (out .entry)) ⌝ }
 {

@@ -17,7 +17,7 @@ use Rattle.notation.specs.Packed.{RECORD, widths, cut, familyAt, nowhere, Head,
 use Rattle.notation.specs.WellFormed.{treeOk, depth, MAX-NESTING, wellFormed}
 use Rattle.numbers.proofs.Positional.{Below, below-take, below-drop}
 use Rattle.numbers.proofs.BigEndian.{fromBigEndian-lt}
-use Rattle.record.specs.Meaning.{field, spanAt, constraintsAt, layersAt}
+use Rattle.record.specs.Meaning.{field, placeWidth, spanAt, constraintsAt, layersAt}
 use Rattle.record.specs.Range.{FitsSpan, FitsFamily, FitsConstraints, FitsLayers, FitsNumber, FitsHead}
 use Rattle.record.proofs.Cut.{Fits, none as no-field, one as and-field}
 use Rattle.record.proofs.Packed.{Numbered, numbered-at, byKind, headAt-kind}
@@ -57,7 +57,7 @@ every-at P l d all p i = numbered-at (λ (n : ℕ). P) l d all (λ j h. p) i
 
 -- whatever bytes a record has, its head fits
 module _ (bs : List ℕ) (h : Below 256 bs) where
-  span-fits : (i : ℕ) → i < 11 → getD widths i 0 ≡ 2 → getD widths (i + 1) 0 ≡ 2 → FitsSpan (spanAt i bs)
+  span-fits : (i : ℕ) → i < 11 → getD widths i 0 ≡ placeWidth → getD widths (i + 1) 0 ≡ placeWidth → FitsSpan (spanAt i bs)
   span-fits i l e e′ =
       record {
         offset = subst (λ (w : ℕ). field i bs < 256 ^ w) e (field-lt bs h i (omega arith));
@@ -120,9 +120,9 @@ module _ (bs : List ℕ) (h : Below 256 bs) where
 
 -- a list unpacked from so many bytes has no more records than fit there, the last of them perhaps cut off
 abbrev Few : ℕ → Type 0
-Few k = (bs : List ℕ) → RECORD * size (unpackFrom k bs) ≤ length bs + 29
+Few k = (bs : List ℕ) → RECORD * size (unpackFrom k bs) ≤ length bs + (RECORD - 1)
 
-opened-few : (k : ℕ) → Few k → (bs : List ℕ) → 0 < length bs → (h : Head) → RECORD * size (opened k bs h) ≤ length bs + 29
+opened-few : (k : ℕ) → Few k → (bs : List ℕ) → 0 < length bs → (h : Head) → RECORD * size (opened k bs h) ≤ length bs + (RECORD - 1)
 unfolding size nodeSize bodySize
 opened-few k ih bs p (leafHead x) =
     let r = rw (length-drop RECORD bs) at (ih (drop RECORD bs)) in omega arith

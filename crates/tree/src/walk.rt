@@ -132,7 +132,7 @@ fn group_record_ok(t: &[u8]) -> bool
 }
 
 // Only a binary group has a second list.
-fn second_ok(kind: u8, second: u16) -> bool
+fn second_ok(kind: u8, second: u32) -> bool
     ensures { λ r. ⌜ r ≡ (leb 4 kind || eqb second 0) ⌝ }
 {
     kinds::COMMUTATOR <= kind || second == 0

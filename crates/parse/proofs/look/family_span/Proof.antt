@@ -4,6 +4,7 @@ use native.Mathlib.Omega.{arith}
 use Prim.Native.Nat.{_-_}
 use borrow.Author.Tests.{ne-eqb}
 use borrow.Author.Needs.{needs}
+use Rattle.record.proofs.RoundTrip.{nowhere-fits}
 use Rattle.parse.proofs.look.family_span.Statement.{statement}
 use Rattle.parse.proofs.look.family_span.Tie as tie
 
@@ -19,10 +20,12 @@ cast-t7 c = search needs
 returns : tie.Need-returns
 returns c =
     let z : c .before .args .to - c .before .args .from ≡ 0 = omega arith in
-    rw z
+    (rw z, nowhere-fits)
 
 returns-2 : tie.Need-returns-2
-returns-2 c = rw (ne-eqb (c .before .args .to - c .before .args .from) 0 (λ h. c .if1 .left (omega (arith, h))))
+returns-2 c =
+    (rw (ne-eqb (c .before .args .to - c .before .args .from) 0 (λ h. c .if1 .left (omega (arith, h)))),
+      record { offset = omega arith; size = omega arith })
 
 pub family-span-spec : {M : Type 1} → statement M
 family-span-spec = tie.close (tie.spec cast-t5 sub-t6 cast-t7 returns returns-2)

@@ -44,7 +44,7 @@ returns-2 c =
     let a = b .before .before .before .before .args in
     let text = a .text .now in
     let next = c .before .before .next .given .0 .0 in
-    ap (λ (p : Span). read (some p) next (drop next text)) (c .span-between .ensures)
+    ap (λ (p : Span). read (some p) next (drop next text)) (c .span-between .ensures .0)
     ∙ some-constraints (a .features) (a .at) (drop (a .at) text) next (drop next text) (b .before .before .if1 .taken)
     (rw (c .before .before .next .given .1) at (c .before .before .before .before .constraint-set .ensures))
 

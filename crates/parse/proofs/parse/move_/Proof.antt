@@ -49,7 +49,7 @@ returns-2 c =
     let last = b .multiplier .result .next in
     ap (λ (l : List ℕ). read l last (drop last text)) (c .move-fields .ensures)
     ∙ a-move (s .args .features) text (s .args .at) (sign .result .next) _ (prefix .result .next) (end .result) _ (sign .ensures) (prefix .ensures) (end .ensures) (b .before .constraints .result .next) last _ _ _
-    (b .before .before .before .if1 .left) (b .before .before .family-span .ensures) (b .before .constraints .ensures) (b .multiplier .ensures)
+    (b .before .before .before .if1 .left) (b .before .before .family-span .ensures .0) (b .before .constraints .ensures) (b .multiplier .ensures)
 
 pub move--spec : {M : Type 1} → statement M
 move--spec =

@@ -40,7 +40,7 @@ returns c =
     let last = b .multiplier .result .next in
     ap (λ (l : List ℕ). read l last (drop last text)) (c .rotation-fields .ensures)
     ∙ a-rotation (s .args .features) text (s .args .at) (b .before .before .before .family-end .result) (b .before .constraints .result .next) last _ _ _ (b .before .before .before .before .if1 .taken) (s .pre .1)
-    (b .before .before .before .family-end .ensures) (b .before .before .family-span .ensures) (b .before .constraints .ensures) (b .multiplier .ensures)
+    (b .before .before .before .family-end .ensures) (b .before .before .family-span .ensures .0) (b .before .constraints .ensures) (b .multiplier .ensures)
 
 returns-2 : tie.Need-returns-2
 returns-2 c = rotations-off (c .before .before .args .features) (c .before .before .args .at) (drop (c .before .before .args .at) (c .before .before .args .text .now)) (c .if1 .left)
