@@ -6,7 +6,7 @@ ghost use Rattle.notation.specs.Refusals.{refusal};
 ghost use Rattle.notation.specs.Entries as rule;
 ghost use Rattle.notation.specs.WellFormed.{inside};
 ghost use Rattle.record.specs.Meaning as means;
-ghost use Rattle.entries.specs.Parts.{partOutcome, Inside};
+ghost use Rattle.entries.specs.Parts.{partOutcome, Inside, Fits};
 use notation::answer::Answer;
 use notation::refusals::NO_SUCH_LAYER_COUNT;
 use notation::refusals::NO_SUCH_RECORD;
@@ -74,6 +74,7 @@ fn no_part(answer: Answer) -> PartAnswer
 pub fn family_part(text: &[u8], tree: &[u8], record: u64) -> PartAnswer
     ensures { λ r. ⌜ partOutcome r ≡ rule.familySpan (now (text .entry)) (now (tree .entry)) «record» ⌝ }
     ensures { λ r. ⌜ Inside (now (text .entry)) r ⌝ }
+    ensures { λ r. ⌜ Fits r ⌝ }
 {
     let checked = check(text, tree);
     let Answer::Value(_) = checked else {

@@ -78,8 +78,8 @@ returns c =
       number .before .kind .ensures,
       magnitude .magnitude .ensures,
       number .number .ensures,
-      ap size (family .family .ensures),
-      ap size (constraints .constraints .ensures),
+      ap size (family .family .ensures .0),
+      ap size (constraints .constraints .ensures .0),
       c .before .layer-form .ensures,
     )
 

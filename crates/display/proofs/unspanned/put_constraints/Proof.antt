@@ -31,7 +31,7 @@ put-squeezed-requires c κs =
       (
         omega arith,
         constraints-within (now (start .args .text)) (p .constraints .result)
-            (some-constraints (now (start .args .t)) (p .constraints .result) (i .before .constraints-present .ensures) (i .if1 .taken) (p .constraints .ensures)) (start .pre .1 .1),
+            (some-constraints (now (start .args .t)) (p .constraints .result) (i .before .constraints-present .ensures) (i .if1 .taken) (p .constraints .ensures .0)) (start .pre .1 .1),
       ),
     )
 
@@ -45,7 +45,7 @@ returns c =
     let i = p .before in
     let start = i .before .before .before .before .before in
     constraints-print (now (start .args .text)) (p .constraints .result)
-    (some-constraints (now (start .args .t)) (p .constraints .result) (i .before .constraints-present .ensures) (i .if1 .taken) (p .constraints .ensures)) (start .pre .1 .1) (s .put-squeezed .ensures)
+    (some-constraints (now (start .args .t)) (p .constraints .result) (i .before .constraints-present .ensures) (i .if1 .taken) (p .constraints .ensures .0)) (start .pre .1 .1) (s .put-squeezed .ensures)
 
 returns-2 : tie.Need-returns-2
 returns-2 c =

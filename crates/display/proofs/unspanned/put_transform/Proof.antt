@@ -17,7 +17,7 @@ put-part-requires : tie.Need-put-part-requires
 put-part-requires c κs =
     let b = c .before .before .before .before in
     let start = b .before .before .before .before .before in
-    (omega (arith, b .put-before-family .ensures .counts), family-ok (now (start .args .text)) (c .family-of .ensures) (start .pre .1 .family))
+    (omega (arith, b .put-before-family .ensures .counts), family-ok (now (start .args .text)) (c .family-of .ensures .0) (start .pre .1 .family))
 
 put-constraints-requires : tie.Need-put-constraints-requires
 put-constraints-requires c κs = search needs
@@ -38,7 +38,7 @@ returns c =
     let f = k .before .before .before .before in
     let b = f .before .before .before .before .before in
     let a = b .before .before .before .before .before .args in
-    transform-as (now (a .text)) (now (a .t)) (f .before .family-of .ensures) (m .before .number .ensures)
+    transform-as (now (a .text)) (now (a .t)) (f .before .family-of .ensures .0) (m .before .number .ensures)
     (wrote-then (b .put-before-family .ensures) (wrote-then (f .put-part .ensures) (wrote-then (k .put-constraints .ensures) (m .put-multiplier .ensures))))
 
 pub put-transform-spec : {M : Type 1} → statement M

@@ -33,7 +33,7 @@ part-result-end c =
     let found = c .before .before .before in
     let part = found .before .before in
     let a = part .before .before .before .args in
-    let inside = subst (Inside (a .text .now)) (found .p .given .1) (part .family-part .ensures .1) in
+    let inside = subst (Inside (a .text .now)) (found .p .given .1) (part .family-part .ensures .1 .0) in
     leb-true _ _ inside
 
 enum-told : tie.Need-enum-told

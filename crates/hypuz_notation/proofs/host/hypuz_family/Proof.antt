@@ -1,7 +1,7 @@
 -- `host::hypuz_family` meets its contract: each case by its rule. Assumes nothing.
-use mathlib.Core.Path.{sym, ap, _∙_}
+use mathlib.Core.Path.{sym, ap, subst, _∙_}
 use borrow.Author.Needs.{needs}
-use Rattle.entries.specs.Parts.{partOutcome}
+use Rattle.entries.specs.Parts.{partOutcome, Fits}
 use Rattle.hypuz_notation.proofs.Handing.{part-coded, no-part-coded}
 use Rattle.hypuz_notation.proofs.host.hypuz_family.Statement.{statement}
 use Rattle.hypuz_notation.proofs.host.hypuz_family.Tie as tie
@@ -37,7 +37,8 @@ returns : tie.Need-returns
 returns c =
     let found = c .before .before .before in
     let part = found .before .before in
-    part-coded _ _ (search needs) (search needs) (ap partOutcome (sym (found .p .given .1)) ∙ part .family-part .ensures .0)
+    let fits = subst Fits (found .p .given .1) (part .family-part .ensures .1 .1) in
+    part-coded _ _ (fits .offset) (fits .size) (ap partOutcome (sym (found .p .given .1)) ∙ part .family-part .ensures .0)
 
 returns-2 : tie.Need-returns-2
 returns-2 c =
