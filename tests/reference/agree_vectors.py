@@ -165,6 +165,17 @@ def refused():
     yield case(b" " * 65535, 0, room=40)
 
 
+def far_on():
+    """Offsets and lengths past 16 bits."""
+    for text in ("R", "R U'", "~{1-3,-2}R{A->B}' @U{C}2", "[R, U{A}]'", "((R U)2' {1}F)3'", "(^(R))0 U"):
+        for before in (65534, 65536, 70000, 131072):
+            data = b" " * before + text.encode()
+            yield case(data, 0)
+            yield case(data, 2)
+    yield case(b"R{ A ," + b" " * 70000 + b"B }2 U", 1)
+    yield case(b"{1," + b" " * 70000 + b"-2}R' U", 0)
+
+
 def cases():
     random.seed(13)
     for text in TEXTS:
@@ -172,7 +183,7 @@ def cases():
         yield case(text, random.choice((0, max(total - 1, 0), random.randrange(total + 2))))
     for text in NISS + PAIRS:
         yield case(text, random.choice((0, 0, 1)))
-    for group in (places, settings, rooms, refused):
+    for group in (places, settings, rooms, refused, far_on):
         yield from group()
     for text in random_texts(60):
         bits = random.choice((MAX, MAX, random.randrange(128)))

@@ -106,10 +106,10 @@ def broken():
     # length
     for tree in (r[:-1], r + b"\0", r[:1], r + r[:-1], bytes(n.RECORD - 1), r * 3 + b"\x70"):
         yield "R", tree
-    # records without a count, as they were before request 2: one, and so many that the length is right
-    old = r[:-5]
-    yield "R", old
-    yield "R", old * n.RECORD
+    # records of other sizes, as they were before requests 2 and 10: one, and so many that the length is right
+    for size in (25, 30):
+        yield "R", r[:size]
+        yield "R", r[:size] * n.RECORD
     # kind
     yield "R", rec(15)
     yield "R", r + rec(15, number=1)
@@ -179,14 +179,15 @@ def broken():
 
 
 def unused():
-    """Each field that a kind does not use, set alone."""
+    """Each field that a kind does not use, set alone: its last bit, and its first."""
     for kind in range(15):
         fields = {"number": 1} if kind in (*range(8), n.PAIR) else {}
         fields.update({"family_size": 1} if kind == n.MOVE else {})
         base = n.unpack(rec(kind, **fields))
-        for name, _ in n.FIELDS:
+        for name, size in n.FIELDS:
             if name not in n.used_fields(base):
-                yield "R{}", rec(kind, **{**fields, name: 1}) + move() * (name in ("first", "second"))
+                for value in {1, 1 << size - 1}:
+                    yield "R{}", rec(kind, **{**fields, name: value}) + move() * (name in ("first", "second"))
 
 
 def odd():

@@ -1,9 +1,11 @@
 """Document 01 once more, in plain Python: a reader, packed trees, inverses, printing, unrolling and layer ranges; of document 02 request 2, the
-counts that records store.
+counts that records store, and request 10, the longer texts.
 
 Written from the papers alone, as ordinary recursive descent over decoded characters, to make the expected output of the stored vectors.
 Nothing in it is shared with the Rattle code or with the definitions in crates/notation/specs.
 """
+
+import functools
 
 FLAGS = ("inverted_layers", "layer_sets", "hsc1_layer_ranges", "generalized_rotations", "transform_constraints", "megaminx", "sq1")
 WCA = {"megaminx", "sq1"}
@@ -14,12 +16,13 @@ GREEK = {0x300 + n for n in (0x93, 0x94, 0x98, 0x9B, 0x9E, 0xA0, 0xA3, 0xA6, 0xA
                              0xBE, 0xC0, 0xC4, 0xC6, 0xC8, 0xC9)}
 WHITE = set([*range(0x9, 0xE), 0x20, 0x85, 0xA0, 0x1680, *range(0x2000, 0x200B), 0x2028, 0x2029, 0x202F, 0x205F, 0x3000])
 LEAST = -2147483648
+MOST_TEXT = 16777215  # a longer text is refused 1
 MOST_STEPS = 4294967295  # a longer list is refused 9
 HELD = 4294967296  # what a record stores for every count above
 
 # The packed record: its fields in order with their bits, most significant bit first.
-FIELDS = (("kind", 4), ("tilde", 1), ("form", 2), ("constrained", 1), ("first", 16), ("second", 16), ("number", 32), ("d", 32),
-          ("family", 16), ("family_size", 16), ("constraints", 16), ("constraints_size", 16), ("set", 16), ("set_size", 16), ("count", 40))
+FIELDS = (("kind", 4), ("tilde", 1), ("form", 2), ("constrained", 1), ("first", 24), ("second", 24), ("number", 32), ("d", 32),
+          ("family", 24), ("family_size", 24), ("constraints", 24), ("constraints_size", 24), ("set", 24), ("set_size", 24), ("count", 40))
 RECORD = sum(bits for _, bits in FIELDS) // 8
 DEEPEST = 64
 
@@ -281,7 +284,7 @@ class Reader:
 
 def check_text(text):
     """Refusals 1 and 2."""
-    if len(text) > 65535:
+    if len(text) > MOST_TEXT:
         raise Refused(1)
     try:
         text.decode("utf-8")
@@ -659,8 +662,9 @@ def ranges(n, layers, negatives):
 # The entries that take a text and a tree. Each gives what it writes (bytes), or raises Refused; `lend` is left to the caller.
 
 
+@functools.lru_cache(4)
 def opened(text, tree):
-    """The nodes of a tree; raises Refused 1, 2 or 6."""
+    """The nodes of a tree; raises Refused 1, 2 or 6. Nobody changes them, so those of the last calls are kept."""
     check_text(text)
     return Tree(text, tree).nodes
 

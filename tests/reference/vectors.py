@@ -8,6 +8,7 @@ import agree_vectors
 import count_vectors
 import entry_vectors
 import listing_vectors
+import long_vectors
 import oracle_vectors
 import reading_vectors
 import seek_vectors
@@ -17,7 +18,7 @@ MOST = 64 * 262144  # what the program reads at most: so many pieces
 
 
 def main():
-    groups = (reading_vectors, entry_vectors, count_vectors, seek_vectors, listing_vectors, oracle_vectors, agree_vectors)
+    groups = (reading_vectors, entry_vectors, count_vectors, seek_vectors, long_vectors, listing_vectors, oracle_vectors, agree_vectors)
     both = [line for group in groups for line in group.lines()]
     home = sys.argv[1] if len(sys.argv) > 1 else HOME
     for name, column in (("stdin", 0), ("stdout", 1)):

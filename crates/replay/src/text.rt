@@ -1,5 +1,5 @@
-// A case's text, which the input spells as segments `count:bytes;`: the bytes in hexadecimal, repeated `count` times, so that a text
-// of 65,535 bytes fits a short line.
+// A case's text, which the input spells as segments `count:bytes;`: the bytes in hexadecimal, repeated `count` times, so that a long
+// text fits a short line.
 ghost use Prim.Native.Nat.{_≤_};
 ghost use lib.ListN.{length};
 ghost use Rattle.replay.specs.Bounds.{AtMost};

@@ -13,10 +13,10 @@ slice-aggregate-run-2 : tie.Need-slice-aggregate-run-2
 slice-aggregate-run-2 c = search needs
 
 slice-aggregate-run-3 : tie.Need-slice-aggregate-run-3
-slice-aggregate-run-3 c = sym (length-replicate {0} {A = ℕ} 2490368 0)
+slice-aggregate-run-3 c = sym (length-replicate {0} {A = ℕ} 2736000 0)
 
 slice-aggregate-run-4 : tie.Need-slice-aggregate-run-4
-slice-aggregate-run-4 c = sym (length-replicate {0} {A = ℕ} 2490368 0)
+slice-aggregate-run-4 c = sym (length-replicate {0} {A = ℕ} 2736000 0)
 
 run-requires : tie.Need-run-requires
 run-requires c κs = search needs
