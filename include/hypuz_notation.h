@@ -8,7 +8,7 @@
  * buffer as it was; after success the bytes past the used part are as they were.
  *
  * A buffer is a pointer and a length in bytes. The pointer may not be null, also when the length is 0; a text, a tree and a buffer that is
- * written may not overlap. A text is UTF-8 of at most 65,535 bytes. A tree is a run of records of HYPUZ_RECORD bytes over its
+ * written may not overlap. A text is UTF-8 of at most 16,777,215 bytes. A tree is a run of records of HYPUZ_RECORD bytes over its
  * text, as hypuz_parse_notation writes it; any bytes may be given as a tree, and are refused with 6 if they are not one. The bytes of a text
  * times HYPUZ_RECORD hold any tree of it.
  *
@@ -16,10 +16,10 @@
  *   4         kind: 0 group, 1 macro !, 2 simultaneous &, 3 NISS ^, 4 commutator, 5 conjugate, 6 rotation, 7 move, 8 pause, 9 Square-1 pair,
  *             10 slash, 11 R++, 12 R--, 13 D++, 14 D--
  *   1, 2, 1   tilde; form of the layers (0 none, 1 single, 2 range, 3 set); whether there are constraints
- *   16, 16    records in the first list of a group, nested ones included, and in the second
+ *   24, 24    records in the first list of a group, nested ones included, and in the second
  *   32        multiplier, or u of a pair (signed)
  *   32        d of a pair (signed), or low and high layer, 16 each
- *   6 by 16   offset and length in the text of: family, constraints with braces, layer set with braces
+ *   6 by 24   offset and length in the text of: family, constraints with braces, layer set with braces
  *   40        count: how many steps the record unrolls into, repeats included; 4,294,967,296 if they are more than 4,294,967,295. It is 1 in a
  *             leaf, whatever its multiplier, and so in every step that is handed over; 0 in a group of multiplier 0 and in a NISS group, which
  *             adds 0 to what holds it. What stands inside such a group has its own count all the same.
@@ -42,7 +42,7 @@ extern "C" {
 #endif
 
 /* Bytes of a record. Host code that names it, and never the number, goes on to work when a record gains a field. */
-#define HYPUZ_RECORD 30
+#define HYPUZ_RECORD 38
 
 /* The features of a setting, to be added up. */
 #define HYPUZ_INVERTED_LAYERS 1u
@@ -84,7 +84,7 @@ uint64_t hypuz_flatten(const uint8_t *text, size_t text_size, const uint8_t *tre
 uint64_t hypuz_simplify(const uint8_t *text, size_t text_size, const uint8_t *tree, size_t tree_size, uint64_t record, uint32_t max_layer,
                         uint32_t allow_negatives, uint8_t *out, size_t out_size);
 
-/* Where the family of a move or a rotation stands in the text: its offset times 65,536 plus its length. Refusals 1, 2, 6, 12. */
+/* Where the family of a move or a rotation stands in the text: its offset times 2^24 plus its length. Refusals 1, 2, 6, 12. */
 uint64_t hypuz_family(const uint8_t *text, size_t text_size, const uint8_t *tree, size_t tree_size, uint64_t record);
 
 #ifdef __cplusplus

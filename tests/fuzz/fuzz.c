@@ -132,7 +132,7 @@ static void recount(uint8_t *tree, size_t size) {
             store(r, 1);
             continue;
         }
-        size_t middle = i + 1 + field(r + 1, 2), last = middle + (kind > 3 ? field(r + 3, 2) : 0);
+        size_t middle = i + 1 + field(r + 1, 3), last = middle + (kind > 3 ? field(r + 4, 3) : 0);
         if (middle > records) middle = records;
         if (last > records) last = records;
         uint64_t lists[2] = {0, 0};
@@ -142,7 +142,7 @@ static void recount(uint8_t *tree, size_t size) {
         }
         ends[i] = last;
         uint64_t once = kind == 3 ? 0 : kind == 4 ? 2 * (lists[0] + lists[1]) : kind == 5 ? 2 * lists[0] + lists[1] : lists[0];
-        uint64_t number = field(r + 5, 4), times = number >> 31 ? 4294967296u - number : number;
+        uint64_t number = field(r + 7, 4), times = number >> 31 ? 4294967296u - number : number;
         store(r, held(held(once) * times));
     }
     free(ends);
@@ -201,7 +201,7 @@ static void every(const struct input *i, size_t room) {
     uint64_t step = fits(seek, i, room % 64, 1, "seeking");
     uint64_t turned = fits(simplify, i, room, 4, "layer ranges");
     uint64_t part = hypuz_family(i->text, i->text_size, i->tree, i->tree_size, i->record);
-    demand(hypuz_refusal(part) || (hypuz_value(part) >> 16) + (hypuz_value(part) & 0xffff) <= i->text_size, "a family inside the text");
+    demand(hypuz_refusal(part) || (hypuz_value(part) >> 24) + (hypuz_value(part) & 0xffffff) <= i->text_size, "a family inside the text");
     uint64_t answers[] = {whole, shown, shallow, deep, n, list, step, turned, part};
     for (size_t k = 0; k < sizeof answers / sizeof *answers; k++) {
         note(16 * k + hypuz_refusal(answers[k]));

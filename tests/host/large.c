@@ -31,8 +31,8 @@ int main(void) {
     for (size_t i = 0; i < RECORDS; i++) { /* the move R at offset 0 of the text, multiplier 1, which counts 1 */
         uint8_t *record = tree + i * HYPUZ_RECORD;
         record[0] = 0x70;
-        record[8] = 1;
-        record[16] = 1;
+        record[10] = 1;
+        record[20] = 1;
         record[HYPUZ_RECORD - 1] = 1;
     }
     double t = now();

@@ -129,7 +129,7 @@ class Case:
         for _ in range(2):
             record = random.choice((random.randrange(records + 1), random.randrange(records + 1), records, 2**16, 2**32, 2**64 - 1, 2**62))
             refusal, found = attempt(lambda: n.record_at(n.opened(self.text, self.tree), record, (n.MOVE, n.ROTATION)).family)
-            self.check("family", [record], None, (refusal, (found[0] << 16) + found[1] if found else 0, b""))
+            self.check("family", [record], None, (refusal, (found[0] << 24) + found[1] if found else 0, b""))
             layers = random.choice((1, 2, 3, 5, 9, 32766, 32767, 1, 2, 3, 4, 9, 0, 32768, 65536, 65537, 2**32 - 1))
             negatives = random.choice((0, 1, 1, 2, 256, 2**31))
             self.written("simplify", [record, layers, negatives], lambda: n.simplify(self.text, self.tree, record, layers, negatives != 0), 4)
@@ -194,7 +194,7 @@ def damage(text, tree, other):
 def nested(tree, levels):
     """The tree inside so many groups."""
     for _ in range(levels):
-        if len(tree) % n.RECORD or len(tree) // n.RECORD > 60000:
+        if len(tree) % n.RECORD or len(tree) // n.RECORD > 100000:
             return tree
         kind = random.choice((0, 1, 2, 4, 5))
         second = kind > 3 and random.random() < 0.5
@@ -229,7 +229,7 @@ def damaged_text(text):
         at = random.randrange(len(text) + 1)
         return text[:at] + random.choice((b" ", b"(", b")", b"'", b"0", b"-", b"{", b"}", "\u2003".encode(), "β".encode(), b"\xff", b"R")) + text[at:]
     if k == 4 and random.random() < 0.02:
-        return text + b" " * (random.choice((65535, 65536, 70000)) - len(text))
+        return text + b" " * (random.choice((65535, 65536, 70000, n.MOST_TEXT, n.MOST_TEXT + 1)) - len(text))
     if k == 5 and random.random() < 0.1:
         return b"(" * random.choice((60, 63, 64, 65)) + text
     return text
