@@ -26,7 +26,7 @@ use Rattle.record.proofs.Same.{same-refl, same-eq, same-record}
 use Rattle.laws.proofs.Bools.{and-left, and-right}
 use Rattle.tree.specs.Formed.{headOk, both, firstBytes, secondBytes, restBytes, countOk}
 use Rattle.tree.specs.Formed as said
-use Rattle.tree.proofs.Bytes.{field-lt, head-fits}
+use Rattle.tree.proofs.Bytes.{head-fits}
 use Rattle.tree.proofs.Heads.{first-written, second-written, count-written}
 use Rattle.tree.proofs.Opening.{both-sum, nodeOf, unpack-view}
 use Rattle.tree.proofs.Formed.{Formed, formed-fact, formed-nil, formed-parts, parts-formed}

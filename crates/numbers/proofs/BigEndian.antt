@@ -5,7 +5,7 @@ use mathlib.Core.List.{List, [], _∷_, _++_, append-nil}
 use native.Mathlib.Nat.{add-suc, suc-add, add-zero}
 use native.Mathlib.Numerals.{add-one}
 use native.Mathlib.Omega.{arith}
-use lib.Arith.{digits-mod}
+use lib.Arith.{digits-div, digits-mod}
 use lib.Dec.{lit<}
 use lib.ListN.{length, getD, take, drop, set, length-drop}
 use lib.Seq.{sets, drop-cons, take-add, drop-drop, length-take-le}
@@ -76,12 +76,18 @@ two-parts s at u w h =
     ∙ positional-from 256 (fromBigEndian (take u (drop at s))) (take w (drop u (drop at s)))
     ∙ rw (long, drop-drop)
 
--- the last part of a field alone
+-- a part of a field alone: its bound, the first part and the last
 pub part-lt : (s : List ℕ) (at w : ℕ) → Below 256 s → at + w ≤ length s → fromBigEndian (take w (drop at s)) < 256 ^ w
 part-lt s at w b h =
     subst (λ (n : ℕ). fromBigEndian (take w (drop at s)) < 256 ^ n)
     (length-take-le w (drop at s) (simp length-drop (omega arith)))
     (fromBigEndian-lt (take w (drop at s)) (below-take 256 w (drop at s) (lit< tt) (below-drop 256 at s b)))
+
+pub first-part : (s : List ℕ) (at u w : ℕ) → Below 256 s → at + (u + w) ≤ length s
+    → fromBigEndian (take (u + w) (drop at s)) / 256 ^ w ≡ fromBigEndian (take u (drop at s))
+first-part s at u w b h =
+    ap (λ (n : ℕ). n / 256 ^ w) (two-parts s at u w h)
+    ∙ digits-div (fromBigEndian (take u (drop at s))) (part-lt s (at + u) w b (omega arith))
 
 pub last-part : (s : List ℕ) (at u w : ℕ) → Below 256 s → at + (u + w) ≤ length s
     → fromBigEndian (take (u + w) (drop at s)) % 256 ^ w ≡ fromBigEndian (take w (drop (at + u) s))

@@ -1,6 +1,6 @@
 // Fields of one, two, three, four and five bytes, most significant byte first.
 ghost use mathlib.Core.Path.{_≡_};
-ghost use Prim.Native.Nat.{_+_, _^_, _<_, _≤_};
+ghost use Prim.Native.Nat.{_+_, _<_, _≤_};
 ghost use lib.ListN.{length, take, drop};
 ghost use lib.Seq.{sets};
 ghost use Rattle.notation.specs.Numbers.{bigEndian, fromBigEndian};
@@ -21,13 +21,12 @@ pub fn read_u16(s: &[u8], at: usize) -> u16
     (s[at] as u16) * 256 + (s[at + 1] as u16)
 }
 
-// The number in the three bytes from `at` on. It is taken from the four that begin one before, as which the machine has them at once.
+// The number in the three bytes from `at` on.
 pub fn read_u24(s: &[u8], at: usize) -> u32
-    requires { ⌜ (0 < at) × (at + 3 ≤ length (now s)) ⌝ }
+    requires { ⌜ at + 3 ≤ length (now s) ⌝ }
     ensures { λ r. ⌜ r ≡ fromBigEndian (take 3 (drop at (now (s .entry)))) ⌝ }
-    ensures { λ r. ⌜ r < 256 ^ 3 ⌝ }
 {
-    read_u32(s, at - 1) % 16777216
+    (read_u8(s, at) as u32) * 65536 + (read_u16(s, at + 1) as u32)
 }
 
 // The number in the four bytes from `at` on.

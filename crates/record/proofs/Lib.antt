@@ -4,6 +4,9 @@ pub mod Packed
 pub mod RoundTrip
 pub mod Same
 pub mod Numbered
+pub mod Written
+pub mod Zeros
+pub mod Leaves
 -- A record copied, a field stored in it, and a record undone.
 pub mod Copying
 pub mod Storing

@@ -1,32 +1,67 @@
 -- The packed record: where its fields stand, and that reading undoes writing.
-use Prim.Native.Nat.{ℕ, zero, suc, _+_, _*_, _/_, _<_, _≤_, zero-le}
-use mathlib.Core.Path.{_≡_, refl, sym, _∙_, ap, subst}
+use Prim.Native.Nat.{ℕ, zero, suc, _+_, _*_, _/_, _%_, _^_, _<_, _≤_, zero-le}
+use mathlib.Core.Path.{_≡_, refl, sym, _∙_, ap, ap₂, subst}
 use mathlib.Core.Bool.{Bool, true, false}
 use mathlib.Core.Option.{Option, none, some}
 use mathlib.Core.List.{List, [], _∷_, _++_}
+use native.Mathlib.Nat.{pow-le-pow-right, lt-of-lt-of-le}
 use native.Mathlib.Omega.{arith}
 use borrow.Author.Tests.{ne-eqb}
 use lib.Arith.{lt-of-le-ne}
 use lib.Dec.{eqb, lit<}
-use lib.ListN.{length, getD, take, drop}
+use lib.ListN.{length, getD, take, drop, length-take}
 use lib.Seq.{sets-eq}
 use mir.Val.{boolByte}
 use Rattle.notation.specs.Numbers.{fromBits, fromBigEndian}
 use Rattle.notation.specs.Tree.{Span, Layers, noLayers, singleLayer, layerRange, layerSet, pause, pair, slash, megaminx}
-use Rattle.notation.specs.Packed.{widths, RECORD, layOut, Head, leafHead, headOf, headAt, bit, present, layerForm, groupNumber, binaryNumber, megaminxNumber}
+use Rattle.notation.specs.Packed.{widths, RECORD, layOut, cut, Head, leafHead, headOf, headAt, bit, present, layerForm, groupNumber, binaryNumber, megaminxNumber}
 use Rattle.notation.specs.declared.common.GroupKind.{GroupKind}
 use Rattle.notation.specs.declared.common.BinaryGroupKind.{BinaryGroupKind}
 use Rattle.notation.specs.declared.common.MegaminxScrambleMove.{MegaminxScrambleMove}
 use Rattle.notation.specs.declared.common.GroupKind.the-variants.{Simple, Macro, Simultaneous, Niss}
 use Rattle.notation.specs.declared.common.BinaryGroupKind.the-variants.{Commutator, Conjugate}
 use Rattle.notation.specs.declared.common.MegaminxScrambleMove.the-variants.{Rpp, Rmm, Dpp, Dmm}
-use Rattle.numbers.proofs.BigEndian.{two-parts}
+use Rattle.numbers.proofs.Positional.{Below, below-take, below-drop}
+use Rattle.numbers.proofs.BigEndian.{fromBigEndian-lt, two-parts, first-part, last-part}
 use Rattle.record.specs.Meaning.{start, field, groupAt, binaryAt, rotationAt, moveAt}
-use Rattle.record.proofs.Cut.{field-ends, cut-front, length-layOut, stores, stores-layOut}
+use Rattle.record.proofs.Cut.{Fits, none as no-field, one as and-field, field-ends, cut-front, length-layOut, stores, stores-layOut}
 
 -- field i stands after the widths before it: what ties an offset of the code to the list of widths
 pub field-at : (bs : List ℕ) (i : ℕ) → i < length widths → field i bs ≡ fromBigEndian (take (getD widths i 0) (drop (start widths i) bs))
 field-at bs i h = cut-front widths bs RECORD i h (field-ends widths i h)
+
+-- fields cut from bytes fit their widths
+cut-fits : (ws bs : List ℕ) → Below 256 bs → Fits ws (cut ws bs)
+unfolding cut
+cut-fits [] bs h = no-field
+cut-fits (w ∷ ws) bs h =
+    let short : length (take w bs) ≤ w = simp length-take (omega arith) in
+    and-field
+    (lt-of-lt-of-le (fromBigEndian-lt (take w bs) (below-take 256 w bs (lit< tt) h)) (pow-le-pow-right (lit< tt) short))
+    (cut-fits ws (drop w bs) (below-drop 256 w bs h))
+
+fits-at : {ws fs : List ℕ} → Fits ws fs → (i : ℕ) → i < length ws → getD fs i 0 < 256 ^ getD ws i 0
+fits-at no-field i h = absurd (omega arith)
+fits-at (and-field f fs) zero h = f
+fits-at (and-field f fs) (suc i) h = fits-at fs i (omega arith)
+
+pub field-lt : (bs : List ℕ) → Below 256 bs → (i : ℕ) → i < 12 → field i bs < 256 ^ getD widths i 0
+field-lt bs h i l = fits-at (cut-fits widths (take RECORD bs) (below-take 256 RECORD bs (lit< tt) h)) i l
+
+-- two fields of three bytes each, which are read as four and two
+module _ (s : List ℕ) (at : ℕ) (below : Below 256 s) (room : at + 6 ≤ length s) (head tail : ℕ)
+    (e : head ≡ fromBigEndian (take 4 (drop at s))) (f : tail ≡ fromBigEndian (take 2 (drop (at + 4) s))) where
+  pub first-of-two : head / 256 ≡ fromBigEndian (take 3 (drop at s))
+  first-of-two = ap (λ (n : ℕ). n / 256) e ∙ first-part s at 3 1 below (omega arith)
+
+  pub second-of-two : head % 256 * 65536 + tail ≡ fromBigEndian (take 3 (drop (at + 3) s))
+  second-of-two =
+      let here : at + 3 + 1 ≡ at + 4 = omega arith in
+      ap₂ (λ (m n : ℕ). m * 65536 + n) (ap (λ (n : ℕ). n % 256) e ∙ last-part s at 3 1 below (omega arith)) (f ∙ ap (λ (k : ℕ). fromBigEndian (take 2 (drop k s))) (sym here))
+      ∙ sym (two-parts s (at + 3) 1 2 (omega arith))
+
+  pub two-as-one : head * 65536 + tail ≡ fromBigEndian (take 3 (drop at s)) * 16777216 + fromBigEndian (take 3 (drop (at + 3) s))
+  two-as-one = ap₂ (λ (m n : ℕ). m * 65536 + n) e f ∙ sym (two-parts s at 4 2 room) ∙ two-parts s at 3 3 room
 
 -- the step count by the first of its five bytes and by the other four
 module _ (bs : List ℕ) (long : RECORD ≤ length bs) (high low : ℕ)

@@ -1,5 +1,6 @@
 -- What the crate's types mean in the rules, and a field of a record: one of `cut widths`.
 use Prim.Native.Nat.{ℕ, _+_, _/_, _%_}
+use mathlib.Core.Bool.{Bool, _&&_}
 use mathlib.Core.List.{List, [], _∷_, _++_, foldr}
 use mathlib.Core.Option.{Option, none, some}
 use lib.Dec.{eqb}
@@ -55,6 +56,10 @@ field i bs = getD (cut widths (take RECORD bs)) i 0
 
 abbrev pub spanAt : ℕ → List ℕ → tree.Span
 spanAt i bs = tree.span (field i bs) (field (i + 1) bs)
+
+-- whether fields i and i + 1 are 0
+abbrev pub bothZero : ℕ → List ℕ → Bool
+bothZero i bs = eqb (field i bs) 0 && eqb (field (i + 1) bs) 0
 
 -- the size of fields of these widths, and where field i of them starts: after those before it
 abbrev pub total : List ℕ → ℕ

@@ -265,7 +265,7 @@ fn layer_form(l: LayerPrefixContents) -> u8
 }
 
 // A single layer is its own low and high.
-fn low_and_high(l: LayerPrefixContents) -> u32
+pub fn low_and_high(l: LayerPrefixContents) -> u32
     ensures { λ r. ⌜ r ≡ packed.lowAndHigh (meaning.layers l) ⌝ }
 {
     match l {

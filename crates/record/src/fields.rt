@@ -2,16 +2,18 @@
 ghost use mathlib.Core.Path.{_≡_};
 ghost use Prim.Native.Nat.{_+_, _/_, _%_, _<_, _≤_};
 ghost use lib.ListN.{length, take, drop};
+ghost use mathlib.Core.Bool.{_&&_};
 ghost use lib.Dec.{eqb};
 ghost use lib.Seq.{sets};
 ghost use Rattle.notation.specs.Numbers.{bigEndian, fromBigEndian};
 ghost use Rattle.notation.specs.Tree as tree;
 ghost use Rattle.notation.specs.Packed.{RECORD};
 ghost use Rattle.record.specs.Range.{FitsSpan};
-ghost use Rattle.record.specs.Meaning.{field, placeWidth, spanAt, span, withField, withLists, withSpan};
+ghost use Rattle.record.specs.Meaning.{field, bothZero, placeWidth, spanAt, span, withField, withLists, withSpan};
 use crate::layout;
 use crate::spanned::Span;
 use numbers::big_endian::read_u8;
+use numbers::big_endian::read_u16;
 use numbers::big_endian::read_u24;
 use numbers::big_endian::read_u32;
 use numbers::big_endian::read_u40;
@@ -90,15 +92,17 @@ pub fn other(t: &[u8]) -> u32
     read_u32(t, layout::OTHER)
 }
 
-// The span whose offset and size stand from `at` on.
+// The span whose offset and size stand from `at` on: three bytes each, which the machine takes as four and two.
 fn span_at(t: &[u8], at: usize) -> Span
-    requires { ⌜ (0 < at) × (at + (placeWidth + placeWidth) ≤ length (now t)) ⌝ }
+    requires { ⌜ at + (placeWidth + placeWidth) ≤ length (now t) ⌝ }
     ensures { λ r. ⌜ span r ≡ tree.span (fromBigEndian (take placeWidth (drop at (now (t .entry))))) (fromBigEndian (take placeWidth (drop (at + placeWidth) (now (t .entry))))) ⌝ }
     ensures { λ r. ⌜ FitsSpan (span r) ⌝ }
 {
+    let head = read_u32(t, at);
+    let tail = read_u16(t, at + 4);
     Span {
-        offset: read_u24(t, at),
-        size: read_u24(t, at + layout::PLACE_BYTES),
+        offset: head / 256,
+        size: head % 256 * 65536 + tail as u32,
     }
 }
 
@@ -142,6 +146,42 @@ pub fn counts_one(t: &[u8]) -> bool
     ensures { λ r. ⌜ r ≡ eqb (field 11 (now (t .entry))) 1 ⌝ }
 {
     read_u8(t, layout::COUNT) == 0 && read_u32(t, layout::COUNT + 1) == 1
+}
+
+// Whether both fields from `at` on, of three bytes each, are 0.
+fn both_zero(t: &[u8], at: usize) -> bool
+    requires { ⌜ at + (placeWidth + placeWidth) ≤ length (now t) ⌝ }
+    ensures { λ r. ⌜ r ≡ (eqb (fromBigEndian (take placeWidth (drop at (now (t .entry))))) 0 && eqb (fromBigEndian (take placeWidth (drop (at + placeWidth) (now (t .entry))))) 0) ⌝ }
+{
+    read_u32(t, at) == 0 && read_u16(t, at + 4) == 0
+}
+
+pub fn no_lists(t: &[u8]) -> bool
+    requires { ⌜ RECORD ≤ length (now t) ⌝ }
+    ensures { λ r. ⌜ r ≡ bothZero 1 (now (t .entry)) ⌝ }
+{
+    both_zero(t, layout::FIRST)
+}
+
+pub fn no_family(t: &[u8]) -> bool
+    requires { ⌜ RECORD ≤ length (now t) ⌝ }
+    ensures { λ r. ⌜ r ≡ bothZero 5 (now (t .entry)) ⌝ }
+{
+    both_zero(t, layout::FAMILY)
+}
+
+pub fn no_constraints(t: &[u8]) -> bool
+    requires { ⌜ RECORD ≤ length (now t) ⌝ }
+    ensures { λ r. ⌜ r ≡ bothZero 7 (now (t .entry)) ⌝ }
+{
+    both_zero(t, layout::CONSTRAINTS)
+}
+
+pub fn no_layer_set(t: &[u8]) -> bool
+    requires { ⌜ RECORD ≤ length (now t) ⌝ }
+    ensures { λ r. ⌜ r ≡ bothZero 9 (now (t .entry)) ⌝ }
+{
+    both_zero(t, layout::LAYER_SET)
 }
 
 pub fn set_small(out: &mut [u8], n: u8)

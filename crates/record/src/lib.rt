@@ -8,5 +8,6 @@ pub mod kinds;
 pub mod layout;
 pub mod spanned;
 pub mod undo;
+pub mod unused;
 
 pub use layout::RECORD;

@@ -4,7 +4,6 @@ use mathlib.Core.Path.{_≡_, refl, sym, subst}
 use mathlib.Core.Bool.{Bool, true, false}
 use mathlib.Core.List.{List, [], _∷_}
 use mathlib.Core.Option.{none, some}
-use native.Mathlib.Nat.{pow-le-pow-right, lt-of-lt-of-le}
 use native.Mathlib.Omega.{arith}
 use borrow.Author.Tests.{lt-ltb, ltb-false, eqb-false}
 use lib.Dec.{ltb, eqb, lit<}
@@ -16,31 +15,11 @@ use Rattle.notation.specs.Tree.{Span, span, Layers, noLayers, singleLayer, laye
 use Rattle.notation.specs.Packed.{RECORD, widths, cut, familyAt, nowhere, Head, leafHead, groupHead, binaryHead, nodeSize, bodySize, size, headAt, unpackFrom, unpack}
 use Rattle.notation.specs.WellFormed.{treeOk, depth, MAX-NESTING, wellFormed}
 use Rattle.numbers.proofs.Positional.{Below, below-take, below-drop}
-use Rattle.numbers.proofs.BigEndian.{fromBigEndian-lt}
 use Rattle.record.specs.Meaning.{field, placeWidth, spanAt, constraintsAt, layersAt}
 use Rattle.record.specs.Range.{FitsSpan, FitsFamily, FitsConstraints, FitsLayers, FitsNumber, FitsHead}
-use Rattle.record.proofs.Cut.{Fits, none as no-field, one as and-field}
-use Rattle.record.proofs.Packed.{Numbered, numbered-at, byKind, headAt-kind}
+use Rattle.record.proofs.Packed.{field-lt, Numbered, numbered-at, byKind, headAt-kind}
 use Rattle.laws.proofs.Packing.{FitsNode, FitsBody, FitsTree, opened, well-formed-packed, well-formed-ok, well-formed-depth}
 use Rattle.laws.proofs.Walking.{Packed}
-
--- fields cut from bytes fit their widths
-cut-fits : (ws bs : List ℕ) → Below 256 bs → Fits ws (cut ws bs)
-unfolding cut
-cut-fits [] bs h = no-field
-cut-fits (w ∷ ws) bs h =
-    let short : length (take w bs) ≤ w = simp length-take (omega arith) in
-    and-field
-    (lt-of-lt-of-le (fromBigEndian-lt (take w bs) (below-take 256 w bs (lit< tt) h)) (pow-le-pow-right (lit< tt) short))
-    (cut-fits ws (drop w bs) (below-drop 256 w bs h))
-
-fits-at : {ws fs : List ℕ} → Fits ws fs → (i : ℕ) → i < length ws → getD fs i 0 < 256 ^ getD ws i 0
-fits-at no-field i h = absurd (omega arith)
-fits-at (and-field f fs) zero h = f
-fits-at (and-field f fs) (suc i) h = fits-at fs i (omega arith)
-
-pub field-lt : (bs : List ℕ) → Below 256 bs → (i : ℕ) → i < 12 → field i bs < 256 ^ getD widths i 0
-field-lt bs h i l = fits-at (cut-fits widths (take RECORD bs) (below-take 256 RECORD bs (lit< tt) h)) i l
 
 pub fromBits-fits : (n : ℕ) → n < 4294967296 → fitsBits 32 (fromBits 32 n) ≡ true
 fromBits-fits n h = go (ltb n 2147483648) refl

@@ -21,14 +21,14 @@ use Rattle.numbers.proofs.Positional.{Below}
 use Rattle.numbers.proofs.TwosComplement.{toBits-fromBits}
 use Rattle.record.specs.Meaning.{field, groupAt, binaryAt, uncounted, listed}
 use Rattle.record.specs.declared.encode.Fields.{Fields}
-use Rattle.record.proofs.Packed.{by-kind}
+use Rattle.record.proofs.Packed.{field-lt, by-kind}
 use Rattle.record.proofs.RoundTrip.{headFields-fit}
 use Rattle.record.proofs.Same.{same-eq, same-record, counted-same}
 use Rattle.counts.specs.Held.{groupCount}
 use Rattle.counts.proofs.Held.{group-stored, binary-stored}
 use Rattle.tree.specs.Formed.{headOk, first, second, countOk}
 use Rattle.tree.proofs.Opening.{nodeOf}
-use Rattle.tree.proofs.Bytes.{field-lt, head-fits}
+use Rattle.tree.proofs.Bytes.{head-fits}
 
 -- A group's record.
 pub record GroupSays (bs : List ℕ) (k : ℕ) (h : Head) : Type 0 where

@@ -15,6 +15,7 @@ use record::encode::fields_at;
 use record::encode::move_fields;
 use record::encode::rotation_fields;
 use record::encode::same_fields;
+use record::unused::leaf_written;
 use record::encode::without_parts;
 use record::fields;
 use record::kinds;
@@ -147,21 +148,12 @@ fn leaf_ok(text: &[u8], t: &[u8]) -> bool
     if !fields::counts_one(t) {
         return false;
     }
-    let kind = fields::kind(t);
-    match kind {
-        kinds::MOVE => {
-            let x = layered_move(t);
-            same_fields(move_fields(x), fields_at(t)) && move_ok(text, x)
-        }
-        kinds::ROTATION => {
-            let x = rotation(t);
-            same_fields(rotation_fields(x), fields_at(t)) && rotation_ok(text, x)
-        }
-        kinds::PAIR => same_fields(
-            without_parts(kinds::PAIR, 0, 0, fields::number(t), fields::other(t), LEAF),
-            fields_at(t),
-        ),
-        15 => false,
-        _ => same_fields(without_parts(kind, 0, 0, 0, 0, LEAF), fields_at(t)),
+    if !leaf_written(t) {
+        return false;
+    }
+    match fields::kind(t) {
+        kinds::MOVE => move_ok(text, layered_move(t)),
+        kinds::ROTATION => rotation_ok(text, rotation(t)),
+        _ => true,
     }
 }

@@ -9,7 +9,7 @@ read-u24-requires : tie.Need-read-u24-requires
 read-u24-requires c κs = search needs
 
 returns : tie.Need-returns
-returns c = c .read-u24 .ensures .0 ∙ sym (field-at (c .before .before .args .t .now) 2 (lit< tt))
+returns c = c .read-u24 .ensures ∙ sym (field-at (c .before .before .args .t .now) 2 (lit< tt))
 
 pub second-spec : {M : Type 1} → statement M
 second-spec = tie.close (tie.spec read-u24-requires returns)

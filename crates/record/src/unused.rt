@@ -1,0 +1,97 @@
+// The fields that a leaf does not use, which are 0. Fields that stand side by side are looked at together; to read all fields of a record and to compare
+// each with what packing would write takes half as long again.
+ghost use mathlib.Core.Path.{_≡_};
+ghost use mathlib.Core.Bool.{_&&_};
+ghost use Prim.Native.Nat.{_/_, _%_, _≤_};
+ghost use lib.Dec.{eqb};
+ghost use lib.ListN.{length, take};
+ghost use Rattle.notation.specs.Basics.{sameList};
+ghost use Rattle.notation.specs.Packed.{RECORD, widths, cut, lowAndHigh, headFields, headAt};
+ghost use Rattle.record.specs.Meaning.{field, bothZero, layersAt};
+ghost use Rattle.record.specs.Unused.{familyWritten, constraintsWritten, partsWritten, setWritten};
+use crate::decode::layers;
+use crate::encode::low_and_high;
+use crate::fields;
+use crate::kinds;
+
+// Whether a leaf's record, which counts 1, is what packing writes of what it says. No record has kind 15.
+pub fn leaf_written(t: &[u8]) -> bool
+    requires { ⌜ RECORD ≤ length (now t) ⌝ }
+    requires { ⌜ 6 ≤ field 0 (now t) / 16 ⌝ }
+    requires { ⌜ field 11 (now t) ≡ 1 ⌝ }
+    ensures { λ r. ⌜ r ≡ sameList (headFields (headAt (now (t .entry)))) (cut widths (take RECORD (now (t .entry)))) ⌝ }
+{
+    if !fields::no_lists(t) {
+        return false;
+    }
+    match fields::kind(t) {
+        kinds::MOVE => move_written(t),
+        kinds::ROTATION => rotation_written(t),
+        kinds::PAIR => kind_alone(t),
+        15 => false,
+        _ => kind_alone(t) && no_numbers(t),
+    }
+}
+
+// Whether nothing stands beside the kind but perhaps numbers.
+fn kind_alone(t: &[u8]) -> bool
+    requires { ⌜ RECORD ≤ length (now t) ⌝ }
+    ensures { λ r. ⌜ r ≡ (eqb (field 0 (now (t .entry)) % 16) 0 && (bothZero 5 (now (t .entry)) && (bothZero 7 (now (t .entry)) && bothZero 9 (now (t .entry))))) ⌝ }
+{
+    fields::small(t) % 16 == 0
+        && (fields::no_family(t) && (fields::no_constraints(t) && fields::no_layer_set(t)))
+}
+
+fn no_numbers(t: &[u8]) -> bool
+    requires { ⌜ RECORD ≤ length (now t) ⌝ }
+    ensures { λ r. ⌜ r ≡ bothZero 3 (now (t .entry)) ⌝ }
+{
+    fields::number(t) == 0 && fields::other(t) == 0
+}
+
+fn move_written(t: &[u8]) -> bool
+    requires { ⌜ RECORD ≤ length (now t) ⌝ }
+    ensures { λ r. ⌜ r ≡ (eqb (field 4 (now (t .entry))) (lowAndHigh (layersAt (now (t .entry)))) && (setWritten (now (t .entry)) && partsWritten (now (t .entry)))) ⌝ }
+{
+    fields::other(t) == low_and_high(layers(t)) && (set_written(t) && parts_written(t))
+}
+
+// A rotation has no tilde and no layers.
+fn rotation_written(t: &[u8]) -> bool
+    requires { ⌜ RECORD ≤ length (now t) ⌝ }
+    ensures { λ r. ⌜ r ≡ (eqb (field 0 (now (t .entry)) / 2 % 8) 0 && (eqb (field 4 (now (t .entry))) 0 && (bothZero 9 (now (t .entry)) && partsWritten (now (t .entry))))) ⌝ }
+{
+    fields::small(t) / 2 % 8 == 0
+        && (fields::other(t) == 0 && (fields::no_layer_set(t) && parts_written(t)))
+}
+
+// Only the form of a set has a layer set.
+fn set_written(t: &[u8]) -> bool
+    requires { ⌜ RECORD ≤ length (now t) ⌝ }
+    ensures { λ r. ⌜ r ≡ setWritten (now (t .entry)) ⌝ }
+{
+    fields::layer_form(t) == 3 || fields::no_layer_set(t)
+}
+
+// An empty family stands at 0, and constraints that are not present are nowhere.
+fn parts_written(t: &[u8]) -> bool
+    requires { ⌜ RECORD ≤ length (now t) ⌝ }
+    ensures { λ r. ⌜ r ≡ partsWritten (now (t .entry)) ⌝ }
+{
+    family_written(t) && constraints_written(t)
+}
+
+fn family_written(t: &[u8]) -> bool
+    requires { ⌜ RECORD ≤ length (now t) ⌝ }
+    ensures { λ r. ⌜ r ≡ familyWritten (now (t .entry)) ⌝ }
+{
+    let p = fields::family(t);
+    p.size != 0 || p.offset == 0
+}
+
+fn constraints_written(t: &[u8]) -> bool
+    requires { ⌜ RECORD ≤ length (now t) ⌝ }
+    ensures { λ r. ⌜ r ≡ constraintsWritten (now (t .entry)) ⌝ }
+{
+    fields::constraints_present(t) || fields::no_constraints(t)
+}
