@@ -25,7 +25,8 @@ use Rattle.record.proofs.Packed.{by-kind}
 use Rattle.laws.proofs.Bools.{and-left, and-right, and-both}
 use Rattle.tree.specs.Formed.{headOk}
 use Rattle.tree.proofs.Tests.{multiplier-test}
-use Rattle.clauses.proofs.Written.{_and_, fieldsAt, Clean, used, Single, clean-single, below-four, layersOf}
+use Rattle.record.proofs.Written.{fieldsAt, Clean, below-four, layersOf}
+use Rattle.clauses.proofs.Written.{_and_, used, Single, clean-single}
 
 -- what is asked of the fields that a record of kind k uses
 abbrev pub askLayers : List ℕ → ℕ → Fields → Bool

@@ -20,7 +20,7 @@ use Rattle.notation.specs.Clauses.{
   Fields, fieldsOf, kind, first, second, number, count, isGroup, kindOk, unusedOk, listsEnd, groupsDeep, stepsOf, stepsIn, countsOk
 }
 use Rattle.numbers.proofs.Positional.{Below, below-take, below-drop}
-use Rattle.record.proofs.Packed.{by-kind}
+use Rattle.record.proofs.Packed.{field-lt, by-kind}
 use Rattle.record.proofs.RoundTrip.{headFields-fit}
 use Rattle.record.proofs.Same.{same-refl, same-eq, same-record}
 use Rattle.laws.proofs.Bools.{and-left, and-right}
@@ -31,7 +31,8 @@ use Rattle.tree.proofs.Heads.{first-written, second-written, count-written}
 use Rattle.tree.proofs.Opening.{both-sum, nodeOf, unpack-view}
 use Rattle.tree.proofs.Formed.{Formed, formed-fact, formed-nil, formed-parts, parts-formed}
 use Rattle.clauses.proofs.Rows.{fields-length, fields-take, fields-drop}
-use Rattle.clauses.proofs.Written.{_and_, listed, fieldsAt, written, LeafIsOne, Clean, clean-same, same-clean, unused-clean, clean-unused}
+use Rattle.record.proofs.Written.{fieldsAt, listed-same, written, LeafIsOne, Clean, clean-same, same-clean}
+use Rattle.clauses.proofs.Written.{_and_, unused-clean, clean-unused}
 use Rattle.clauses.proofs.Asked.{asked, InBounds, single-layer, bounds-asked, asked-bounds}
 
 -- The clauses of one record.
@@ -82,10 +83,6 @@ leaf-is-one r a b = go (isGroup r) _
     go false n e = sym (eqb-true (count r) 1 e)
 
 module _ (text bs : List ℕ) (below : Below 256 bs) (long : RECORD ≤ length bs) where
-  listed-same : listed (fieldsAt bs) ≡ fieldsAt bs
-  unfolding cut
-  listed-same = refl
-
   -- a record is written as it stands exactly if its fields are
   by-fields : sameList (headFields (headAt bs)) (fieldsAt bs) ≡ sameList (headRecord (headAt bs)) (take RECORD bs)
   by-fields = same-record (headAt bs) bs (headFields-fit (headAt bs) (head-fits bs below)) below long
@@ -113,8 +110,8 @@ module _ (text bs : List ℕ) (below : Below 256 bs) (long : RECORD ≤ length b
   record-says : RecordOk text (fieldsAt bs) → LeafIsOne (fieldsAt bs) → Says text bs
   record-says o one =
       let r = fieldsAt bs in
-      let c : Clean r = unused-clean r (o .unused-ok) (single-layer text r (o .bounds)) one in
-      let e : headFields (headAt bs) ≡ r = written bs below (o .kind-ok) ∙ clean-same r c ∙ listed-same in
+      let c : Clean r = unused-clean r (o .unused-ok) (single-layer text r (o .bounds)) in
+      let e : headFields (headAt bs) ≡ r = written bs below (o .kind-ok) ∙ clean-same r c one ∙ listed-same bs in
       says-of (o .kind-ok)
       (sym by-fields ∙ subst (λ (l : List ℕ). sameList (headFields (headAt bs)) l ≡ true) e (same-refl (headFields (headAt bs))))
       (asked text bs (o .kind-ok) ∙ bounds-asked text r c (o .bounds) number-fits)
@@ -135,7 +132,7 @@ module _ (text bs : List ℕ) (below : Below 256 bs) (long : RECORD ≤ length b
       in
       let e : headFields (headAt bs) ≡ r = same-eq (headFields (headAt bs)) r (by-fields ∙ s) in
       let k : kindOk r ≡ true = kind-written e in
-      let c : Clean r = same-clean r (sym (written bs below k) ∙ e ∙ sym listed-same) in
+      let c : Clean r = same-clean r (sym (written bs below k) ∙ e ∙ sym (listed-same bs)) in
       (
         record { kind-ok = k; unused-ok = clean-unused r c; bounds = asked-bounds text r c (sym (asked text bs k) ∙ h) number-fits },
         says-of k s h

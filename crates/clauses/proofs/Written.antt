@@ -101,8 +101,8 @@ clean-single r c h =
     in
     omega arith
 
-pub unused-clean : (r : Fields) → unusedOk r ≡ true → Single r → LeafIsOne r → Clean r
-unused-clean r h s one =
+pub unused-clean : (r : Fields) → unusedOk r ≡ true → Single r → Clean r
+unused-clean r h s =
     record {
       tilde-used = kept (isMove r) (tilde r) (search (and-left, and-right) depth 12);
       form-used = kept (isMove r) (form r) (search (and-left, and-right) depth 12);
@@ -114,7 +114,6 @@ unused-clean r h s one =
       family-used = rw (family-kept (family r) (search (and-left, and-right))) (kept-part (hasFamily r) (family r) (search (and-left, and-right)));
       constraints-used = kept-part (hasConstraints r) (constraints r) (search (and-left, and-right));
       set-used = kept-part (hasSet r) (set r) (search (and-left, and-right));
-      count-used = one;
     }
 
 pub clean-unused : (r : Fields) → Clean r → unusedOk r ≡ true

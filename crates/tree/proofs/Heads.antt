@@ -82,26 +82,16 @@ leaf-says bs k e =
     (λ l. (_, refl), (λ l. (_, refl), (λ l. (_, refl), (λ l. (_, refl), (λ l. (_, refl), (λ l. (_, refl), (λ l. (_, refl), (λ l. (_, refl), (λ l. (_, refl), tt)))))))))))))))
     (λ j z l. (_, refl))
 
--- A leaf of which packing writes the kind alone.
-pub record KindAlone (k : ℕ) (h : Head) : Type 0 where
-  pub fields : headFields h ≡ inOrder k 0 0 0 0 0 0 0 nowhere nowhere nowhere 1
-  pub asks : (text : List ℕ) (d : ℕ) → headOk text d h ≡ true
-
-abbrev pub IsAlone : ℕ → Type 0
-IsAlone k = (6 ≤ k) × (k < 15) × (k ≡ 6 → ⊥) × (k ≡ 7 → ⊥) × (k ≡ 9 → ⊥)
-
-pub alone-says : (bs : List ℕ) (k : ℕ) → k ≡ field 0 bs / 16 → IsAlone k → KindAlone k (headAt bs)
+-- Of a leaf that is neither a rotation nor a move nothing is asked beside its record.
+pub asks-nothing : (text bs : List ℕ) (k : ℕ) → k ≡ field 0 bs / 16 → 6 ≤ k → (k ≡ 6 → ⊥) → (k ≡ 7 → ⊥) → headOk text 0 (headAt bs) ≡ true
 unfolding leafOk
-alone-says bs k e =
-    by-kind (λ (k : ℕ) (h : Head). IsAlone k → KindAlone k h) bs k e
-    (λ l. absurd (omega (arith, l .0)), (λ l. absurd (omega (arith, l .0)), (λ l. absurd (omega (arith, l .0)),
-    (λ l. absurd (omega (arith, l .0)), (λ l. absurd (omega (arith, l .0)), (λ l. absurd (omega (arith, l .0)),
-    (λ l. absurd (l .2 refl), (λ l. absurd (l .3 refl),
-    (λ l. record { fields = refl; asks = λ text d. refl }, (λ l. absurd (l .4 refl),
-    (λ l. record { fields = refl; asks = λ text d. refl }, (λ l. record { fields = refl; asks = λ text d. refl },
-    (λ l. record { fields = refl; asks = λ text d. refl }, (λ l. record { fields = refl; asks = λ text d. refl },
-    (λ l. record { fields = refl; asks = λ text d. refl }, tt)))))))))))))))
-    (λ j z l. absurd (omega (arith, l .1)))
+asks-nothing text bs k e =
+    by-kind (λ (k : ℕ) (h : Head). 6 ≤ k → (k ≡ 6 → ⊥) → (k ≡ 7 → ⊥) → headOk text 0 h ≡ true) bs k e
+    (λ l s t. absurd (omega arith), (λ l s t. absurd (omega arith), (λ l s t. absurd (omega arith),
+    (λ l s t. absurd (omega arith), (λ l s t. absurd (omega arith), (λ l s t. absurd (omega arith),
+    (λ l s t. absurd (s refl), (λ l s t. absurd (t refl),
+    (λ l s t. refl, (λ l s t. refl, (λ l s t. refl, (λ l s t. refl, (λ l s t. refl, (λ l s t. refl, (λ l s t. refl, tt)))))))))))))))
+    (λ j z l s t. refl)
 
 -- The counts that packing writes.
 first-field : (h : Head) → getD (headFields h) 1 0 ≡ first h
@@ -138,7 +128,7 @@ count-field (binaryHead k n n′ m c) a b e = eqb-true c _ e
 
 module _ (bs : List ℕ) (below : Below 256 bs) (long : RECORD ≤ length bs) where
   -- a record that is compared by its fields
-  by-fields : sameList (headFields (headAt bs)) (cut widths (take RECORD bs)) ≡ sameList (headRecord (headAt bs)) (take RECORD bs)
+  pub by-fields : sameList (headFields (headAt bs)) (cut widths (take RECORD bs)) ≡ sameList (headRecord (headAt bs)) (take RECORD bs)
   by-fields = same-record (headAt bs) bs (headFields-fit (headAt bs) (head-fits bs below)) below long
 
   pub compared : (f g : Fields) (r : Bool) → listed f ≡ headFields (headAt bs) → listed g ≡ cut widths (take RECORD bs) → f .count ≡ g .count →

@@ -26,8 +26,7 @@ use Rattle.record.proofs.Same.{same-refl, same-eq, refuted}
 use Rattle.counts.specs.Held.{groupCount}
 use Rattle.tree.specs.Formed.{formed, formedCount, headOk, first, second, both, firstBytes, secondBytes, restBytes, countOk, firstOk}
 use Rattle.tree.proofs.Opening.{both-sum, nodeOf, unpack-view}
-use Rattle.tree.proofs.Bytes.{field-lt}
-use Rattle.tree.proofs.Heads.{GroupSays, group-says, leaf-says, alone-says, compared, field-written, first-written, second-written, count-written}
+use Rattle.tree.proofs.Heads.{GroupSays, group-says, leaf-says, asks-nothing, by-fields, compared, field-written, first-written, second-written, count-written}
 use Rattle.tree.proofs.Formed.{formed-fact, fact-formed, formed-nil, Parts, formed-parts, parts-formed}
 
 -- two tests that hold together
@@ -241,58 +240,29 @@ leaf-not-one text bs below long k one e f d =
     in
     rw other
 
+module _ {bs : List ℕ} {k : ℕ} (read : LeafRead bs k) (text : List ℕ) (s : Bool) (w : s ≡ sameList (headFields (headAt bs)) (cut widths (take RECORD bs))) where
+  decides : (x : Leaf) → leafHead x ≡ headAt bs → (d : ℕ) → (s && leafOk text x) ≡ firstOk text d bs
+  decides x e d = leaf-decides text bs x e s (w ∙ by-fields bs (read .below) (read .long)) d
+
+  pub leaf-passed : (x : Leaf) → leafHead x ≡ headAt bs → s ≡ true → (ok : Bool) → ok ≡ leafOk text x → (d : ℕ) → ok ≡ firstOk text d bs
+  leaf-passed x e t ok z d = z ∙ ap (λ (b : Bool). b && leafOk text x) (sym t) ∙ decides x e d
+
+  pub leaf-refused : s ≡ false → (d : ℕ) → false ≡ firstOk text d bs
+  leaf-refused f d =
+      let x = leaf-says bs k (read .kind) (read .leaf) in
+      ap (λ (b : Bool). b && leafOk text (x .0)) (sym f) ∙ decides (x .0) (x .1) d
+
+  -- neither a rotation nor a move
+  pub leaf-alone : (k ≡ 6 → ⊥) → (k ≡ 7 → ⊥) → s ≡ true → (d : ℕ) → true ≡ firstOk text d bs
+  leaf-alone six seven t =
+      let x = leaf-says bs k (read .kind) (read .leaf) in
+      leaf-passed (x .0) (x .1) t true (sym (asks-nothing text bs k (read .kind) (read .leaf) six seven) ∙ ap (headOk text 0) (sym (x .1)))
+
+-- A group's record, from what is read of it.
 -- the step count that was read with the other fields
 count-of : {f : Fields} {l : List ℕ} → listed f ≡ l → f .count ≡ getD l 11 0
 count-of p = ap (λ (l : List ℕ). getD l 11 0) p
 
-module _ {bs : List ℕ} {k : ℕ} (read : LeafRead bs k) where
-  module _ (text : List ℕ) (x : Leaf) (e : leafHead x ≡ headAt bs) {f g : Fields} (s : Bool) (p : listed f ≡ headFields (leafHead x)) (o : listed g ≡ cut widths (take RECORD bs))
-      (q : s ≡ sameList (uncounted f) (uncounted g)) where
-    leaf-same : s ≡ same bs
-    leaf-same =
-        compared bs (read .below) (read .long) f g s (p ∙ ap headFields e) o
-        (count-of {f = f} p ∙ leaf-stored x ∙ sym (read .one) ∙ sym (count-of {f = g} o)) q
-
-    pub leaf-passed : s ≡ true → (ok : Bool) → ok ≡ leafOk text x → (d : ℕ) → ok ≡ firstOk text d bs
-    leaf-passed t ok z d = z ∙ ap (λ (b : Bool). b && leafOk text x) (sym t) ∙ leaf-decides text bs x e s leaf-same d
-
-    pub leaf-refused : s ≡ false → (d : ℕ) → s ≡ firstOk text d bs
-    leaf-refused z d = z ∙ ap (λ (b : Bool). b && leafOk text x) (sym z) ∙ leaf-decides text bs x e s leaf-same d
-
-    leaf-alone : leafOk text x ≡ true → (d : ℕ) → s ≡ firstOk text d bs
-    leaf-alone z d = and-true s (leafOk text x) z ∙ leaf-decides text bs x e s leaf-same d
-
-  pub pair-read : (text : List ℕ) {u v : ℕ} {f g : Fields} (s : Bool) → k ≡ 9 → u ≡ field 3 bs → v ≡ field 4 bs → listed f ≡ inOrder 9 0 0 0 0 0 u v nowhere nowhere nowhere 1 →
-      listed g ≡ cut widths (take RECORD bs) → s ≡ sameList (uncounted f) (uncounted g) → (d : ℕ) → s ≡ firstOk text d bs
-  unfolding leafOk
-  pair-read text {f = f} {g = g} s z a b p o q =
-      let n = field 3 bs in
-      let n′ = field 4 bs in
-      leaf-alone text (pair (fromBits 32 n) (fromBits 32 n′)) (sym (headAt-kind bs 9 (sym z ∙ read .kind))) {f = f} {g = g} s
-      (p ∙ (λ i. inOrder 9 0 0 0 0 0 (a i) (b i) nowhere nowhere nowhere 1)
-      ∙ rw (toBits-fromBits 32 n (field-lt bs (read .below) 3 (lit< tt)), toBits-fromBits 32 n′ (field-lt bs (read .below) 4 (lit< tt))))
-      o q refl
-
-  pub alone-read : (text : List ℕ) {f g : Fields} (s : Bool) → (k ≡ 6 → ⊥) → (k ≡ 7 → ⊥) → (k ≡ 9 → ⊥) → (k ≡ 15 → ⊥) → listed f ≡ inOrder k 0 0 0 0 0 0 0 nowhere nowhere nowhere 1 →
-      listed g ≡ cut widths (take RECORD bs) → s ≡ sameList (uncounted f) (uncounted g) → (d : ℕ) → s ≡ firstOk text d bs
-  alone-read text {f = f} {g = g} s six seven nine last p o q =
-      let x = leaf-says bs k (read .kind) (read .leaf) in
-      let byte = field-lt bs (read .below) 0 (lit< tt) in
-      let few : k < 15 = omega (arith, read .kind) in
-      let says = alone-says bs k (read .kind) (read .leaf, few, six, seven, nine) in
-      leaf-alone text (x .0) (x .1) {f = f} {g = g} s (p ∙ sym (says .fields) ∙ ap headFields (sym (x .1))) o q (ap (headOk text 0) (x .1) ∙ says .asks text 0)
-
-  -- a pause has another kind
-  pub no-kind : (text : List ℕ) → k ≡ 15 → (d : ℕ) → false ≡ firstOk text d bs
-  no-kind text z d =
-      let pauses : headAt bs ≡ leafHead pause = headAt-kind bs 15 (sym z ∙ read .kind) in
-      let other : same bs ≡ false = sym (refuted (same bs) λ w.
-      let small : field 0 bs ≡ 128 = field-written bs (read .below) (read .long) w 0 ∙ ap (λ (h : Head). getD (headFields h) 0 0) pauses in
-      omega (arith, read .kind))
-      in
-      rw other
-
--- A group's record, from what is read of it.
 -- only a binary group has a second list
 second-is : (bs : List ℕ) (k n : ℕ) → GroupSays bs k (headAt bs) → n ≡ field 2 bs → (q : Bool) → q ≡ (leb 4 k || eqb n 0) → q ≡ true → n ≡ second (headAt bs)
 second-is bs k n g z q e t = go (leb 4 k) refl (sym e ∙ t)

@@ -12,13 +12,11 @@ use record::decode::layered_move;
 use record::decode::rotation;
 use record::encode::LEAF;
 use record::encode::fields_at;
-use record::encode::move_fields;
-use record::encode::rotation_fields;
 use record::encode::same_fields;
-use record::unused::leaf_written;
 use record::encode::without_parts;
 use record::fields;
 use record::kinds;
+use record::unused::leaf_written;
 ghost use mathlib.Core.Path.{_≡_};
 ghost use mathlib.Core.Bool.{_&&_, _||_};
 ghost use Prim.Native.Nat.{ℕ, _+_, _*_, _/_, _≤_, _<_};
@@ -139,7 +137,7 @@ fn second_ok(kind: u8, second: u32) -> bool
     kinds::COMMUTATOR <= kind || second == 0
 }
 
-// Whether the first node, which is no group, is what packing writes and in bounds. Packing writes no kind above 14, and counts a leaf 1.
+// Whether the first node, which is no group, is what packing writes and in bounds. Packing counts a leaf 1.
 fn leaf_ok(text: &[u8], t: &[u8]) -> bool
     requires { ⌜ RECORD ≤ length (now t) ⌝ }
     requires { ⌜ 6 ≤ field 0 (now t) / 16 ⌝ }
