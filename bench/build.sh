@@ -10,7 +10,7 @@ out=$root/target/bench
 export HYPUZ_ARCHIVE=$checkout/target/staticlib/libhypuz_notation.a HYPUZ_HEADER=$checkout/include/hypuz_notation.h
 [ -f "$HYPUZ_ARCHIVE" ] || (cd "$checkout" && rt staticlib hypuz_notation >&2)
 rm -rf "$out/src" && mkdir -p "$out/src" "$out/programs"
-cp "$here"/{main,reader}.rs "$root/tests/oracle/ours.rs" "$out/src/"
+cp "$here"/{main,reader,scale}.rs "$root/tests/oracle/ours.rs" "$out/src/"
 cp "$here/Cargo.toml" "$root/tests/oracle/build.rs" "$out/"
 cargo build --offline --release --quiet --manifest-path "$out/Cargo.toml"
 # One program for each archive, so that two can be run in turns.

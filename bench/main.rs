@@ -1,9 +1,11 @@
 //! Times the C functions of the archive against the Rust's own on the same texts in one run, and prints tables in Markdown.
 //!
-//! `bench` prints the tables; `bench growth` how seeking and counting grow alone; `bench loop OPERATION KIND SIZE SECONDS` calls one of ours again and again, for a profiler;
+//! `bench` prints the tables; `bench growth` how seeking and counting grow alone; `bench scale` how the time a byte of ours holds from 64 KB up to the longest text, and
+//! fails where it does not (scale.rs); `bench loop OPERATION KIND SIZE SECONDS` calls one of ours again and again, for a profiler;
 //! `bench plain` prints the times of ours alone, a line each with tabs between, to be put beside those of another archive (turns.py); `bench text KIND SIZE` a text (instructions.py).
 mod ours;
 mod reader;
+mod scale;
 
 use hypuz_notation::*;
 use ours::RECORD;
@@ -19,13 +21,21 @@ const SAMPLES: usize = 7;
 const SAMPLE: f64 = 2e6;
 const AXIS: AxisLayersInfo = AxisLayersInfo { max_layer: 9, allow_negatives: true };
 
+/// What a call of ours needs.
 struct Case {
     text: String,
-    list: NodeList,
     tree: Vec<u8>,
     steps: u64,
-    /// The number of a move about the middle, with its layers as the Rust has them.
-    record: Option<(u64, LayerPrefixContents)>,
+    /// The number of the move whose layer ranges are asked for.
+    record: Option<u64>,
+}
+
+/// The same text as the Rust has it too.
+struct Both {
+    ours: Case,
+    list: NodeList,
+    /// The layers of the move of `Case::record`.
+    layers: Option<LayerPrefixContents>,
 }
 
 struct Random(u64);
@@ -41,24 +51,28 @@ fn a_move(r: &mut Random) -> String {
     format!("{}{}{}", r.pick(&["R", "U", "F", "L", "B", "M", "x", "Rw", "IR"]), r.pick(&["", "", "", "2", "3"]), r.pick(&["", "", "'"]))
 }
 
-fn group(r: &mut Random, deep: usize) -> String {
+/// A piece of a text, and how many steps it unrolls into.
+type Piece = (String, u64);
+
+fn group(r: &mut Random, deep: usize) -> Piece {
     if deep == 0 || r.pick(&[true, false, false]) {
-        return a_move(r);
+        return (a_move(r), 1);
     }
-    let (a, b, c) = (group(r, deep - 1), a_move(r), group(r, deep - 1));
-    let end = r.pick(&["", "", "'", "2", "2'"]);
-    match r.pick(&[0, 1, 2, 3]) {
-        0 => format!("[{a} {b}, {c}]{end}"),
-        1 => format!("[{a}: {b} {c}]{end}"),
-        2 => format!("!({a} {b} {c}){end}"),
-        _ => format!("({a} {c}){end}"),
-    }
+    let ((a, in_a), b, (c, in_c)) = (group(r, deep - 1), a_move(r), group(r, deep - 1));
+    let (end, times) = r.pick(&[("", 1), ("", 1), ("'", 1), ("2", 2), ("2'", 2)]);
+    let (text, steps) = match r.pick(&[0, 1, 2, 3]) {
+        0 => (format!("[{a} {b}, {c}]{end}"), 2 * (in_a + 1 + in_c)),
+        1 => (format!("[{a}: {b} {c}]{end}"), 2 * in_a + 1 + in_c),
+        2 => (format!("!({a} {b} {c}){end}"), in_a + 1 + in_c),
+        _ => (format!("({a} {c}){end}"), in_a + in_c),
+    };
+    (text, times * steps)
 }
 
-fn piece(r: &mut Random, kind: &str) -> String {
-    match kind {
+fn piece(r: &mut Random, kind: &str) -> Piece {
+    let leaf = match kind {
         "moves" => a_move(r),
-        "groups" => group(r, 4),
+        "groups" => return group(r, 4),
         "sets" => {
             let layers = r.pick(&["{1,3..5,-2}", "2-3", "{-1..4}", "~3", "{1-3,7}", "{2,-4..-2,8,1..2}", "3"]);
             format!("{layers}{}", a_move(r))
@@ -68,36 +82,43 @@ fn piece(r: &mut Random, kind: &str) -> String {
             format!("{}{}{end}", r.pick(&["@", "@", "", "3"]), r.pick(&["U", "R", "IR", "F"]))
         }
         "square-1" => r.pick(&["(1, 0)", "/", "(-3,3)", "/", "(0,-1)", "/", "( 6 , -5 )", "(4, 1)"]).into(),
+        "square-1 as printed" => r.pick(&["(1, 0)", "/", "(-3, 3)", "/", "(0, -1)", "/", "(6, -5)", "(4, 1)"]).into(),
         _ => r.pick(&["R++", "D--", "R--", "D++", "R++", "D--", "U", "U'"]).into(),
+    };
+    (leaf, 1)
+}
+
+/// Pieces one after another, with the same between any two, until a text of the size is full; and the steps of all.
+fn filled(size: usize, between: &str, mut piece: impl FnMut(&mut Random) -> Piece) -> Piece {
+    let mut r = Random(7);
+    let (mut text, mut steps) = (String::new(), 0);
+    loop {
+        let (p, in_p) = piece(&mut r);
+        // A piece that is too long for what is left is passed over, and the text is done when little is left.
+        if text.len() + p.len() + between.len() <= size {
+            text.push_str(if text.is_empty() { "" } else { between });
+            text.push_str(&p);
+            steps += in_p;
+        }
+        if text.len() + 8 >= size {
+            return (text, steps);
+        }
     }
 }
 
 fn text(kind: &str, size: usize) -> String {
-    let mut r = Random(7);
-    let mut text = String::new();
-    loop {
-        let p = piece(&mut r, kind);
-        // A piece that is too long for what is left is passed over, and the text is done when little is left.
-        if text.len() + p.len() + 1 <= size {
-            text.push_str(if text.is_empty() { "" } else { " " });
-            text.push_str(&p);
-        }
-        if text.len() + 8 >= size {
-            return text;
-        }
-    }
+    filled(size, " ", |r| piece(r, kind)).0
 }
 
-fn case(kind: &str, size: usize) -> Case {
+fn case(kind: &str, size: usize) -> Both {
     let text = text(kind, size);
     let list = reader::read(text.as_bytes()).expect("the plain reader takes every text");
-    let mut tree = vec![0; RECORD * text.len()];
-    let used = ours::parse(text.as_bytes(), &mut tree).expect("the archive takes every text");
-    tree.truncate(used as usize);
+    let tree = read(&text);
     let steps = ours::count_steps(text.as_bytes(), &tree).unwrap();
-    let c = Case { record: middle(&tree, &list), text, list, tree, steps };
-    agree(&c);
-    c
+    let (record, layers) = middle(&tree, &list).unzip();
+    let both = Both { ours: Case { text, tree, steps, record }, list, layers };
+    agree(&both);
+    both
 }
 
 /// The place that is sought: two thirds of the way, or the last, before which all that is passed over stands.
@@ -105,6 +126,7 @@ fn place(c: &Case, operation: &str) -> u64 {
     if operation == "seek last" { c.steps - 1 } else { c.steps * 2 / 3 }
 }
 
+/// The number of a move about the middle, with its layers as the Rust has them.
 fn middle(tree: &[u8], list: &NodeList) -> Option<(u64, LayerPrefixContents)> {
     // Only lists without groups: there a record's number is the node's.
     let n = tree.len() / RECORD;
@@ -114,7 +136,8 @@ fn middle(tree: &[u8], list: &NodeList) -> Option<(u64, LayerPrefixContents)> {
 }
 
 /// What is timed gives the same on both sides.
-fn agree(c: &Case) {
+fn agree(both: &Both) {
+    let (c, list) = (&both.ours, &both.list);
     let text = c.text.as_bytes();
     let printed = |tree: &[u8]| {
         let mut out = vec![0; 400 * c.text.len()];
@@ -122,22 +145,27 @@ fn agree(c: &Case) {
         String::from_utf8(out[..n].to_vec()).unwrap()
     };
     let mut out = vec![0; c.tree.len().max(RECORD * c.steps as usize)];
-    assert_eq!(printed(&c.tree), c.list.to_string());
+    assert_eq!(printed(&c.tree), list.to_string());
     let n = ours::inv(text, &c.tree, &mut out).unwrap() as usize;
-    assert_eq!(printed(&out[..n]), c.list.clone().inv().unwrap().to_string());
+    assert_eq!(printed(&out[..n]), list.clone().inv().unwrap().to_string());
     let n = ours::inv_deep(text, &c.tree, &mut out).unwrap() as usize;
-    assert_eq!(printed(&out[..n]), c.list.clone().inv_deep().unwrap().to_string());
+    assert_eq!(printed(&out[..n]), list.clone().inv_deep().unwrap().to_string());
     let n = ours::flatten(text, &c.tree, &mut out).unwrap() as usize;
-    let steps = c.list.flatten().unwrap();
+    let steps = list.flatten().unwrap();
     assert_eq!((printed(&out[..n]), n / RECORD), (steps.to_string(), steps.len()));
 }
 
 /// Nanoseconds of a call: the best of several samples of about two milliseconds.
-fn best(mut f: impl FnMut()) -> f64 {
+fn best(f: impl FnMut()) -> f64 {
+    best_of(SAMPLE, f)
+}
+
+/// The best of several samples of about so many nanoseconds. The first call is not timed: it tells how many make a sample.
+fn best_of(sample: f64, mut f: impl FnMut()) -> f64 {
     let start = Instant::now();
     f();
     let once = start.elapsed().as_nanos().max(20) as f64;
-    let n = (SAMPLE / once).clamp(1.0, 100_000.0) as usize;
+    let n = (sample / once).clamp(1.0, 100_000.0) as usize;
     (0..SAMPLES)
         .map(|_| {
             let start = Instant::now();
@@ -171,7 +199,8 @@ fn best_apart<A, R>(make: impl Fn() -> A, f: impl Fn(A) -> R) -> f64 {
 /// One call of ours, with all that it needs at hand.
 fn our_call<'a>(c: &'a Case, operation: &str) -> Option<Box<dyn FnMut() + 'a>> {
     let (text, tree) = (c.text.as_bytes(), &c.tree[..]);
-    let mut out = vec![0u8; match operation {
+    // Not of zeros, whose pages the system hands out only when they are first written: page faults are no part of a call's time.
+    let mut out = vec![1u8; match operation {
         "display" => 2 * text.len() + 64,
         "flatten" => RECORD * c.steps as usize,
         _ => tree.len().max(4_000),
@@ -188,7 +217,7 @@ fn our_call<'a>(c: &'a Case, operation: &str) -> Option<Box<dyn FnMut() + 'a>> {
             Box::new(move || assert!(black_box(ours::seek_step(black_box(text), tree, place, &mut out)).is_ok()))
         }
         _ => {
-            let mut record = c.record.as_ref()?.0;
+            let mut record = c.record?;
             let mut tree = tree;
             if operation != "ranges" {
                 // The move alone is a tree too, over the same text.
@@ -204,8 +233,8 @@ fn our_call<'a>(c: &'a Case, operation: &str) -> Option<Box<dyn FnMut() + 'a>> {
 }
 
 /// The Rust's time for the same.
-fn rust_time(c: &Case, operation: &str) -> f64 {
-    let list = &c.list;
+fn rust_time(both: &Both, operation: &str) -> f64 {
+    let (c, list) = (&both.ours, &both.list);
     match operation {
         "read" => best_apart(|| (), |()| reader::read(black_box(c.text.as_bytes()))),
         "display" => {
@@ -224,7 +253,7 @@ fn rust_time(c: &Case, operation: &str) -> f64 {
             best_apart(|| (), |()| black_box(list).flatten().map(|l| (l[place].clone(), l)))
         }
         _ => {
-            let contents = &c.record.as_ref().unwrap().1;
+            let contents = both.layers.as_ref().unwrap();
             best_apart(|| (), |()| black_box(contents).simplify(AXIS))
         }
     }
@@ -242,14 +271,15 @@ fn rows(operation: &str, against: &str) {
         let mut line = String::new();
         let mut about = String::new();
         for size in SIZES {
-            let c = case(kind, size);
+            let both = case(kind, size);
+            let c = &both.ours;
             about = format!("{}, {}", c.tree.len() / RECORD, c.steps);
-            let Some(mut call) = our_call(&c, operation) else { continue };
+            let Some(mut call) = our_call(c, operation) else { continue };
             // In turns, so that a busy machine slows neither alone.
             let (mut ours, mut rust) = (f64::MAX, f64::MAX);
             for _ in 0..ROUNDS {
                 ours = ours.min(best(&mut call));
-                rust = rust.min(if against == "from_utf8" { utf8_time(&c) } else { rust_time(&c, operation) });
+                rust = rust.min(if against == "from_utf8" { utf8_time(c) } else { rust_time(&both, operation) });
             }
             let ratio = ours / rust;
             write!(line, " {} | {} | {ratio:.*} |", shown(ours), shown(rust), if ratio < 10.0 { 2 } else { 0 }).unwrap();
@@ -270,7 +300,7 @@ fn utf8_time(c: &Case) -> f64 {
 /// A text read, with as many bytes for its tree as it can need.
 fn read(text: &str) -> Vec<u8> {
     let mut tree = vec![0; RECORD * text.len()];
-    let used = ours::parse(text.as_bytes(), &mut tree).unwrap() as usize;
+    let used = ours::parse(text.as_bytes(), &mut tree).expect("the archive takes every text") as usize;
     tree.truncate(used);
     tree
 }
@@ -322,7 +352,7 @@ fn passed() {
 fn plain() {
     for kind in KINDS {
         for size in SIZES {
-            let c = case(kind, size);
+            let c = case(kind, size).ours;
             for operation in OPERATIONS {
                 if let Some(mut call) = our_call(&c, operation) {
                     println!("{operation}\t{kind}\t{size}\t{}", best(&mut call));
@@ -355,7 +385,7 @@ fn growth() {
 
 fn profile(args: &[String]) {
     let kind = KINDS.into_iter().find(|k| *k == args[1]).expect("a kind");
-    let c = case(kind, args[2].parse().expect("a size"));
+    let c = case(kind, args[2].parse().expect("a size")).ours;
     let mut call = our_call(&c, &args[0]).expect("an operation");
     let end = Instant::now() + Duration::from_secs_f64(args[3].parse().expect("seconds"));
     while Instant::now() < end {
@@ -373,6 +403,9 @@ fn main() {
     }
     if args.first().is_some_and(|a| a == "text") {
         return print!("{}", any_text(&args[1], args[2].parse().expect("a size")));
+    }
+    if args.first().is_some_and(|a| a == "scale") {
+        std::process::exit(if scale::run() { 0 } else { 1 });
     }
     if args.first().is_some_and(|a| a == "growth") {
         growth();

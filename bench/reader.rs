@@ -3,6 +3,8 @@
 use hypuz_notation::*;
 
 const DEEPEST: usize = 64;
+/// Bytes of the longest text.
+pub const LONGEST: usize = 16_777_215;
 
 struct Reader<'a> {
     text: &'a str,
@@ -12,7 +14,7 @@ struct Reader<'a> {
 
 /// The nodes of a text, or nothing where it is refused.
 pub fn read(text: &[u8]) -> Option<NodeList> {
-    if text.len() > 65_535 {
+    if text.len() > LONGEST {
         return None;
     }
     let mut r = Reader { text: std::str::from_utf8(text).ok()?, at: 0, depth: 0 };

@@ -1,0 +1,176 @@
+//! Shows that all calls are linear: nanoseconds a byte of ours on texts of 64 KB, 1 MB and of the longest there is, and how much the larger ones are above the first.
+//!
+//! The Rust is left out: its own tree of the longest text would take many gigabytes.
+use crate::ours::{self, RECORD};
+use crate::reader::LONGEST;
+use crate::{Case, OPERATIONS, Piece, best_of, filled, our_call, piece, place, read};
+
+const SIZES: [usize; 3] = [64_000, 1_000_000, LONGEST];
+const KINDS: [&str; 9] = ["moves", "groups", GROUP, COMMUTATOR, LAYERS, CONSTRAINTS, FAMILY, "square-1 as printed", "megaminx"];
+const GROUP: &str = "one group round all";
+const COMMUTATOR: &str = "commutator of two halves";
+const LAYERS: &str = "one layer set";
+const CONSTRAINTS: &str = "one constraint set";
+const FAMILY: &str = "one family";
+
+/// What a byte of a large text may take more than one of 64 KB. Even linear work takes more: a tree of 64 KB of text stays in the processor's caches.
+const MOST: f64 = 2.0;
+const SAMPLE: f64 = 2e7;
+const ATTEMPTS: usize = 3;
+/// The calls need no stack that grows with the text, so all run on a small one.
+const STACK: usize = 256 * 1024;
+/// The layers that the layer set has, again and again.
+const LAYER_COUNT: u16 = 99;
+const MOST_LAYERS: u32 = 32_767;
+
+/// A text that is spelled as it is printed, and how many steps it unrolls into.
+fn text(kind: &str, size: usize) -> Piece {
+    let pieces = |kind, size| filled(size, " ", |r| piece(r, kind));
+    match kind {
+        GROUP => {
+            let (moves, steps) = pieces("moves", size - "()2'".len());
+            (format!("({moves})2'"), 2 * steps)
+        }
+        COMMUTATOR => {
+            let (moves, steps) = pieces("moves", (size - "[, ]".len()) / 2);
+            (format!("[{moves}, {moves}]"), 4 * steps)
+        }
+        LAYERS => {
+            let mut layer = 0;
+            let next = |_: &mut _| {
+                layer = layer % LAYER_COUNT + 1;
+                (layer.to_string(), 1)
+            };
+            (format!("{{{}}}R", filled(size - "{}R".len(), ",", next).0), 1)
+        }
+        CONSTRAINTS => {
+            let set = filled(size - "R{}".len(), ",", |r| (r.pick(&["A->B", "C", "D<>E", "IR->F", "UF"]).into(), 1));
+            (format!("R{{{}}}", set.0), 1)
+        }
+        FAMILY => ("R".repeat(size), 1),
+        _ => pieces(kind, size),
+    }
+}
+
+fn case(kind: &str, size: usize) -> Case {
+    let (text, steps) = text(kind, size);
+    let c = Case { tree: read(&text), text, steps, record: (kind == LAYERS).then_some(0) };
+    assert_eq!(ours::count_steps(c.text.as_bytes(), &c.tree), Ok(c.steps), "{kind}: as many steps as were written");
+    printed(&c);
+    unrolled(&c);
+    inverted(&c);
+    ranged(&c);
+    c
+}
+
+/// A text that is spelled as it is printed is printed as it is.
+fn printed(c: &Case) {
+    let text = c.text.as_bytes();
+    let mut out = vec![0; text.len()];
+    assert_eq!(ours::display(text, &c.tree, &mut out), Ok(text.len() as u64));
+    assert!(out == text, "the text is printed");
+}
+
+/// What is sought is what stands at its place when all is unrolled.
+fn unrolled(c: &Case) {
+    let text = c.text.as_bytes();
+    let mut steps = vec![0; RECORD * c.steps as usize];
+    assert_eq!(ours::flatten(text, &c.tree, &mut steps), Ok(steps.len() as u64));
+    for operation in ["seek", "seek last"] {
+        let (place, mut step) = (place(c, operation), [0; RECORD]);
+        assert_eq!(ours::seek_step(text, &c.tree, place, &mut step), Ok(RECORD as u64));
+        assert_eq!(step, steps[RECORD * place as usize..][..RECORD], "{operation}");
+    }
+}
+
+/// The inverse has as many steps, and its inverse is the tree.
+fn inverted(c: &Case) {
+    let (text, used) = (c.text.as_bytes(), Ok(c.tree.len() as u64));
+    let (mut once, mut twice) = (vec![0; c.tree.len()], vec![0; c.tree.len()]);
+    for inverse in [ours::inv, ours::inv_deep] {
+        assert_eq!(inverse(text, &c.tree, &mut once), used);
+        assert_eq!(ours::count_steps(text, &once), Ok(c.steps));
+        assert_eq!(inverse(text, &once, &mut twice), used);
+        assert!(twice == c.tree, "the inverse of the inverse is the tree");
+    }
+}
+
+/// The layers of the set are one range, also on the axis with most layers, whose table is the largest.
+fn ranged(c: &Case) {
+    let Some(record) = c.record else { return };
+    let mut range = [0; 4];
+    assert_eq!(ours::simplify(c.text.as_bytes(), &c.tree, record, MOST_LAYERS, true, &mut range), Ok(1));
+    assert_eq!(range, [0, 1, 0, LAYER_COUNT as u8]);
+}
+
+/// An operation with its nanoseconds a byte at each size.
+struct Row {
+    operation: &'static str,
+    times: [f64; 3],
+}
+
+impl Row {
+    /// The worse of the two larger sizes to the first.
+    fn ratio(&self) -> f64 {
+        let [small, middle, large] = self.times;
+        middle.max(large) / small
+    }
+}
+
+/// The operations that a text has, each with its nanoseconds a byte.
+fn times(c: &Case) -> Vec<(&'static str, f64)> {
+    let timed = |operation| Some((operation, best_of(SAMPLE, our_call(c, operation)?) / c.text.len() as f64));
+    OPERATIONS.into_iter().filter(|o| *o != "ranges of one record").filter_map(timed).collect()
+}
+
+/// The rows of a kind. One text at a time is in memory, with its tree and one buffer.
+fn rows(kind: &str) -> Vec<Row> {
+    let [small, middle, large] = SIZES.map(|size| times(&case(kind, size)));
+    let sizes = small.into_iter().zip(middle).zip(large);
+    sizes.map(|(((operation, a), (_, b)), (_, c))| Row { operation, times: [a, b, c] }).collect()
+}
+
+/// The same, measured again where something is too slow: on a shared machine one cell alone may be, but what is not linear stays so.
+fn sure_rows(kind: &str) -> Vec<Row> {
+    let mut found = rows(kind);
+    for _ in 1..ATTEMPTS {
+        if found.iter().all(|row| row.ratio() <= MOST) {
+            break;
+        }
+        for (row, again) in found.iter_mut().zip(rows(kind)) {
+            row.times = std::array::from_fn(|k| row.times[k].min(again.times[k]));
+        }
+    }
+    found
+}
+
+/// Prints the rows of a kind, and gives what is too slow in them.
+fn print_rows(kind: &str) -> Vec<String> {
+    let mut slow = vec![];
+    for row in sure_rows(kind) {
+        let (operation, ratio) = (row.operation, row.ratio());
+        println!("| {kind} | {operation} |{} {ratio:.2} |", row.times.map(|ns| format!(" {ns:.2} |")).join(""));
+        if ratio > MOST {
+            slow.push(format!("{operation} of {kind} ({ratio:.2})"));
+        }
+    }
+    slow
+}
+
+fn table() -> bool {
+    println!("Nanoseconds a byte of text, best of several samples of 20 ms or one call; × is the worse of the two larger sizes divided by the first.\n");
+    println!("| text | operation |{} × |", SIZES.map(|n| format!(" {n} bytes |")).join(""));
+    println!("|---|---|{}---:|", "---:|".repeat(SIZES.len()));
+    let slow: Vec<String> = KINDS.into_iter().flat_map(print_rows).collect();
+    if slow.is_empty() {
+        println!("\nAll are linear: no × is above {MOST:.1}.");
+    } else {
+        println!("\nNot linear, × above {MOST:.1}: {}.", slow.join(", "));
+    }
+    slow.is_empty()
+}
+
+/// Prints the table, and says whether all is linear.
+pub fn run() -> bool {
+    std::thread::Builder::new().stack_size(STACK).spawn(table).expect("a thread").join().expect("all answers are right")
+}
