@@ -91,14 +91,15 @@ else
     skip damaged "needs python3 and a C compiler (packages python3, gcc)"
 fi
 if [ -z "$src" ]; then
-    for name in characters oracle reference compare; do skip $name "give the folder of the published Rust: tests/run.sh SRC"; done
+    for name in characters oracle reference compare compare-long; do skip $name "give the folder of the published Rust: tests/run.sh SRC"; done
 elif ! has cargo; then
-    for name in characters oracle reference compare; do skip $name "needs cargo and rustc (packages cargo, rustc)"; done
+    for name in characters oracle reference compare compare-long; do skip $name "needs cargo and rustc (packages cargo, rustc)"; done
 else
     run characters tests/oracle/characters.sh "$src"
     run oracle tests/oracle/build.sh "$src"
     run reference python3 tests/oracle/compare_reference.py target/oracle/target/release/oracle 100000
     run compare target/oracle/target/release/compare 100000 1
+    run compare-long target/oracle/target/release/compare long 48 1
 fi
 if can_fuzz; then
     run fuzz fuzz

@@ -1,29 +1,53 @@
 //! Holds the C functions of the archive against the Rust on trees made at random.
 //!
 //! The Rust's trees have no count. The counts that records store are held against `stored` below, a plain sum over the Rust's tree as document 02 has it, in
-//! what reading, both inverses, unrolling and seeking write; all other fields by what is printed and answered, as before request 2.
+//! what reading, both inverses, unrolling and seeking write; the lists, offsets and lengths that reading writes against places.rs; all other fields by what is
+//! printed and answered.
 //!
 //! `compare [TREES] [SEED]` prints how often each comparison was made and how often it differed, with the shortest text that differs.
+//! `compare long [TEXTS] [SEED]` does so on texts of over 65,536 bytes, and prints how many of them have what; it fails also where one of its comparisons was
+//! never made or no text had one of the things that it is for.
 //! `compare sample [SEED]` writes 300 cases with the Rust's answers, which are not taken from the archive.
 #[path = "generate.rs"]
 mod generate;
+#[path = "long.rs"]
+mod long;
 #[path = "ours.rs"]
 mod ours;
+#[path = "places.rs"]
+mod places;
 
 use generate::Random;
 use hypuz_notation::*;
+use long::WIDE;
 use ours::RECORD;
+use places::Place;
 use std::collections::{BTreeMap, HashMap};
 
-/// The longest list that the Rust is asked for, and the most visits that it may take over one.
-const STEPS: u128 = 5_000;
-const VISITS: u128 = 200_000;
+/// How much is asked of a tree.
+struct Limits {
+    /// The longest list that the Rust is asked for, and the most visits that it may take over one.
+    steps: u128,
+    visits: u128,
+    /// Each call checks the whole tree: of a tree over 60 records some so many are taken for layer ranges and families, else all.
+    records: u64,
+    /// Records and places that are taken besides.
+    besides: &'static [u64],
+}
+
+const SHORT: Limits = Limits { steps: 5_000, visits: 200_000, records: 40, besides: &[] };
+/// Besides, it is looked at where 16 bits end.
+const LONG: Limits = Limits { steps: 2_000_000, visits: 20_000_000, records: 6, besides: &[65_534, 65_535, 65_536, 65_537] };
+/// Every shape three times: some 35 seconds.
+const LONG_TEXTS: u64 = 3 * long::SHAPES;
 const MOST_STEPS: u128 = u32::MAX as u128;
 /// What a record stores for every count above MOST_STEPS; the field is the last of a record, 5 bytes, most significant first.
 const HELD: u128 = MOST_STEPS + 1;
 const COUNT: usize = 5;
 const FILL: u8 = 0xa5;
 const GUARD: usize = 8;
+/// Bytes that are shown of a text over 65,535 bytes where it differs; a shorter one is shown whole.
+const SHOWN: usize = 400;
 
 /// What the Rust answers: the value, or the number of the refusal.
 type Answer<T> = Result<T, u8>;
@@ -154,18 +178,30 @@ fn records<'a>(l: &'a NodeList, out: &mut Vec<&'a Node>) {
     }
 }
 
-/// The steps of a list, with each NISS group as none. Nothing is held here: 64 groups of 2^31 repeats pass 128 bits, so a sum stops at the largest number.
-fn total(l: &NodeList) -> u128 {
-    l.iter().map(own).fold(0, u128::saturating_add)
+/// The counts that the records of a tree are to store, in reading order.
+fn stored(l: &NodeList) -> Vec<u64> {
+    let mut out = vec![];
+    total(l, &mut out);
+    out
 }
 
-/// The steps of a node, its repeats included.
-fn own(n: &Node) -> u128 {
+/// The steps of a list, with each NISS group as none; the counts of its records are put to `out`. The sum is not held: 64 groups of 2^31 repeats pass 128
+/// bits, so it stops at the largest number.
+fn total(l: &NodeList, out: &mut Vec<u64>) -> u128 {
+    l.iter().fold(0, |sum: u128, n| sum.saturating_add(own(n, out)))
+}
+
+/// The steps of a node, its repeats included. What stands in a NISS group has its own counts all the same.
+fn own(n: &Node, out: &mut Vec<u64>) -> u128 {
+    let place = out.len();
+    out.push(0);
     let once = match n {
-        Node::Group(Group { kind: GroupKind::Niss, .. }) => 0,
-        Node::Group(g) => total(&g.contents),
+        Node::Group(g) => {
+            let inside = total(&g.contents, out);
+            if g.kind == GroupKind::Niss { 0 } else { inside }
+        }
         Node::BinaryGroup(g) => {
-            let (a, b) = (total(&g.lhs), total(&g.rhs));
+            let (a, b) = (total(&g.lhs, out), total(&g.rhs, out));
             match g.kind {
                 BinaryGroupKind::Commutator => a.saturating_add(b).saturating_mul(2),
                 BinaryGroupKind::Conjugate => a.saturating_mul(2).saturating_add(b),
@@ -173,14 +209,9 @@ fn own(n: &Node) -> u128 {
         }
         _ => 1,
     };
-    once.saturating_mul(repeats(n))
-}
-
-/// The counts that the records of a tree are to store, in reading order.
-fn stored(l: &NodeList) -> Vec<u64> {
-    let mut nodes = vec![];
-    records(l, &mut nodes);
-    nodes.into_iter().map(|n| own(n).min(HELD) as u64).collect()
+    let steps = once.saturating_mul(repeats(n));
+    out[place] = steps.min(HELD) as u64;
+    steps
 }
 
 /// The counts that records do store.
@@ -214,14 +245,22 @@ struct Difference {
     ours: String,
 }
 
-#[derive(Default)]
 struct Report {
+    limits: Limits,
     made: BTreeMap<&'static str, u64>,
     refused: BTreeMap<(&'static str, u8), u64>,
     differ: BTreeMap<&'static str, Difference>,
+    /// How many texts have something past what 16 bits hold.
+    wide: BTreeMap<&'static str, u64>,
+    /// Bytes of the shortest and the longest text.
+    sizes: (usize, usize),
 }
 
 impl Report {
+    fn new(limits: Limits) -> Self {
+        Self { limits, made: BTreeMap::new(), refused: BTreeMap::new(), differ: BTreeMap::new(), wide: BTreeMap::new(), sizes: (usize::MAX, 0) }
+    }
+
     /// One comparison; the shortest text that differs is kept.
     fn same<T: PartialEq + std::fmt::Debug>(&mut self, what: &'static str, text: &str, rust: &Answer<T>, ours: &Answer<T>) {
         *self.made.entry(what).or_default() += 1;
@@ -244,10 +283,27 @@ impl Report {
             println!("{what}: {n} compared{refused}, {} differ", self.differ.get(what).map_or(0, |d| d.times));
         }
         for (what, d) in &self.differ {
-            println!("{what} differs, shortest text: {}\n  rust {}\n  ours {}", d.text, d.rust, d.ours);
+            let same = d.rust.bytes().zip(d.ours.bytes()).take_while(|(a, b)| a == b).count();
+            println!("{what} differs, shortest text, {} bytes: {}", d.text.len(), cut(&d.text, 0));
+            println!("  rust {}\n  ours {}", cut(&d.rust, same), cut(&d.ours, same));
         }
         self.differ.is_empty() && self.made.values().sum::<u64>() > 0
     }
+}
+
+/// A text as it is, or of a long one what stands about a place.
+fn cut(s: &str, place: usize) -> String {
+    if s.len() <= WIDE {
+        return s.into();
+    }
+    let begin = place.saturating_sub(SHOWN / 2);
+    let bytes: Vec<u8> = s.bytes().skip(begin).take(SHOWN).collect();
+    format!("(from byte {begin}) {}", String::from_utf8_lossy(&bytes))
+}
+
+/// Of two names of a comparison the one for a record or a place that 16 bits hold, or for one past it.
+fn by_place(n: u64, names: [&'static str; 2]) -> &'static str {
+    names[usize::from(n > WIDE as u64)]
 }
 
 /// Calls a function with a buffer of so many bytes and a guard behind; gives the bytes written, or what is wrong with them.
@@ -271,8 +327,10 @@ impl Read<'_> {
     fn printed(&self, records: &[u8], size: usize) -> Answer<String> {
         let roomy = size + self.text.len() + 50 * (records.len() / RECORD);
         let [exact, large] = [size, roomy].map(|n| lent(n, |b| ours::display(self.text, records, b), 1));
-        assert!(exact == large, "a larger buffer prints something else");
-        exact.map(|b| String::from_utf8(b).unwrap())
+        // Where more is printed than the Rust does, only the larger buffer has room, and what it holds is the difference to be reported.
+        let longer = exact == Err(5) && large.as_ref().is_ok_and(|b| b.len() > size);
+        assert!(exact == large || longer, "a larger buffer prints something else");
+        large.map(|b| String::from_utf8(b).unwrap())
     }
 }
 
@@ -283,37 +341,52 @@ fn read<'a>(text: &'a str, records: usize) -> Answer<Read<'a>> {
 /// Every comparison of one tree.
 fn compare(r: &mut Random, l: &NodeList, report: &mut Report) {
     let text = l.to_string();
-    if text.len() > 65_535 {
+    if text.len() > ours::MOST_TEXT {
         return;
     }
-    let mut nodes = vec![];
-    records(l, &mut nodes);
+    let nodes = places::expected(l, text.len());
+    report.notice(&text, &nodes);
     let ours = read(&text, nodes.len());
     report.same("reading: records", &text, &Ok(nodes.len() * RECORD), &ours.as_ref().map(|o| o.tree.len()).map_err(|e| *e));
     let Ok(ours) = ours else { return };
+    report.same("reading: lists and places", &text, &Ok(nodes.iter().map(|n| n.fields).collect()), &Ok(places::stored(&ours.tree)));
     report.same("reading: counts", &text, &Ok(stored(l)), &Ok(counts(&ours.tree)));
     report.same("display", &text, &Ok(text.clone()), &ours.printed(&ours.tree, text.len()));
     spelling(r, l, &text, nodes.len(), report);
     inverse(["inv", "inv: counts"], ours::inv, l.clone().inv(), &ours, &text, report);
     inverse(["inv_deep", "inv_deep: counts"], ours::inv_deep, l.clone().inv_deep(), &ours, &text, report);
     steps(r, l, &ours, &text, report);
-    // Each call checks the whole tree: of a large one some 40 records are taken, else all.
     let large = nodes.len() > 60;
     for (i, n) in nodes.iter().enumerate() {
-        if large && !r.one_in(nodes.len() as u64 / 40) {
+        if large && !report.limits.takes(r, i as u64, n, nodes.len() as u64) {
             continue;
         }
         family(n, i as u64, &ours, &text, report);
-        if let Node::Move(mv) = n {
-            layers(r, mv, i as u64, large, &ours, &text, report);
+        if let Node::Move(mv) = n.node {
+            let long = n.fields.parts[2].1 > WIDE;
+            let what = if long { "simplify: layer set over 65,535 bytes" } else { by_place(i as u64, ["simplify", "simplify: record over 65,535"]) };
+            layers(what, r, mv, i as u64, large && !long, &ours, &text, report);
         }
+    }
+}
+
+impl Limits {
+    /// Whether a record of a large tree is taken: those that are to be taken besides, those with a part past what 16 bits hold, and some at random.
+    fn takes(&self, r: &mut Random, record: u64, n: &Place, records: u64) -> bool {
+        let long = n.fields.parts.iter().any(|(_, size)| *size > WIDE);
+        long || self.besides.contains(&record) || r.one_in(records / self.records)
+    }
+
+    /// The places of a list of n steps that are taken besides.
+    fn places(&self, n: u64) -> impl Iterator<Item = u64> {
+        self.besides.iter().copied().filter(move |place| *place < n)
     }
 }
 
 /// The same tree in another spelling prints the same.
 fn spelling(r: &mut Random, l: &NodeList, text: &str, records: usize, report: &mut Report) {
     let spelled = generate::spelled(r, l);
-    if spelled.len() > 65_535 {
+    if spelled.len() > ours::MOST_TEXT {
         return;
     }
     let ours = read(&spelled, records).and_then(|o| o.printed(&o.tree, text.len()));
@@ -336,31 +409,41 @@ fn steps(r: &mut Random, l: &NodeList, ours: &Read, text: &str, report: &mut Rep
     let counted = tally.list(l, false);
     let plain = counted.and_then(|(n, _)| if n > MOST_STEPS { Err(9) } else { Ok(n as u64) });
     report.same("count_steps with a plain count", text, &plain, &ours::count_steps(ours.text, &ours.tree));
-    let within = |(n, visits): (u128, u128)| n <= STEPS && visits <= VISITS;
-    if counted.is_ok_and(within) || counted.is_err() && bounded(l, &mut tally) {
+    if let Err(e) = plain {
+        let step = lent(RECORD, |b| ours::seek_step(ours.text, &ours.tree, 0, b), 1);
+        report.same("seek_step where counting is refused", text, &Err(e), &step);
+        report.same("flatten where counting is refused", text, &Err(e), &lent(0, |b| ours::flatten(ours.text, &ours.tree, b), 1));
+    }
+    let within = |(n, visits): (u128, u128)| n <= report.limits.steps && visits <= report.limits.visits;
+    if counted.is_ok_and(within) || counted.is_err() && bounded(l, &mut tally, report.limits.visits) {
         unrolled(r, l, ours, text, report);
     } else if let Ok(n) = plain {
-        for place in [0, n.saturating_sub(1), r.below(n.max(1)), r.below(n.max(1))] {
-            if place < n {
-                let step = tally.step(l, false, place.into()).to_string();
-                let given = lent(RECORD, |b| ours::seek_step(ours.text, &ours.tree, place, b), 1);
-                report.same("seek_step: counts", text, &Ok(vec![1]), &given.as_ref().map(|b| counts(b)).map_err(|e| *e));
-                report.same("seek_step with a plain walk", text, &Ok(step.clone()), &given.and_then(|b| ours.printed(&b, step.len())));
-            }
-        }
-        let given = lent(RECORD, |b| ours::seek_step(ours.text, &ours.tree, n, b), 1);
-        report.same("seek_step past the end", text, &Err(10), &given);
+        walked(r, l, &mut tally, n, ours, text, report);
     }
 }
 
+/// Seeking in a list of n steps, too long for the Rust, against a plain walk.
+fn walked(r: &mut Random, l: &NodeList, tally: &mut Tally, n: u64, ours: &Read, text: &str, report: &mut Report) {
+    let some = [0, n.saturating_sub(1), r.below(n.max(1)), r.below(n.max(1))].into_iter().filter(|place| *place < n);
+    for place in some.chain(report.limits.places(n)).collect::<Vec<_>>() {
+        let step = tally.step(l, false, place.into()).to_string();
+        let given = lent(RECORD, |b| ours::seek_step(ours.text, &ours.tree, place, b), 1);
+        report.same("seek_step: counts", text, &Ok(vec![1]), &given.as_ref().map(|b| counts(b)).map_err(|e| *e));
+        let what = by_place(place, ["seek_step with a plain walk", "seek_step with a plain walk: place over 65,535"]);
+        report.same(what, text, &Ok(step.clone()), &given.and_then(|b| ours.printed(&b, step.len())));
+    }
+    let given = lent(RECORD, |b| ours::seek_step(ours.text, &ours.tree, n, b), 1);
+    report.same("seek_step past the end", text, &Err(10), &given);
+}
+
 /// Whether every part that is not refused is short, so that the Rust meets its refusal soon.
-fn bounded(l: &NodeList, tally: &mut Tally) -> bool {
+fn bounded(l: &NodeList, tally: &mut Tally, visits: u128) -> bool {
     tally.list(l, true).ok();
     let sum = tally.0.values().filter_map(|a| a.ok()).fold(0u128, |s, (_, v)| s.saturating_add(v));
     let mut nodes = vec![];
     records(l, &mut nodes);
     let most = nodes.iter().fold(1u128, |m, n| m.max(repeats(n)));
-    sum.saturating_mul(most) <= VISITS
+    sum.saturating_mul(most) <= visits
 }
 
 fn unrolled(r: &mut Random, l: &NodeList, ours: &Read, text: &str, report: &mut Report) {
@@ -375,33 +458,38 @@ fn unrolled(r: &mut Random, l: &NodeList, ours: &Read, text: &str, report: &mut 
     let Ok(list) = list else { return };
     let n = (list.len() / RECORD) as u64;
     report.same("flatten: counts", text, &Ok(vec![1; n as usize]), &Ok(counts(&list)));
-    for place in [0, n.saturating_sub(1), r.below(n.max(1)), r.below(n.max(1)), r.below(n.max(1)), n] {
+    let some = [0, n.saturating_sub(1), r.below(n.max(1)), r.below(n.max(1)), r.below(n.max(1)), n];
+    for place in some.into_iter().chain(report.limits.places(n)).collect::<Vec<_>>() {
         let want = if place < n { Ok(list[place as usize * RECORD..][..RECORD].to_vec()) } else { Err(10) };
         let given = lent(RECORD, |b| ours::seek_step(ours.text, &ours.tree, place, b), 1);
-        report.same("seek_step", text, &want, &given);
+        report.same(by_place(place, ["seek_step", "seek_step: place over 65,535"]), text, &want, &given);
     }
 }
 
-fn family(n: &Node, record: u64, ours: &Read, text: &str, report: &mut Report) {
-    let rust = match n {
-        Node::Move(mv) => Ok(mv.transform.family.as_bytes()),
-        Node::Rotation(t) => Ok(t.transform.family.as_bytes()),
+/// Where the family stands: the very place that the printed text has it at, which is also held against the Rust's name.
+fn family(n: &Place, record: u64, ours: &Read, text: &str, report: &mut Report) {
+    let name = match n.node {
+        Node::Move(mv) => Ok(&mv.transform.family),
+        Node::Rotation(t) => Ok(&t.transform.family),
         _ => Err(12),
     };
-    let given = ours::family(ours.text, &ours.tree, record).map(|a| &ours.text[(a >> 16) as usize..][..(a & 0xffff) as usize]);
-    report.same("family", text, &rust, &given);
+    let given = ours::family(ours.text, &ours.tree, record);
+    let what = by_place(record, ["family", "family: record over 65,535"]);
+    report.same(what, text, &name.map(|_| n.fields.parts[0]), &given);
+    let found = given.map(|(offset, size)| ours.text.get(offset..offset + size).unwrap_or(b"outside the text"));
+    report.same("family: its letters", text, &name.map(|name| name.as_bytes()), &found);
 }
 
-/// All of 1 to 10 and 32767 layers, negatives allowed and not; in a large tree three of these.
-fn layers(r: &mut Random, mv: &Move, record: u64, large: bool, ours: &Read, text: &str, report: &mut Report) {
+/// All of 1 to 10 and 32767 layers, negatives allowed and not; or three of these.
+fn layers(what: &'static str, r: &mut Random, mv: &Move, record: u64, three: bool, ours: &Read, text: &str, report: &mut Report) {
     let all: Vec<(u16, bool)> = (1..=10).chain([32767]).flat_map(|n| [(n, false), (n, true)]).collect();
-    let some = if large { (0..3).map(|_| r.pick(&all)).collect() } else { all };
+    let some = if three { (0..3).map(|_| r.pick(&all)).collect() } else { all };
     for (max_layer, allow_negatives) in some {
         let rust = ranges(mv, AxisLayersInfo { max_layer, allow_negatives });
         let given = lent(rust.len() * 4, |b| ours::simplify(ours.text, &ours.tree, record, max_layer.into(), allow_negatives, b), 4);
         let two = |b: &[u8]| u16::from_be_bytes([b[0], b[1]]);
         let given = given.map(|b| b.chunks(4).map(|c| (two(c), two(&c[2..]))).collect::<Vec<_>>());
-        report.same("simplify", text, &Ok(rust), &given);
+        report.same(what, text, &Ok(rust), &given);
     }
 }
 
@@ -409,7 +497,7 @@ fn layers(r: &mut Random, mv: &Move, record: u64, large: bool, ours: &Read, text
 fn sample_line(r: &mut Random, l: &NodeList) -> Option<String> {
     let text = generate::spelled(r, l);
     let mut tally = Tally::default();
-    let short = tally.list(l, false).map_or_else(|_| bounded(l, &mut tally), |(n, v)| n <= 60 && v <= VISITS);
+    let short = tally.list(l, false).map_or_else(|_| bounded(l, &mut tally, SHORT.visits), |(n, v)| n <= 60 && v <= SHORT.visits);
     if text.len() > 200 || !short {
         return None;
     }
@@ -447,20 +535,111 @@ fn sample(seed: u64) {
     }
 }
 
-fn main() {
-    let args: Vec<String> = std::env::args().skip(1).collect();
-    let seed = args.get(1).map_or(1, |s| s.parse().expect("a seed"));
-    if args.first().is_some_and(|a| a == "sample") {
-        return sample(seed);
+/// The comparisons of the long mode, and which refusals of them have to be met; 0 stands for an answer that is not refused.
+const TO_MAKE: [(&str, &[u8]); 28] = [
+    ("reading: records", &[0]),
+    ("reading: lists and places", &[0]),
+    ("reading: counts", &[0]),
+    ("display", &[0]),
+    ("display of another spelling", &[0]),
+    ("inv", &[0, 8]),
+    ("inv: counts", &[0, 8]),
+    ("inv_deep", &[0, 7, 8]),
+    ("inv_deep: counts", &[0, 7, 8]),
+    ("count_steps with a plain count", &[0, 7, 8, 9]),
+    ("count_steps", &[0, 7, 8]),
+    ("flatten: length", &[0, 7, 8]),
+    ("flatten", &[0, 7, 8]),
+    ("flatten where counting is refused", &[7, 8, 9]),
+    ("seek_step where counting is refused", &[7, 8, 9]),
+    ("flatten: counts", &[0]),
+    ("seek_step", &[0]),
+    ("seek_step: place over 65,535", &[0, 10]),
+    ("seek_step: counts", &[0]),
+    ("seek_step with a plain walk", &[0]),
+    ("seek_step with a plain walk: place over 65,535", &[0]),
+    ("seek_step past the end", &[10]),
+    ("family", &[0, 12]),
+    ("family: record over 65,535", &[0, 12]),
+    ("family: its letters", &[0]),
+    ("simplify", &[0]),
+    ("simplify: record over 65,535", &[0]),
+    ("simplify: layer set over 65,535 bytes", &[0]),
+];
+
+impl Report {
+    /// Keeps the size of a text, and counts the long texts that have each of the things that they are for.
+    fn notice(&mut self, text: &str, nodes: &[Place]) {
+        self.sizes = (self.sizes.0.min(text.len()), self.sizes.1.max(text.len()));
+        if text.len() > WIDE {
+            for (what, has) in long::TO_HAVE {
+                *self.wide.entry(what).or_default() += u64::from(has(text, nodes));
+            }
+        }
     }
-    let trees: u64 = args.first().map_or(100_000, |s| s.parse().expect("how many trees"));
-    let mut report = Report::default();
+
+    /// Prints how many texts had what; false where none had something, or where a comparison or a refusal is missing.
+    fn complete(&self) -> bool {
+        let mut missing: Vec<String> = vec![];
+        for (what, _) in long::TO_HAVE {
+            let texts = self.wide.get(what).copied().unwrap_or(0);
+            println!("over 65,535, {what}: {texts} texts");
+            if texts == 0 {
+                missing.push(format!("a text with {what} over 65,535"));
+            }
+        }
+        for (what, answers) in TO_MAKE {
+            let never = answers.iter().filter(|answer| self.answered(what, **answer) == 0);
+            missing.extend(never.map(|answer| format!("{what}, answered {answer} (0: not refused)")));
+        }
+        for what in &missing {
+            println!("missing: {what}");
+        }
+        missing.is_empty()
+    }
+
+    /// How often the Rust gave an answer in a comparison: a refusal, or with 0 anything else.
+    fn answered(&self, what: &'static str, answer: u8) -> u64 {
+        if answer > 0 {
+            return self.refused.get(&(what, answer)).copied().unwrap_or(0);
+        }
+        let refused: u64 = self.refused.iter().filter(|((w, _), _)| *w == what).map(|(_, n)| n).sum();
+        self.made.get(what).copied().unwrap_or(0) - refused
+    }
+}
+
+/// Every comparison on long texts.
+fn long_texts(texts: u64, seed: u64) -> bool {
+    let mut report = Report::new(LONG);
+    let mut r = Random(seed);
+    for turn in 0..texts {
+        let l = long::tree(&mut r, turn);
+        compare(&mut r, &l, &mut report);
+    }
+    println!("{texts} long texts, {} to {} bytes, seed {seed}", report.sizes.0, report.sizes.1);
+    let same = report.print();
+    report.complete() && same
+}
+
+/// Every comparison on trees of any shape, most of them small.
+fn short_texts(trees: u64, seed: u64) -> bool {
+    let mut report = Report::new(SHORT);
     let mut r = Random(seed);
     for _ in 0..trees {
         let l = generate::tree(&mut r);
         compare(&mut r, &l, &mut report);
     }
     println!("{trees} trees, seed {seed}");
-    let fine = report.print();
+    report.print()
+}
+
+fn main() {
+    let args: Vec<String> = std::env::args().skip(1).collect();
+    let number = |i: usize, default: u64| args.get(i).map_or(default, |s| s.parse().expect("a number"));
+    let fine = match args.first().map(String::as_str) {
+        Some("sample") => return sample(number(1, 1)),
+        Some("long") => long_texts(number(1, LONG_TEXTS), number(2, 1)),
+        _ => short_texts(number(0, 100_000), number(1, 1)),
+    };
     std::process::exit(if fine { 0 } else { 1 });
 }

@@ -28,12 +28,12 @@ impl Random {
 }
 
 /// How a tree grows: levels of groups left, most nodes in a list, records left for the whole tree.
-struct Shape {
-    width: u64,
-    room: i64,
-    niss: bool,
-    least: bool,
-    wide_multipliers: bool,
+pub struct Shape {
+    pub width: u64,
+    pub room: i64,
+    pub niss: bool,
+    pub least: bool,
+    pub wide_multipliers: bool,
 }
 
 const LETTERS: &str = "aBcDefgRULFBxyzMw_ΓΔΘΛΞΠΣΦΨΩβδζθλξεηκμπτφψω";
@@ -92,7 +92,7 @@ fn list(r: &mut Random, s: &mut Shape, deep: u64) -> NodeList {
     NodeList((0..n).map(|_| node(r, s, deep)).collect())
 }
 
-fn node(r: &mut Random, s: &mut Shape, deep: u64) -> Node {
+pub fn node(r: &mut Random, s: &mut Shape, deep: u64) -> Node {
     s.room -= 1;
     if deep > 0 && s.room > 0 && r.below(5) < 2 {
         let inside = list(r, s, deep - 1);
@@ -103,7 +103,7 @@ fn node(r: &mut Random, s: &mut Shape, deep: u64) -> Node {
 }
 
 /// A group of any kind around a list (as either of its lists); the other list nests `deep` levels at most.
-fn group(r: &mut Random, s: &mut Shape, inside: NodeList, deep: u64) -> Node {
+pub fn group(r: &mut Random, s: &mut Shape, inside: NodeList, deep: u64) -> Node {
     let multiplier = Multiplier(if s.wide_multipliers && r.one_in(6) {
         r.pick(&[5, -7, 10, 100, -1000, 65535, 65536, -65537, 2147483647, -2147483647])
     } else {
@@ -129,7 +129,7 @@ fn group(r: &mut Random, s: &mut Shape, inside: NodeList, deep: u64) -> Node {
 }
 
 /// A leaf; a pair only where one more parenthesis may stand.
-fn leaf(r: &mut Random, s: &Shape, deep: u64) -> Node {
+pub fn leaf(r: &mut Random, s: &Shape, deep: u64) -> Node {
     match r.below(12) {
         0 => Node::Pause,
         1 => Node::Sq1Move(Sq1Move::Slash),
@@ -161,25 +161,27 @@ fn pair_number(r: &mut Random, s: &Shape) -> i32 {
     if s.least && r.one_in(6) { i32::MIN } else { r.pick(&PAIR_NUMBERS) }
 }
 
-fn name(r: &mut Random) -> String {
+pub fn name(r: &mut Random) -> String {
     let letters: Vec<char> = LETTERS.chars().collect();
     let n = if r.one_in(30) { 40 } else { 1 + r.below(3) };
     (0..n).map(|_| r.pick(&letters)).collect()
 }
 
-fn constraints(r: &mut Random) -> Option<ConstraintSet> {
+pub fn constraints(r: &mut Random) -> Option<ConstraintSet> {
     if !r.one_in(4) {
         return None;
     }
     let n = r.below(4);
-    let constraints = (0..n)
-        .map(|_| match r.below(3) {
-            0 => Constraint::Fix(name(r)),
-            1 => Constraint::FromTo([name(r), name(r)]),
-            _ => Constraint::Swap([name(r), name(r)]),
-        })
-        .collect();
+    let constraints = (0..n).map(|_| constraint(r)).collect();
     Some(ConstraintSet { constraints })
+}
+
+pub fn constraint(r: &mut Random) -> Constraint {
+    match r.below(3) {
+        0 => Constraint::Fix(name(r)),
+        1 => Constraint::FromTo([name(r), name(r)]),
+        _ => Constraint::Swap([name(r), name(r)]),
+    }
 }
 
 fn layer(r: &mut Random) -> i16 {
@@ -191,20 +193,22 @@ fn signed(r: &mut Random) -> SignedLayer {
     SignedLayer::new(if r.one_in(2) { -i } else { i }).unwrap()
 }
 
-fn layers(r: &mut Random) -> Option<LayerPrefixContents> {
+pub fn layers(r: &mut Random) -> Option<LayerPrefixContents> {
     let unsigned = |r: &mut Random| Layer::new(layer(r) as u16).unwrap();
     match r.below(6) {
         0 => Some(LayerPrefixContents::Single(unsigned(r))),
         1 => Some(LayerPrefixContents::Range(LayerRange::new(unsigned(r), unsigned(r)))),
         2 | 3 => {
             let n = if r.one_in(20) { 40 } else { r.below(6) };
-            let elements = (0..n)
-                .map(|_| if r.one_in(2) { LayerSetElement::Single(signed(r)) } else { LayerSetElement::Range([signed(r), signed(r)]) })
-                .collect();
+            let elements = (0..n).map(|_| element(r)).collect();
             Some(LayerPrefixContents::Set(LayerSet { elements }))
         }
         _ => None,
     }
+}
+
+pub fn element(r: &mut Random) -> LayerSetElement {
+    if r.one_in(2) { LayerSetElement::Single(signed(r)) } else { LayerSetElement::Range([signed(r), signed(r)]) }
 }
 
 /// The same tree in another spelling that document 01 allows: whitespace where it may stand, leading zeros, a written 1, ranges from high to

@@ -18,6 +18,9 @@ mod c {
 /// Bytes of a record, as the archive's header has them: build.rs hands them over.
 pub const RECORD: usize = number(env!("HYPUZ_RECORD"));
 pub const MAXIMAL: u32 = 127;
+/// Bits of an offset or a length in a text; the longest text has as many bytes as they hold.
+const PLACE: u32 = 24;
+pub const MOST_TEXT: usize = (1 << PLACE) - 1;
 
 const fn number(digits: &str) -> usize {
     let (digits, mut n, mut i) = (digits.as_bytes(), 0, 0);
@@ -71,6 +74,8 @@ pub fn simplify(text: &[u8], tree: &[u8], record: u64, max_layer: u32, negatives
     })
 }
 
-pub fn family(text: &[u8], tree: &[u8], record: u64) -> Answer {
-    split(unsafe { c::hypuz_family(text.as_ptr(), text.len(), tree.as_ptr(), tree.len(), record) })
+/// Offset and length of a family.
+pub fn family(text: &[u8], tree: &[u8], record: u64) -> Result<(usize, usize), u8> {
+    let answer = split(unsafe { c::hypuz_family(text.as_ptr(), text.len(), tree.as_ptr(), tree.len(), record) })?;
+    Ok(((answer >> PLACE) as usize, answer as usize & MOST_TEXT))
 }
