@@ -18,7 +18,7 @@
 __asm__(SKIP(PAD));
 #endif
 
-enum { MAX_TEXT = 65535 };
+enum { LONGEST = 1 << 16 }; /* texts of up to so many bytes are handed over */
 
 struct call {
     const char *operation;
@@ -81,7 +81,7 @@ static double timed(enum which which, function *write, const struct call *c, int
 
 int main(int argc, char **argv) {
     if (argc != 2 && argc != 3) return 2;
-    static uint8_t text[MAX_TEXT + 1], tree[MAX_TEXT * HYPUZ_RECORD];
+    static uint8_t text[LONGEST + 1], tree[LONGEST * HYPUZ_RECORD];
     struct call c = {.operation = argv[1], .text = text, .tree = tree};
     c.text_size = fread(text, 1, sizeof text, stdin);
     uint64_t a = hypuz_parse_notation(text, c.text_size, HYPUZ_MAXIMAL, tree, sizeof tree);

@@ -319,7 +319,7 @@ static void list(struct speller *s, unsigned depth) {
 }
 
 int LLVMFuzzerTestOneInput(const uint8_t *data, size_t size) {
-    if (!texts.base) atexit(print_totals), texts = region(MOST + 1), trees = region(1 << 17), outs = region(OUTS);
+    if (!texts.base) atexit(print_totals), texts = region(2 * MOST), trees = region(1 << 17), outs = region(OUTS);
     if (size < 16) return 0;
     struct input i = {0};
     i.features = data[0] & 128 ? HYPUZ_MAXIMAL : data[0];
@@ -331,6 +331,8 @@ int LLVMFuzzerTestOneInput(const uint8_t *data, size_t size) {
     size_t room = (size_t)(data[7] | data[8] << 8) % 4096;
     size_t cut = (size_t)(data[9] | data[10] << 8);
     int damaged = data[11] % 4 == 1, given = data[11] % 32 == 31, raw = data[12] % 16 == 7;
+    /* Now and then all of it stands behind so many spaces that offsets take three bytes. */
+    size_t far = data[13] % 16 == 5 ? MOST + data[14] : 0;
     data += 16, size -= 16;
     static uint8_t spelled[4096];
     struct speller speller = {data, size, spelled, 0, sizeof spelled};
@@ -342,17 +344,19 @@ int LLVMFuzzerTestOneInput(const uint8_t *data, size_t size) {
         /* Now and then a byte of it is changed. */
         if (data[-4] % 16 == 3 && speller.size) spelled[cut % speller.size] = data[-3];
     }
-    i.text_size = given ? cut % (size + 1) : raw ? size : speller.size;
+    size_t written = given ? cut % (size + 1) : raw ? size : speller.size;
+    i.text_size = far + written;
     uint8_t *text = ending(texts, i.text_size);
-    memcpy(text, raw || given ? data : spelled, i.text_size);
-    if ((raw || given) && data[-3] % 16 != 15) mend(text, i.text_size);
+    memset(text, ' ', far);
+    memcpy(text + far, raw || given ? data : spelled, written);
+    if ((raw || given) && data[-3] % 16 != 15) mend(text + far, written);
     i.text = text;
     uint8_t *tree = trees.base;
     if (given) {
         /* The rest of the input is the tree. */
-        i.tree_size = size - i.text_size;
+        i.tree_size = size - written;
         tree = ending(trees, i.tree_size);
-        memcpy(tree, data + i.text_size, i.tree_size);
+        memcpy(tree, data + written, i.tree_size);
     } else {
         /* The tree of the text, with a byte changed or bytes cut if so told. */
         uint64_t a = hypuz_parse_notation(text, i.text_size, HYPUZ_MAXIMAL, trees.base, trees.size);

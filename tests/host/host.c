@@ -5,7 +5,7 @@
 #include <stdlib.h>
 #include <string.h>
 
-enum { ROOM = 4096, GUARD = 32, FILL = 0xa5, COUNT = 5 }; /* a record ends with its count: so many bytes */
+enum { ROOM = 4096, GUARD = 32, FILL = 0xa5, COUNT = 5, LIMIT = 16777215 }; /* a record ends with its count: so many bytes */
 
 static int checks, failures;
 
@@ -189,11 +189,11 @@ static void every_count(void) {
 static void refusals(void) {
     uint8_t tree[ROOM];
     uint8_t *out = lend();
-    uint8_t *large = malloc(65536);
-    memset(large, ' ', 65536);
-    expect(hypuz_parse_notation(large, 65536, HYPUZ_WCA, out, ROOM) == refused(1) && untouched(0), "refusal 1", "65,536 spaces");
-    expect(hypuz_parse_notation(large, 65535, HYPUZ_WCA, out, ROOM) == 0 && untouched(0), "reading", "65,535 spaces");
-    expect(hypuz_count_steps(large, 65536, tree, 0) == refused(1), "refusal 1", "65,536 spaces");
+    uint8_t *large = malloc(LIMIT + 1);
+    memset(large, ' ', LIMIT + 1);
+    expect(hypuz_parse_notation(large, LIMIT + 1, HYPUZ_WCA, out, ROOM) == refused(1) && untouched(0), "refusal 1", "16,777,216 spaces");
+    expect(hypuz_parse_notation(large, LIMIT, HYPUZ_WCA, out, ROOM) == 0 && untouched(0), "reading", "16,777,215 spaces");
+    expect(hypuz_count_steps(large, LIMIT + 1, tree, 0) == refused(1), "refusal 1", "16,777,216 spaces");
     free(large);
     expect(hypuz_parse_notation(bytes("\xff"), 1, HYPUZ_WCA, out, ROOM) == refused(2) && untouched(0), "refusal 2", "FF");
     char deep[66] = "";
@@ -227,7 +227,7 @@ static void refusals(void) {
     expect(hypuz_simplify(bytes(". R"), 3, tree, size, 2, 3, 1, out, ROOM) == refused(12) && untouched(0), "refusal 12", "no such record");
     expect(hypuz_family(bytes(". R"), 3, tree, size, 0) == refused(12), "refusal 12", "family of a pause");
     expect(hypuz_family(bytes(". R"), 3, tree, size, UINT64_MAX) == refused(12), "refusal 12", "family of no record");
-    expect(hypuz_family(bytes(". R"), 3, tree, size, 1) == 2 * 65536 + 1, "family", ". R");
+    expect(hypuz_family(bytes(". R"), 3, tree, size, 1) == (2 << 24) + 1, "family", ". R");
 }
 
 int main(void) {

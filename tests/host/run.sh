@@ -10,3 +10,5 @@ cc -std=c11 -Wall -Wextra -Werror -O1 -g -I include tests/host/host.c "$lib" -o 
 target/host/host
 cc -std=c11 -Wall -Wextra -Werror -O1 -g -I include tests/host/large.c "$lib" -o target/host/large
 (ulimit -s 256; target/host/large)
+cc -std=c11 -Wall -Wextra -Werror -O1 -g -I include tests/host/long.c "$lib" -o target/host/long
+(ulimit -s 256; target/host/long)

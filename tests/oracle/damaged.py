@@ -229,7 +229,7 @@ def damaged_text(text):
         at = random.randrange(len(text) + 1)
         return text[:at] + random.choice((b" ", b"(", b")", b"'", b"0", b"-", b"{", b"}", "\u2003".encode(), "β".encode(), b"\xff", b"R")) + text[at:]
     if k == 4 and random.random() < 0.02:
-        return text + b" " * (random.choice((65535, 65536, 70000, n.MOST_TEXT, n.MOST_TEXT + 1)) - len(text))
+        return text + b" " * (random.choice((65535, 65536, 70000, 140000, n.MOST_TEXT + 1)) - len(text))
     if k == 5 and random.random() < 0.1:
         return b"(" * random.choice((60, 63, 64, 65)) + text
     return text

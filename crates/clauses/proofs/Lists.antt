@@ -15,7 +15,7 @@ use Rattle.notation.specs.Numbers.{fromBits}
 use Rattle.notation.specs.Tree.{Tree}
 use Rattle.notation.specs.Counts.{hold, countNode, countBody, stored}
 use Rattle.notation.specs.Counts as counts
-use Rattle.notation.specs.Packed.{RECORD, cut, Head, leafHead, groupHead, binaryHead, headFields, headRecord, headAt, unpackFrom, unpack}
+use Rattle.notation.specs.Packed.{RECORD, Head, leafHead, groupHead, binaryHead, headFields, headRecord, headAt, unpackFrom, unpack}
 use Rattle.notation.specs.Clauses.{
   Fields, fieldsOf, kind, first, second, number, count, isGroup, kindOk, unusedOk, listsEnd, groupsDeep, stepsOf, stepsIn, countsOk
 }

@@ -1,26 +1,23 @@
 -- A leaf's record is what packing writes of what it says exactly if the fields that it does not use are 0: the tests of unused.rt, kind by kind. Assumes nothing.
-use Prim.Native.Nat.{ℕ, zero, suc, _+_, _*_, _/_, _%_, _≤_, _<_}
+use Prim.Native.Nat.{ℕ, _+_, _/_, _%_, _≤_, _<_}
 use mathlib.Core.Path.{_≡_, refl, sym, ap, ap₂, subst, _∙_}
 use mathlib.Core.Bool.{Bool, true, false, not, _&&_, _||_}
 use mathlib.Core.List.{List}
 use native.Mathlib.Omega.{arith}
-use borrow.Author.Tests.{eq-eqb, ne-eqb, eqb-true, eqb-false, lt-leb, le-leb}
-use lib.Dec.{leb, eqb, lit<}
-use lib.ListN.{length, getD, take}
+use borrow.Author.Tests.{eq-eqb, ne-eqb, eqb-true, lt-leb, le-leb}
+use lib.Dec.{leb, eqb}
+use lib.ListN.{getD}
 use Rattle.notation.specs.Basics.{pick, between, sameList}
 use Rattle.notation.specs.Tree.{Span, span}
-use Rattle.notation.specs.Packed.{RECORD, widths, cut, nowhere, familyAt, lowAndHigh, Head, headFields, headAt}
-use Rattle.notation.specs.Clauses.{
-  Fields, kind, tilde, form, present, first, second, number, other, family, constraints, set, isGroup, isBinary, isRotation, isMove, isPair, hasMultiplier, hasFamily, hasConstraints, hasSet,
-  kindOk
-}
+use Rattle.notation.specs.Packed.{nowhere, familyAt, lowAndHigh, Head, headFields, headAt}
+use Rattle.notation.specs.Clauses.{Fields, kind, tilde, form, present, number, other, family, isGroup, isBinary, isMove, isPair, hasMultiplier, hasFamily, hasConstraints, hasSet, kindOk}
 use Rattle.notation.proofs.Bools.{false-true, and-left, and-right, and-both}
 use Rattle.numbers.proofs.Positional.{Below}
 use Rattle.record.specs.Meaning.{field, bothZero, spanAt, layersAt}
-use Rattle.record.specs.Unused.{familyWritten, constraintsWritten, partsWritten, setWritten}
+use Rattle.record.specs.Unused.{familyWritten, partsWritten, setWritten}
 use Rattle.record.proofs.Packed.{by-kind, headAt-kind}
-use Rattle.record.proofs.Same.{same-refl, same-eq, refuted, differs}
-use Rattle.record.proofs.Written.{layerNumbers, layers-numbers, fieldsAt, listed, listed-same, written, LeafIsOne, Clean, clean-same, same-clean}
+use Rattle.record.proofs.Same.{same-refl, same-eq, refuted}
+use Rattle.record.proofs.Written.{layerNumbers, layers-numbers, fieldsAt, listed-same, written, LeafIsOne, Clean, clean-same, same-clean}
 
 module _ (bs : List ℕ) (i : ℕ) where
   zeros : bothZero i bs ≡ true → (field i bs ≡ 0) × (field (i + 1) bs ≡ 0)

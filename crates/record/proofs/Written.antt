@@ -1,7 +1,7 @@
 -- One record: packing writes its fields again, those that its kind does not use as 0. So it writes the record as it stands, its step count aside, exactly if
 -- the unused fields are 0 and a single layer's two numbers are equal. Assumes nothing.
 use Prim.Native.Nat.{ℕ, zero, suc, _+_, _*_, _/_, _≤_, _<_}
-use mathlib.Core.Path.{_≡_, refl, sym, ap, ap₂, subst}
+use mathlib.Core.Path.{_≡_, refl, ap, ap₂, subst}
 use mathlib.Core.Bool.{Bool, true, false, _||_}
 use mathlib.Core.List.{List, [], _∷_}
 use mathlib.Core.Option.{none, some}

@@ -1,6 +1,6 @@
 // The fields of the first record of a slice, read and written one by one. Only here is it looked up where a field stands.
 ghost use mathlib.Core.Path.{_≡_};
-ghost use Prim.Native.Nat.{_+_, _/_, _%_, _<_, _≤_};
+ghost use Prim.Native.Nat.{_+_, _/_, _%_, _≤_};
 ghost use lib.ListN.{length, take, drop};
 ghost use mathlib.Core.Bool.{_&&_};
 ghost use lib.Dec.{eqb};

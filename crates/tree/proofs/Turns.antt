@@ -6,22 +6,20 @@ use mathlib.Core.List.{List, [], _∷_}
 use mathlib.Core.Option.{Option, none, some}
 use native.Mathlib.Omega.{arith}
 use borrow.Author.Tests.{leb-true, leb-false, eqb-true, eqb-false, lt-ltb}
-use lib.Dec.{leb, ltb, eqb, lit<}
+use lib.Dec.{leb, ltb, eqb}
 use lib.ListN.{length, take, drop, getD, length-drop}
 use lib.Seq.{take-all}
 use Rattle.notation.specs.Basics.{pick, sameList}
 use Rattle.notation.specs.Numbers.{fromBits}
-use Rattle.notation.specs.Tree.{Leaf, pause, pair, Node, Tree}
+use Rattle.notation.specs.Tree.{Leaf, Node, Tree}
 use Rattle.notation.specs.Counts.{HELD, hold, countNode, count, stored}
 use Rattle.notation.specs.Packed.{RECORD, widths, cut, inOrder, nowhere, Head, leafHead, headFields, headRecord, headAt, unpackFrom, unpack}
 use Rattle.notation.specs.WellFormed.{leafOk, multiplierOk}
 use Rattle.numbers.proofs.Positional.{Below, below-drop}
-use Rattle.numbers.proofs.TwosComplement.{toBits-fromBits}
 use Rattle.laws.proofs.Bools.{and-left, and-right, and-both, false-true}
 use Rattle.laws.proofs.Walking.{leaf-stored}
 use Rattle.record.specs.Meaning.{field, uncounted, listed}
 use Rattle.record.specs.declared.encode.Fields.{Fields}
-use Rattle.record.proofs.Packed.{headAt-kind}
 use Rattle.record.proofs.Same.{same-refl, same-eq, refuted}
 use Rattle.counts.specs.Held.{groupCount}
 use Rattle.tree.specs.Formed.{formed, formedCount, headOk, first, second, both, firstBytes, secondBytes, restBytes, countOk, firstOk}

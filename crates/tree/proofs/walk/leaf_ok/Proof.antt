@@ -1,9 +1,8 @@
 -- `leaf_ok` meets its contract, by the kinds. Assumes nothing.
-use Prim.Native.Nat.{ℕ, _/_, _≤_}
-use mathlib.Core.Path.{_≡_, refl, sym, subst, _∙_}
+use Prim.Native.Nat.{_/_}
+use mathlib.Core.Path.{refl, sym, subst, _∙_}
 use borrow.Author.Needs.{needs}
 use borrow.Author.Tests.{eqb-true, not-true, not-false}
-use Rattle.notation.specs.Packed.{headAt, leafHead}
 use Rattle.numbers.proofs.BigEndian.{slice-below}
 use Rattle.record.specs.Meaning.{field, rotationLeaf, moveLeaf}
 use Rattle.record.proofs.Packed.{headAt-kind}
