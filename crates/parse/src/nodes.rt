@@ -73,8 +73,22 @@ fn binary_group_kind(text: &[u8], at: usize) -> BinaryKind
     BinaryKind::Nothing
 }
 
-// A record with the number of its list's tally where the count will stand. The number is below 256; said here, it spares three stores.
-fn put_record(tree: &mut [u8], slot: usize, f: Fields, tally: u64)
+// A group's record, with the number of its list's tally where the count will stand. The number is below 256; said here, it spares three stores.
+fn put_group(tree: &mut [u8], slot: usize, f: Fields, tally: u64)
+    requires { ⌜ slot ≤ MAX-TEXT ⌝ }
+    ensures { λ _. ⌜ now (tree .exit) ≡ nodes.put (packed.RECORD * slot) (packed.layOut packed.widths (set (listed f) 11 (tally % 256))) (now (tree .entry)) ⌝ }
+{
+    let at = RECORD * slot;
+    let end = at + RECORD;
+    if end <= tree.len() {
+        let mut g = f;
+        g.count = tally % 256;
+        put(&mut tree[at..end], g);
+    }
+}
+
+// The same of a leaf. It has a function of its own since that has one caller, into which the compiler puts it: a leaf's fields then never go through memory.
+fn put_leaf(tree: &mut [u8], slot: usize, f: Fields, tally: u64)
     requires { ⌜ slot ≤ MAX-TEXT ⌝ }
     ensures { λ _. ⌜ now (tree .exit) ≡ nodes.put (packed.RECORD * slot) (packed.layOut packed.widths (set (listed f) 11 (tally % 256))) (now (tree .entry)) ⌝ }
 {
@@ -102,7 +116,7 @@ fn leaf_node(
     let LeafAnswer::Took(f, next) = leaf(text, at, features) else {
         return NodeAnswer::Nothing;
     };
-    put_record(tree, slot, f, tally);
+    put_leaf(tree, slot, f, tally);
     NodeAnswer::Took(next, slot + 1)
 }
 
@@ -186,7 +200,7 @@ fn group(
             return NodeAnswer::Nothing;
         };
         let first = (list.slot - (slot + 1)) as u32;
-        put_record(tree, slot, group_fields(kind, first, bits, 0), tally);
+        put_group(tree, slot, group_fields(kind, first, bits, 0), tally);
         NodeAnswer::Took(next, list.slot)
     } else {
         NodeAnswer::Nothing
@@ -215,6 +229,6 @@ fn binary_group(
     };
     let first = (a.slot - (slot + 1)) as u32;
     let second = (b.slot - a.slot) as u32;
-    put_record(tree, slot, binary_group_fields(kind, first, second, bits, 0), tally);
+    put_group(tree, slot, binary_group_fields(kind, first, second, bits, 0), tally);
     NodeAnswer::Took(next, b.slot)
 }

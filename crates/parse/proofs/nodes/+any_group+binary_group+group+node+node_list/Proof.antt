@@ -35,7 +35,7 @@ use Rattle.charsets.proofs.whitespace_end.Reads as whitespace-end-reads
 use Rattle.parse.proofs.nodes.binary_group_kind.Reads as binary-group-kind-reads
 use Rattle.parse.proofs.nodes.close.Reads as close-reads
 use Rattle.parse.proofs.nodes.leaf_node.Reads as leaf-node-reads
-use Rattle.parse.proofs.nodes.put_record.Reads as put-record-reads
+use Rattle.parse.proofs.nodes.put_group.Reads as put-group-reads
 use Rattle.parse.proofs.look.has.Reads as has-reads
 use Rattle.parse.proofs.parse.group_kind.Reads as group-kind-reads
 use Rattle.record.proofs.encode.binary_group_fields.Reads as binary-group-fields-reads
@@ -103,8 +103,8 @@ binary-group-claims t = (
   close-reads.Learnt,
   binary-group-fields-reads.Asked,
   binary-group-fields-reads.Learnt,
-  put-record-reads.Asked,
-  put-record-reads.Learnt,
+  put-group-reads.Asked,
+  put-group-reads.Learnt,
 )
 
 abbrev group-claims : ℕ → group-lts.Claims
@@ -119,8 +119,8 @@ group-claims t = (
   close-reads.Learnt,
   group-fields-reads.Asked,
   group-fields-reads.Learnt,
-  put-record-reads.Asked,
-  put-record-reads.Learnt,
+  put-group-reads.Asked,
+  put-group-reads.Learnt,
 )
 
 abbrev node-claims : ℕ → node-lts.Claims
@@ -319,8 +319,8 @@ binary-group-cast-second t c =
 binary-group-binary-group-fields-requires : (t : ℕ) → binary-group-lts.Need-binary-group-fields-requires (binary-group-claims t) (binary-group-at t) binary-group.Post
 binary-group-binary-group-fields-requires t c κs = search needs
 
-binary-group-put-record-requires : (t : ℕ) → binary-group-lts.Need-put-record-requires (binary-group-claims t) (binary-group-at t) binary-group.Post
-binary-group-put-record-requires t c κs =
+binary-group-put-group-requires : (t : ℕ) → binary-group-lts.Need-put-group-requires (binary-group-claims t) (binary-group-at t) binary-group.Post
+binary-group-put-group-requires t c κs =
     let s = c .before .before .before .before .before .before .before .before .before .before .before .before .before .before .before .before .before .before .before .before .before .before .before .before in
     let a = s .args in
     let pre = s .pre .1 in
@@ -338,7 +338,7 @@ binary-group-returns-3 t c =
     let signs = rw (kind .1) at (c .before .before .before .before .before .before .before .before .before .before .before .before .before .before .before .before .before .before .before .before .binary-group-kind .ensures) in
     let took = c .before .before .before .before .before .before .before .before .before .bits .given in
     let fields = c .before .before .before .binary-group-fields in
-    rw (c .before .before .put-record .ensures)
+    rw (c .before .before .put-group .ensures)
     (closed-binary (a .features) (a .text .now) (a .at) (a .slot) (a .tally) (a .tree .now) opens _ _ _ (one .ensures) (kind .0 .0) signs _ _ _ (two .ensures)
     (took .0 .0) (took .0 .1 .0) (listed (fields .result)) (fields .ensures) (rw (took .1) at (c .before .before .before .before .before .before .before .before .before .before .before .close .ensures)))
 
@@ -435,8 +435,8 @@ group-cast-first t c =
 group-group-fields-requires : (t : ℕ) → group-lts.Need-group-fields-requires (group-claims t) (group-at t) group.Post
 group-group-fields-requires t c κs = search needs
 
-group-put-record-requires : (t : ℕ) → group-lts.Need-put-record-requires (group-claims t) (group-at t) group.Post
-group-put-record-requires t c κs =
+group-put-group-requires : (t : ℕ) → group-lts.Need-put-group-requires (group-claims t) (group-at t) group.Post
+group-put-group-requires t c κs =
     let s = c .before .before .before .before .before .before .before .before .before .before .before .before .before .before .before .before in
     let a = s .args in
     let pre = s .pre .1 in
@@ -456,7 +456,7 @@ group-returns-2 t c =
     let list = c .before .before .before .before .before .before .before .before .before .before .before .before .node-list in
     let took = c .before .before .before .before .before .before .before .bits .given in
     let fields = c .before .before .before .group-fields in
-    rw (c .before .before .put-record .ensures)
+    rw (c .before .before .put-group .ensures)
     (closed-group (a .features) (a .text .now) (a .at) (a .slot) (a .tally) (a .tree .now) (start .result .kind) (start .result .next) (start .ensures) opens (omega (arith, later)) _ _ _
     (list .ensures) (took .0 .0) (took .0 .1 .0) (listed (fields .result)) (fields .ensures) (rw (took .1) at (c .before .before .before .before .before .before .before .before .before .close .ensures)))
 
@@ -624,7 +624,7 @@ pub +any-group+binary-group+group+node+node-list-spec : {M : Type 1} → stateme
     (binary-group-sub-second t)
     (binary-group-cast-second t)
     (binary-group-binary-group-fields-requires t)
-    (binary-group-put-record-requires t)
+    (binary-group-put-group-requires t)
     (binary-group-same-length-3 t)
     (binary-group-returns-3 t))
     (λ t. group-lts.spec (group-claims t) (group-at t) group.Post
@@ -643,7 +643,7 @@ pub +any-group+binary-group+group+node+node-list-spec : {M : Type 1} → stateme
     (group-sub-first t)
     (group-cast-first t)
     (group-group-fields-requires t)
-    (group-put-record-requires t)
+    (group-put-group-requires t)
     (group-same-length-2 t)
     (group-returns-2 t)
     (group-returns-3 t))

@@ -19,8 +19,8 @@ returns c =
     let a = c .before .before .before .before .before .args in
     leaf-rejected (a .features) (a .text .now) (a .at) (a .slot) (a .tree .now) (rw (c .enum-told .given .1) at (c .before .before .leaf .ensures .0))
 
-put-record-requires : tie.Need-put-record-requires
-put-record-requires c κs = search needs
+put-leaf-requires : tie.Need-put-leaf-requires
+put-leaf-requires c κs = search needs
 
 add-t13 : tie.Need-add-t13
 add-t13 c = search needs
@@ -34,7 +34,7 @@ returns-2 c =
     let took = c .before .before .before .before .before .f .given in
     let leaf = c .before .before .before .before .before .before .before .leaf in
     let ends = rw (took .1) at (leaf .ensures .1) in
-    rw (c .before .before .put-record .ensures)
+    rw (c .before .before .put-leaf .ensures)
     (leaf-read (a .features) (a .text .now) (a .at) (a .slot) (a .tree .now) (a .tally) (listed (took .0 .0)) (took .0 .1 .0) (rw (took .1) at (leaf .ensures .0)) (ends .0) (ends .1))
 
 pub leaf-node-spec : {M : Type 1} → statement M
@@ -45,7 +45,7 @@ leaf-node-spec =
     enum-known-f
     enum-told
     returns
-    put-record-requires
+    put-leaf-requires
     add-t13
     same-length
     returns-2)

@@ -1,4 +1,4 @@
--- `nodes::put_record` meets its contract. Assumes nothing.
+-- `nodes::put_leaf` meets its contract. Assumes nothing.
 use mathlib.Core.Path.{refl, ap, _∙_}
 use mathlib.Core.List.{List}
 use Prim.Native.Nat.{ℕ, _+_, _-_, _*_, _%_}
@@ -10,8 +10,8 @@ use Rattle.record.proofs.Cut.{length-layOut}
 use Rattle.record.specs.Meaning.{listed}
 use Rattle.parse.proofs.Buffers.{put-part, put-full}
 use Rattle.notation.specs.Packed.{RECORD, widths, layOut}
-use Rattle.parse.proofs.nodes.put_record.Statement.{statement}
-use Rattle.parse.proofs.nodes.put_record.Tie as tie
+use Rattle.parse.proofs.nodes.put_leaf.Statement.{statement}
+use Rattle.parse.proofs.nodes.put_leaf.Tie as tie
 
 mul-at : tie.Need-mul-at
 mul-at c = search needs
@@ -49,8 +49,8 @@ returns-2 c =
     let fs = set (listed (a .f)) 11 (a .tally % 256) in
     put-full (RECORD * a .slot) (layOut widths fs) (a .tree .now) (omega (arith, length-layOut widths fs refl, c .if1 .left))
 
-pub put-record-spec : {M : Type 1} → statement M
-put-record-spec =
+pub put-leaf-spec : {M : Type 1} → statement M
+put-leaf-spec =
     tie.close
     (tie.spec
     mul-at
