@@ -22,6 +22,7 @@ const SAMPLE: f64 = 2e6;
 const AXIS: AxisLayersInfo = AxisLayersInfo { max_layer: 9, allow_negatives: true };
 
 /// What a call of ours needs.
+#[derive(Clone)]
 struct Case {
     text: String,
     tree: Vec<u8>,

@@ -1,6 +1,6 @@
 #!/usr/bin/env bash
 # Builds the oracle and the benchmark below target/bench and runs it; the tables are printed.
-# `scale` fails if the time a byte grows with the text.
+# `scale` fails if the time a byte grows with the text by more than caches explain.
 # Usage: run.sh SRC [growth | scale | plain | loop OPERATION KIND SIZE SECONDS], SRC the folder that holds crates/hypuz_notation/src
 set -euo pipefail
 root=$(cd "$(dirname "$0")/.." && pwd)

@@ -1,5 +1,7 @@
 //! Shows that all calls are linear: nanoseconds a byte of ours on texts of 64 KB, 1 MB and of the longest there is, and how much the larger ones are above the first.
 //!
+//! Where that is too much, the first size is measured out of cache too: caches explain it if the larger ones are not too much above that either.
+//!
 //! The Rust is left out: its own tree of the longest text would take many gigabytes.
 use crate::ours::{self, RECORD};
 use crate::reader::LONGEST;
@@ -15,6 +17,8 @@ const FAMILY: &str = "one family";
 
 /// What a byte of a large text may take more than one of 64 KB. Even linear work takes more: a tree of 64 KB of text stays in the processor's caches.
 const MOST: f64 = 2.0;
+/// So many texts of the first size are as long as the longest, and take as much memory.
+const COPIES: usize = LONGEST / SIZES[0];
 const SAMPLE: f64 = 2e7;
 const ATTEMPTS: usize = 3;
 /// The calls need no stack that grows with the text, so all run on a small one.
@@ -112,9 +116,20 @@ struct Row {
 impl Row {
     /// The worse of the two larger sizes to the first.
     fn ratio(&self) -> f64 {
-        let [small, middle, large] = self.times;
+        self.ratio_to(self.times[0])
+    }
+
+    fn ratio_to(&self, small: f64) -> f64 {
+        let [_, middle, large] = self.times;
         middle.max(large) / small
     }
+}
+
+/// Which rows are above what may be, by whether caches explain it.
+#[derive(Default)]
+struct Above {
+    explained: Vec<String>,
+    slow: Vec<String>,
 }
 
 /// The operations that a text has, each with its nanoseconds a byte.
@@ -144,28 +159,50 @@ fn sure_rows(kind: &str) -> Vec<Row> {
     found
 }
 
-/// Prints the rows of a kind, and gives what is too slow in them.
-fn print_rows(kind: &str) -> Vec<String> {
-    let mut slow = vec![];
+/// Nanoseconds a byte at the first size when nothing of it is in a cache. Each copy has a text, a tree and a buffer of its own, and all are called in turn: until a copy's
+/// next turn the others have passed through the caches, as the rest of the longest text does. No text is longer than before, so what is not linear takes no more here.
+/// Where a call goes over its tree more than once, only the first time is out of cache, unlike in the longest text: this explains rather too little than too much.
+fn out_of_cache(kind: &str, operation: &str) -> f64 {
+    let copies = vec![case(kind, SIZES[0]); COPIES];
+    let mut calls: Vec<_> = copies.iter().filter_map(|c| our_call(c, operation)).collect();
+    let bytes: usize = copies.iter().map(|c| c.text.len()).sum();
+    best_of(SAMPLE, || calls.iter_mut().for_each(|call| call())) / bytes as f64
+}
+
+/// Prints the rows of a kind, and notes what is too slow in them.
+fn print_rows(kind: &str, above: &mut Above) {
     for row in sure_rows(kind) {
         let (operation, ratio) = (row.operation, row.ratio());
-        println!("| {kind} | {operation} |{} {ratio:.2} |", row.times.map(|ns| format!(" {ns:.2} |")).join(""));
-        if ratio > MOST {
-            slow.push(format!("{operation} of {kind} ({ratio:.2})"));
+        print!("| {kind} | {operation} |{} {ratio:.2} |", row.times.map(|ns| format!(" {ns:.2} |")).join(""));
+        if ratio <= MOST {
+            println!(" | |");
+            continue;
         }
+        let uncached = out_of_cache(kind, operation);
+        let ratio = row.ratio_to(uncached);
+        println!(" {uncached:.2} | {ratio:.2} |");
+        let rows = if ratio <= MOST { &mut above.explained } else { &mut above.slow };
+        rows.push(format!("{operation} of {kind} ({ratio:.2})"));
     }
-    slow
 }
 
 fn table() -> bool {
-    println!("Nanoseconds a byte of text, best of several samples of 20 ms or one call; × is the worse of the two larger sizes divided by the first.\n");
-    println!("| text | operation |{} × |", SIZES.map(|n| format!(" {n} bytes |")).join(""));
-    println!("|---|---|{}---:|", "---:|".repeat(SIZES.len()));
-    let slow: Vec<String> = KINDS.into_iter().flat_map(print_rows).collect();
+    println!("Nanoseconds a byte of text, best of several samples of 20 ms or one call; × is the worse of the two larger sizes divided by the first.");
+    println!("Where it is above {MOST:.1}, the first is measured out of cache too, {COPIES} copies called in turn, and the last × is the worse divided by that.\n");
+    let [small, ..] = SIZES;
+    println!("| text | operation |{} × | {small} bytes out of cache | × |", SIZES.map(|n| format!(" {n} bytes |")).join(""));
+    println!("|---|---|{}", "---:|".repeat(SIZES.len() + 3));
+    let mut above = Above::default();
+    KINDS.into_iter().for_each(|kind| print_rows(kind, &mut above));
+    let Above { explained, slow } = above;
+    println!();
+    if !explained.is_empty() {
+        println!("Caches explain an × above {MOST:.1} of {}: against {small} bytes out of cache it is what stands in brackets.", explained.join(", "));
+    }
     if slow.is_empty() {
-        println!("\nAll are linear: no × is above {MOST:.1}.");
+        println!("All are linear: no × is above {MOST:.1}{}.", if explained.is_empty() { "" } else { " that caches do not explain" });
     } else {
-        println!("\nNot linear, × above {MOST:.1}: {}.", slow.join(", "));
+        println!("Not linear, × above {MOST:.1} also against {small} bytes out of cache: {}.", slow.join(", "));
     }
     slow.is_empty()
 }
