@@ -1,6 +1,6 @@
 //! Shows that all calls are linear: nanoseconds a byte of ours on texts of 64 KB, 1 MB and of the longest there is, and how much the larger ones are above the first.
 //!
-//! Where that is too much, the first size is measured out of cache too: what caches explain is gone then, and what is not linear is not.
+//! Where that is too much, the first size is measured out of cache too: caches explain it if the larger ones are not too much above that either.
 //!
 //! The Rust is left out: its own tree of the longest text would take many gigabytes.
 use crate::ours::{self, RECORD};
@@ -161,6 +161,7 @@ fn sure_rows(kind: &str) -> Vec<Row> {
 
 /// Nanoseconds a byte at the first size when nothing of it is in a cache. Each copy has a text, a tree and a buffer of its own, and all are called in turn: until a copy's
 /// next turn the others have passed through the caches, as the rest of the longest text does. No text is longer than before, so what is not linear takes no more here.
+/// Where a call goes over its tree more than once, only the first time is out of cache, unlike in the longest text: this explains rather too little than too much.
 fn out_of_cache(kind: &str, operation: &str) -> f64 {
     let copies = vec![case(kind, SIZES[0]); COPIES];
     let mut calls: Vec<_> = copies.iter().filter_map(|c| our_call(c, operation)).collect();
