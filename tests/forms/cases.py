@@ -43,7 +43,7 @@ def leaf(r):
         r.i = start
         return "nothing "
     b = n.record(found)
-    return f"{b[0]} {int.from_bytes(b[5:9], 'big')} {found.family[0]} {found.family[1]} {r.offset[r.i]} "
+    return f"{b[0]} {n.unpack(b)['number'] % 2**32} {found.family[0]} {found.family[1]} {r.offset[r.i]} "
 
 
 def walked(text, features):
