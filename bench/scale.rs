@@ -161,7 +161,7 @@ fn sure_rows(kind: &str) -> Vec<Row> {
 
 /// Nanoseconds a byte at the first size when nothing of it is in a cache. Each copy has a text, a tree and a buffer of its own, and all are called in turn: until a copy's
 /// next turn the others have passed through the caches, as the rest of the longest text does. No text is longer than before, so what is not linear takes no more here.
-/// Where a call goes over its tree more than once, only the first time is out of cache, unlike in the longest text: this explains rather too little than too much.
+/// A call that goes over its tree more than once may find it in a cache the second time, unlike in the longest text; then this explains too little, not too much.
 fn out_of_cache(kind: &str, operation: &str) -> f64 {
     let copies = vec![case(kind, SIZES[0]); COPIES];
     let mut calls: Vec<_> = copies.iter().filter_map(|c| our_call(c, operation)).collect();
