@@ -3,6 +3,7 @@ pub mod Chars
 pub mod Packed
 pub mod Counts
 pub mod Reading
+pub mod Primes
 pub mod Unrolling
 pub mod Inverses
 pub mod WellFormed

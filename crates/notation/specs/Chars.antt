@@ -1,11 +1,12 @@
--- Characters (charsets.rs): the six classes of family characters, and White_Space. A character is its code point.
+-- Characters (charsets.rs): the six classes of family characters, the class of primes (document 02, request 6), and White_Space.
+-- A character is its code point.
 use Prim.Native.Nat.{ℕ, _+_}
-use mathlib.Core.Bool.{Bool, true, false, not, _||_}
+use mathlib.Core.Bool.{Bool, true, false, _||_}
 use mathlib.Core.List.{List, [], _∷_, map}
 use lib.Dec.{eqb}
 use Rattle.notation.specs.Basics.{pick, between, oneOf}
 use Rattle.notation.specs.declared.charsets.CharSet.{CharSet}
-use Rattle.notation.specs.declared.charsets.CharSet.the-variants.{LowercaseLatin, UppercaseLatin, UppercaseGreek, TallLowercaseGreek, ShortLowercaseGreek, Underscore}
+use Rattle.notation.specs.declared.charsets.CharSet.the-variants.{LowercaseLatin, UppercaseLatin, UppercaseGreek, TallLowercaseGreek, ShortLowercaseGreek, Underscore, Prime}
 use Rattle.notation.specs.declared.charsets.Class.{Class}
 use Rattle.notation.specs.declared.charsets.Class.the-variants.{In, Outside}
 
@@ -21,6 +22,10 @@ tallLowercaseGreek = map (λ n. 0x300 + n) (0xb2 ∷ 0xb4 ∷ 0xb6 ∷ 0xb8 ∷ 
 abbrev pub shortLowercaseGreek : List ℕ
 shortLowercaseGreek = map (λ n. 0x300 + n) (0xb5 ∷ 0xb7 ∷ 0xba ∷ 0xbc ∷ 0xc0 ∷ 0xc4 ∷ 0xc6 ∷ 0xc8 ∷ 0xc9 ∷ [])
 
+-- the right single quotation mark and the prime, as word processors write them for an apostrophe
+abbrev pub curlyPrimes : List ℕ
+curlyPrimes = 0x2019 ∷ 0x2032 ∷ []
+
 unfoldable pub classify : ℕ → Class
 classify c =
     pick (between 0x61 0x7a c) (In LowercaseLatin)
@@ -28,7 +33,8 @@ classify c =
     (pick (oneOf uppercaseGreek c) (In UppercaseGreek)
     (pick (oneOf tallLowercaseGreek c) (In TallLowercaseGreek)
     (pick (oneOf shortLowercaseGreek c) (In ShortLowercaseGreek)
-    (pick (eqb c 0x5f) (In Underscore) Outside)))))
+    (pick (eqb c 0x5f) (In Underscore)
+    (pick (oneOf (0x27 ∷ curlyPrimes) c) (In Prime) Outside))))))
 
 -- how the table of 1,024 entries writes a class
 abbrev pub setNumber : CharSet → ℕ
@@ -38,17 +44,44 @@ setNumber UppercaseGreek = 3
 setNumber TallLowercaseGreek = 4
 setNumber ShortLowercaseGreek = 5
 setNumber Underscore = 6
+setNumber Prime = 7
 
 abbrev pub classNumber : Class → ℕ
 classNumber Outside = 0
 classNumber (In s) = setNumber s
 
-abbrev pub isOutside : Class → Bool
-isOutside Outside = true
-isOutside (In s) = false
+-- the classes of which a family name is made: all but the primes
+abbrev pub familySet : CharSet → Bool
+familySet LowercaseLatin = true
+familySet UppercaseLatin = true
+familySet UppercaseGreek = true
+familySet TallLowercaseGreek = true
+familySet ShortLowercaseGreek = true
+familySet Underscore = true
+familySet Prime = false
+
+abbrev pub isFamilyClass : Class → Bool
+isFamilyClass Outside = false
+isFamilyClass (In s) = familySet s
 
 abbrev pub isFamilyChar : ℕ → Bool
-isFamilyChar c = not (isOutside (classify c))
+isFamilyChar c = isFamilyClass (classify c)
+
+abbrev pub primeSet : CharSet → Bool
+primeSet LowercaseLatin = false
+primeSet UppercaseLatin = false
+primeSet UppercaseGreek = false
+primeSet TallLowercaseGreek = false
+primeSet ShortLowercaseGreek = false
+primeSet Underscore = false
+primeSet Prime = true
+
+abbrev pub isPrimeClass : Class → Bool
+isPrimeClass Outside = false
+isPrimeClass (In s) = primeSet s
+
+abbrev pub isPrime : ℕ → Bool
+isPrime c = isPrimeClass (classify c)
 
 abbrev pub isLatinLetter : ℕ → Bool
 isLatinLetter c = between 0x61 0x7a c || between 0x41 0x5a c

@@ -10,8 +10,8 @@ use lib.Dec.{eqb, ltb, leb}
 use lib.IntN.{ℤ, pos, negℤ}
 use lib.ListN.{length, take, drop}
 use Rattle.notation.specs.Basics.{pick, between}
-use Rattle.notation.specs.Chars.{isFamilyChar, whiteSpace}
-use Rattle.notation.specs.Utf8.{run}
+use Rattle.notation.specs.Chars.{isFamilyChar, isPrime, whiteSpace}
+use Rattle.notation.specs.Utf8.{widthIf, run}
 use Rattle.notation.specs.Numbers.{digitRun, decimal}
 use Rattle.notation.specs.Layers.{LayerSetElement, MAX-LAYER}
 use Rattle.notation.specs.Layers as Layers
@@ -78,6 +78,10 @@ unfoldable pub word : String → Reader (Unit {0})
 word S.[] = done tt
 word (S._∷_ c w) = do just c; word w
 
+-- a character that passes a test
+abbrev pub character : (ℕ → Bool) → Reader (Unit {0})
+character p at s = let n = widthIf p s in pick (ltb 0 n) (read tt (at + n) (drop n s)) rejected
+
 -- the characters that pass a test: how many bytes they take
 abbrev pub takeWhile : (ℕ → Bool) → Reader ℕ
 takeWhile p at s = let n = run p s in read n (at + n) (drop n s)
@@ -120,11 +124,17 @@ layer = uint 1 MAX-LAYER
 abbrev pub signedLayer : Reader ℤ
 signedLayer = sint 1 MAX-LAYER MAX-LAYER
 
--- `'` negates
-abbrev pub multiplier : Reader ℤ
-multiplier = do
+-- the sign that negates: the apostrophe, and with `curly_primes` every character of its class
+abbrev pub prime : Features → Reader (Unit {0})
+prime f = just "'" or when (f .«curly_primes») (character isPrime)
+
+abbrev pub multiplierBy : Reader (Unit {0}) → Reader ℤ
+multiplierBy sign = do
   n ← uint 0 MAX-I32 or done 1
-  (do just "'"; done (negℤ (pos n))) or done (pos n)
+  (do sign; done (negℤ (pos n))) or done (pos n)
+
+abbrev pub multiplier : Features → Reader ℤ
+multiplier f = multiplierBy (prime f)
 
 -- Lists: zero or more items with separators between them. A list of its own type is built by its `cons` and `nil`.
 abbrev pub collect : {A L : Type 0} → (A → L → L) → L → Reading A → Reader L → Reader L
@@ -228,10 +238,11 @@ binaryGroupNode list = do
   just "]"
   done (λ m. block (binaryGroup k a b) m)
 
-abbrev pub repeatableNode : Features → Reader Tree → Reader (Node Leaf)
-repeatableNode f list = do
+-- From here on the sign that negates is handed on, so that document 01's rule, with the apostrophe alone, has the same words (specs/Primes).
+abbrev pub repeatableNodeBy : Reader (Unit {0}) → Features → Reader Tree → Reader (Node Leaf)
+repeatableNodeBy sign f list = do
   inner ← rotationNode f or groupNode list or binaryGroupNode list or moveNode f
-  m ← multiplier
+  m ← multiplierBy sign
   done (inner m)
 
 unfoldable pub megaminxScrambleMove : Reader MegaminxScrambleMove
@@ -243,17 +254,17 @@ sq1Move =
     (do just "/"; done slash)
     or (do just "("; u ← padded i32; just ","; d ← padded i32; just ")"; done (pair u d))
 
-unfoldable pub node : Features → Reader Tree → Reader (Node Leaf)
-node f list =
+unfoldable pub nodeBy : Reader (Unit {0}) → Features → Reader Tree → Reader (Node Leaf)
+nodeBy sign f list =
     (do just "."; done (leaf pause))
     or when (f .megaminx) (do k ← megaminxScrambleMove; done (leaf (megaminx k)))
-    or repeatableNode f list
+    or repeatableNodeBy sign f list
     or when (f .sq1) (do x ← sq1Move; done (leaf x))
 
 -- a list enters a node and a node enters lists; k is more than the nesting
-unfoldable pub nodeList : Features → ℕ → Reader Tree
-nodeList f zero = fail
-nodeList f (suc k) = padded (separatedBy cons nil (node f (nodeList f k)) someWhitespace)
+unfoldable pub nodeListBy : Reader (Unit {0}) → Features → ℕ → Reader Tree
+nodeListBy sign f zero = fail
+nodeListBy sign f (suc k) = padded (separatedBy cons nil (nodeBy sign f (nodeListBy sign f k)) someWhitespace)
 
 -- the whole text, to its end
 abbrev pub atEnd : {A : Type 0} → Reading A → Option A
@@ -261,5 +272,15 @@ atEnd rejected = none
 atEnd (read a at []) = some a
 atEnd (read a at (b ∷ s)) = none
 
-unfoldable pub notation : Features → List ℕ → Option Tree
-notation f text = atEnd (nodeList f (suc (length text)) 0 text)
+unfoldable pub notationBy : Reader (Unit {0}) → Features → List ℕ → Option Tree
+notationBy sign f text = atEnd (nodeListBy sign f (suc (length text)) 0 text)
+
+-- the same under a setting
+abbrev pub node : Features → Reader Tree → Reader (Node Leaf)
+node f = nodeBy (prime f) f
+
+abbrev pub nodeList : Features → ℕ → Reader Tree
+nodeList f = nodeListBy (prime f) f
+
+abbrev pub notation : Features → List ℕ → Option Tree
+notation f = notationBy (prime f) f

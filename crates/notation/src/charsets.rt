@@ -1,4 +1,4 @@
-// The character sets of family names: `CharSet` of the Rust's charsets.rs. The crate `charsets` has the functions.
+// The sets of characters: `CharSet` of the Rust's charsets.rs, six sets of which family names are made, and the primes. The crate `charsets` has the functions.
 
 pub enum CharSet {
     // a-z
@@ -13,9 +13,11 @@ pub enum CharSet {
     ShortLowercaseGreek,
     // _
     Underscore,
+    // The signs that negate a multiplier: the apostrophe, U+2019, U+2032. No family name may hold one.
+    Prime,
 }
 
-// The Rust's `Option<CharSet>`: the set of a character, or none where no family name may hold it.
+// The Rust's `Option<CharSet>`: the set of a character, or none.
 pub enum Class {
     In(CharSet),
     Outside,

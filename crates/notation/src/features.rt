@@ -22,6 +22,8 @@ pub struct Features {
     pub megaminx: bool,
     // `/` and `(u,d)`.
     pub sq1: bool,
+    // The signs U+2019 and U+2032 in a multiplier, as `'`. The Rust has no such feature, and no named setting has it on.
+    pub curly_primes: bool,
 }
 
 impl LayerFeatures {
@@ -44,6 +46,7 @@ impl Features {
         transform_constraints: false,
         megaminx: false,
         sq1: false,
+        curly_primes: false,
     };
     pub const WCA: Features = Features {
         layers: LayerFeatures::SIMPLE,
@@ -51,6 +54,7 @@ impl Features {
         transform_constraints: false,
         megaminx: true,
         sq1: true,
+        curly_primes: false,
     };
     pub const MAXIMAL: Features = Features {
         layers: LayerFeatures::HYPERCUBING,
@@ -58,6 +62,7 @@ impl Features {
         transform_constraints: true,
         megaminx: true,
         sq1: true,
+        curly_primes: false,
     };
 }
 
@@ -80,7 +85,7 @@ pub fn maximal() -> Features
     Features::MAXIMAL
 }
 
-// The features that the low seven bits name; higher bits are ignored.
+// The features that the low eight bits name; higher bits are ignored.
 pub fn from_bits(bits: u32) -> Features
     ensures { λ r. ⌜ r ≡ rule.ofBits bits ⌝ }
 {
@@ -95,5 +100,6 @@ pub fn from_bits(bits: u32) -> Features
         transform_constraints: bits / 16 % 2 == 1,
         megaminx: bits / 32 % 2 == 1,
         sq1: bits / 64 % 2 == 1,
+        curly_primes: bits / 128 % 2 == 1,
     }
 }

@@ -98,21 +98,22 @@ unfolding opened
 layerLimits = (refl, refl, refl)
 
 -- flags one by one
-abbrev flags : Bool → Bool → Bool → Bool → Bool → Bool → Bool → Features
-flags il ls h gr tc mm sq = record { layers = record { «inverted_layers» = il; «layer_sets» = ls; «hsc1_layer_ranges» = h }; «generalized_rotations» = gr; «transform_constraints» = tc; megaminx = mm; sq1 = sq }
+abbrev flags : Bool → Bool → Bool → Bool → Bool → Bool → Bool → Bool → Features
+flags il ls h gr tc mm sq cp = record { layers = record { «inverted_layers» = il; «layer_sets» = ls; «hsc1_layer_ranges» = h }; «generalized_rotations» = gr; «transform_constraints» = tc; megaminx = mm; sq1 = sq; «curly_primes» = cp }
 
 abbrev probes : List String
-probes = "~R" ∷ "{1}R" ∷ "{1-2}R" ∷ "@" ∷ "R{}" ∷ "R--" ∷ "/" ∷ "(1,2)" ∷ "@{}" ∷ "~{1}R" ∷ "~2R" ∷ "1-2R" ∷ []
+probes = "~R" ∷ "{1}R" ∷ "{1-2}R" ∷ "@" ∷ "R{}" ∷ "R--" ∷ "/" ∷ "(1,2)" ∷ "@{}" ∷ "~{1}R" ∷ "~2R" ∷ "1-2R" ∷ "R’" ∷ []
 
-eachFlagAlone : (refusals (flags true false false false false false false) probes ≡ 0 ∷ 4 ∷ 4 ∷ 4 ∷ 4 ∷ 4 ∷ 4 ∷ 4 ∷ 4 ∷ 4 ∷ 0 ∷ 0 ∷ [])
-    × (refusals (flags false true false false false false false) probes ≡ 4 ∷ 0 ∷ 4 ∷ 4 ∷ 4 ∷ 4 ∷ 4 ∷ 4 ∷ 4 ∷ 4 ∷ 4 ∷ 0 ∷ [])
-    × (refusals (flags false false true false false false false) probes ≡ 4 ∷ 4 ∷ 4 ∷ 4 ∷ 4 ∷ 4 ∷ 4 ∷ 4 ∷ 4 ∷ 4 ∷ 4 ∷ 0 ∷ [])
-    × (refusals (flags false false false true false false false) probes ≡ 4 ∷ 4 ∷ 4 ∷ 0 ∷ 4 ∷ 4 ∷ 4 ∷ 4 ∷ 4 ∷ 4 ∷ 4 ∷ 0 ∷ [])
-    × (refusals (flags false false false false true false false) probes ≡ 4 ∷ 4 ∷ 4 ∷ 4 ∷ 0 ∷ 4 ∷ 4 ∷ 4 ∷ 4 ∷ 4 ∷ 4 ∷ 0 ∷ [])
-    × (refusals (flags false false false false false true false) probes ≡ 4 ∷ 4 ∷ 4 ∷ 4 ∷ 4 ∷ 0 ∷ 4 ∷ 4 ∷ 4 ∷ 4 ∷ 4 ∷ 0 ∷ [])
-    × (refusals (flags false false false false false false true) probes ≡ 4 ∷ 4 ∷ 4 ∷ 4 ∷ 4 ∷ 4 ∷ 0 ∷ 0 ∷ 4 ∷ 4 ∷ 4 ∷ 0 ∷ [])
+eachFlagAlone : (refusals (flags true false false false false false false false) probes ≡ 0 ∷ 4 ∷ 4 ∷ 4 ∷ 4 ∷ 4 ∷ 4 ∷ 4 ∷ 4 ∷ 4 ∷ 0 ∷ 0 ∷ 4 ∷ [])
+    × (refusals (flags false true false false false false false false) probes ≡ 4 ∷ 0 ∷ 4 ∷ 4 ∷ 4 ∷ 4 ∷ 4 ∷ 4 ∷ 4 ∷ 4 ∷ 4 ∷ 0 ∷ 4 ∷ [])
+    × (refusals (flags false false true false false false false false) probes ≡ 4 ∷ 4 ∷ 4 ∷ 4 ∷ 4 ∷ 4 ∷ 4 ∷ 4 ∷ 4 ∷ 4 ∷ 4 ∷ 0 ∷ 4 ∷ [])
+    × (refusals (flags false false false true false false false false) probes ≡ 4 ∷ 4 ∷ 4 ∷ 0 ∷ 4 ∷ 4 ∷ 4 ∷ 4 ∷ 4 ∷ 4 ∷ 4 ∷ 0 ∷ 4 ∷ [])
+    × (refusals (flags false false false false true false false false) probes ≡ 4 ∷ 4 ∷ 4 ∷ 4 ∷ 0 ∷ 4 ∷ 4 ∷ 4 ∷ 4 ∷ 4 ∷ 4 ∷ 0 ∷ 4 ∷ [])
+    × (refusals (flags false false false false false true false false) probes ≡ 4 ∷ 4 ∷ 4 ∷ 4 ∷ 4 ∷ 0 ∷ 4 ∷ 4 ∷ 4 ∷ 4 ∷ 4 ∷ 0 ∷ 4 ∷ [])
+    × (refusals (flags false false false false false false true false) probes ≡ 4 ∷ 4 ∷ 4 ∷ 4 ∷ 4 ∷ 4 ∷ 0 ∷ 0 ∷ 4 ∷ 4 ∷ 4 ∷ 0 ∷ 4 ∷ [])
+    × (refusals (flags false false false false false false false true) probes ≡ 4 ∷ 4 ∷ 4 ∷ 4 ∷ 4 ∷ 4 ∷ 4 ∷ 4 ∷ 4 ∷ 4 ∷ 4 ∷ 0 ∷ 0 ∷ [])
 unfolding opened bytes
-eachFlagAlone = (refl, refl, refl, refl, refl, refl, refl)
+eachFlagAlone = (refl, refl, refl, refl, refl, refl, refl, refl)
 
 listerOfThePaper : lister (ascii "m\n[R: U2 F]'") ≡ ascii "text [R: U2 F]'\ninverse [R: U2 F]\nsteps 4\n0 R\n1 F'\n2 U2'\n3 R'\n"
 unfolding opened copies

@@ -1,9 +1,10 @@
--- Characters: each class at its ends, the letters left out, White_Space, and widths of UTF-8 characters.
+-- Characters: each class at its ends, the letters left out, the primes, White_Space, and widths of UTF-8 characters.
 use Prim.Native.Nat.{ℕ}
 use mathlib.Core.Path.{_≡_, refl}
 use mathlib.Core.Bool.{true, false}
 use mathlib.Core.List.{List, [], _∷_, map}
-use Rattle.notation.specs.Chars.{classify, classNumber, whiteSpace}
+use lib.ListN.{replicate}
+use Rattle.notation.specs.Chars.{classify, classNumber, isFamilyChar, isPrime, whiteSpace}
 use Rattle.notation.specs.Utf8.{charWidth, codePoint}
 use Rattle.notation.specs.Numbers.{digitRun, bigEndian, show}
 use Rattle.notation.proofs.Opened.{opened}
@@ -17,6 +18,15 @@ classes : map (λ c. classNumber (classify c))
     ≡ 0 ∷ 1 ∷ 1 ∷ 0 ∷ 0 ∷ 2 ∷ 2 ∷ 0 ∷ 6 ∷ 0 ∷ 3 ∷ 3 ∷ 3 ∷ 3 ∷ 4 ∷ 4 ∷ 4 ∷ 5 ∷ 5 ∷ 0 ∷ 0 ∷ 0 ∷ 0 ∷ 0 ∷ []
 unfolding opened
 classes = refl
+
+-- the apostrophe, U+2019 and U+2032 are primes, and what stands beside them is none: ` ´ ʹ ʼ ‘ ‚ ‛ ‱ ″ ‵
+abbrev signs : List ℕ
+signs = 0x27 ∷ 0x2019 ∷ 0x2032 ∷ 0x26 ∷ 0x28 ∷ 0x60 ∷ 0xb4 ∷ 0x2b9 ∷ 0x2bc ∷ 0x2018 ∷ 0x201a ∷ 0x201b ∷ 0x2031 ∷ 0x2033 ∷ 0x2035 ∷ []
+
+primes : (map (λ c. classNumber (classify c)) signs ≡ 7 ∷ 7 ∷ 7 ∷ replicate 12 0)
+    × (map isPrime signs ≡ true ∷ true ∷ true ∷ replicate 12 false) × (map isFamilyChar signs ≡ replicate 15 false)
+unfolding opened
+primes = (refl, refl, refl)
 
 -- U+0008, 0009, 000D, 000E, space, 0085, 00A0, 1680, 180E, 2000, 200A, 200B, 2028, 2029, 202F, 205F, 2060, 3000, FEFF
 white : map whiteSpace

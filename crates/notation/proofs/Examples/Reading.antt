@@ -53,10 +53,10 @@ rejected = refl
 
 -- one flag off
 abbrev without-hsc1 : Features
-without-hsc1 = record { layers = record { «inverted_layers» = true; «layer_sets» = true; «hsc1_layer_ranges» = false }; «generalized_rotations» = true; «transform_constraints» = true; megaminx = true; sq1 = true }
+without-hsc1 = record { layers = record { «inverted_layers» = true; «layer_sets» = true; «hsc1_layer_ranges» = false }; «generalized_rotations» = true; «transform_constraints» = true; megaminx = true; sq1 = true; «curly_primes» = false }
 
 abbrev without-megaminx : Features
-without-megaminx = record { layers = WCA .layers; «generalized_rotations» = false; «transform_constraints» = false; megaminx = false; sq1 = true }
+without-megaminx = record { layers = WCA .layers; «generalized_rotations» = false; «transform_constraints» = false; megaminx = false; sq1 = true; «curly_primes» = false }
 
 flags : (refusals without-hsc1 ("{1-3, 5}R" ∷ "{1..3, 5}R" ∷ []) ≡ 4 ∷ 0 ∷ [])
     × (refusals without-megaminx ("R++" ∷ "/" ∷ []) ≡ 4 ∷ 0 ∷ [])
