@@ -1,16 +1,16 @@
-// The Rust's charsets.rs: the character sets of family names. A character is its code point.
+// The Rust's charsets.rs: the character sets of family names; and the primes, which are none of theirs. A character is its code point.
 
 use notation::charsets::CharSet;
 use notation::charsets::Class;
 ghost use mathlib.Core.Path.{_≡_};
 ghost use Prim.Native.Nat.{_≤_};
-ghost use Rattle.notation.specs.Basics.{between};
-ghost use Rattle.notation.specs.Chars.{classNumber, classify, isFamilyChar, isGreekLetter, isLatinLetter, whiteSpace};
+ghost use Rattle.notation.specs.Basics.{between, oneOf};
+ghost use Rattle.notation.specs.Chars.{classNumber, classify, curlyPrimes, isFamilyChar, isGreekLetter, isLatinLetter, isPrime, whiteSpace};
 
 // The class number of each code point below 1,024: 0 outside, then the sets in the order of `CharSet`.
 const CLASSES: [u8; 1024] = [
     0, 0, 0, 0, 0, 0, 0, 0, 0, 0, 0, 0, 0, 0, 0, 0, 0, 0, 0, 0, 0, 0, 0, 0, 0, 0, 0, 0, 0, 0, 0, 0,
-    0, 0, 0, 0, 0, 0, 0, 0, 0, 0, 0, 0, 0, 0, 0, 0, 0, 0, 0, 0, 0, 0, 0, 0, 0, 0, 0, 0, 0, 0, 0, 0,
+    0, 0, 0, 0, 0, 0, 0, 7, 0, 0, 0, 0, 0, 0, 0, 0, 0, 0, 0, 0, 0, 0, 0, 0, 0, 0, 0, 0, 0, 0, 0, 0,
     0, 2, 2, 2, 2, 2, 2, 2, 2, 2, 2, 2, 2, 2, 2, 2, 2, 2, 2, 2, 2, 2, 2, 2, 2, 2, 2, 0, 0, 0, 0, 6,
     0, 1, 1, 1, 1, 1, 1, 1, 1, 1, 1, 1, 1, 1, 1, 1, 1, 1, 1, 1, 1, 1, 1, 1, 1, 1, 1, 0, 0, 0, 0, 0,
     0, 0, 0, 0, 0, 0, 0, 0, 0, 0, 0, 0, 0, 0, 0, 0, 0, 0, 0, 0, 0, 0, 0, 0, 0, 0, 0, 0, 0, 0, 0, 0,
@@ -43,10 +43,23 @@ const CLASSES: [u8; 1024] = [
     0, 0, 0, 0, 0, 0, 0, 0, 0, 0, 0, 0, 0, 0, 0, 0, 0, 0, 0, 0, 0, 0, 0, 0, 0, 0, 0, 0, 0, 0, 0, 0,
 ];
 
+// The primes past the table's end, which word processors write for an apostrophe.
+fn is_curly_prime(c: u32) -> bool
+    ensures { λ r. ⌜ r ≡ oneOf curlyPrimes c ⌝ }
+{
+    match c {
+        0x2019 | 0x2032 => true,
+        _ => false,
+    }
+}
+
 fn class_number(c: u32) -> u8
     ensures { λ r. ⌜ r ≡ classNumber (classify c) ⌝ }
 {
-    if c < 1024 { CLASSES[c as usize] } else { 0 }
+    if c < 1024 {
+        return CLASSES[c as usize];
+    }
+    if is_curly_prime(c) { 7 } else { 0 }
 }
 
 pub fn classify(c: u32) -> Class
@@ -59,6 +72,7 @@ pub fn classify(c: u32) -> Class
         4 => Class::In(CharSet::TallLowercaseGreek),
         5 => Class::In(CharSet::ShortLowercaseGreek),
         6 => Class::In(CharSet::Underscore),
+        7 => Class::In(CharSet::Prime),
         _ => Class::Outside,
     }
 }
@@ -72,14 +86,24 @@ pub fn is_ascii_family_char(c: u32) -> bool
     is_latin_letter(c) || c == 0x5f
 }
 
-// Whether a family name may hold the character.
+// Whether a family name may hold the character: one that has a class, and is no prime.
 pub fn is_family_char(c: u32) -> bool
     ensures { λ r. ⌜ r ≡ isFamilyChar c ⌝ }
 {
     if c <= 0x7f {
         return is_ascii_family_char(c);
     }
-    class_number(c) != 0
+    match class_number(c) {
+        0 | 7 => false,
+        _ => true,
+    }
+}
+
+// Whether the character is a prime. There are three, so that it does without the table as well.
+pub fn is_prime(c: u32) -> bool
+    ensures { λ r. ⌜ r ≡ isPrime c ⌝ }
+{
+    c == 0x27 || is_curly_prime(c)
 }
 
 // a <= x <= b

@@ -1,4 +1,4 @@
-// Characters and texts: which characters a family name may hold, what is white space, and UTF-8.
+// Characters and texts: which characters a family name may hold, what is a prime, what is white space, and UTF-8.
 
 pub mod charsets;
 pub mod utf8;
@@ -7,10 +7,12 @@ pub use charsets::classify;
 pub use charsets::is_family_char;
 pub use charsets::is_greek_letter;
 pub use charsets::is_latin_letter;
+pub use charsets::is_prime;
 pub use charsets::is_whitespace;
 pub use utf8::char_width;
 pub use utf8::code_point;
 pub use utf8::family_end;
 pub use utf8::is_utf8;
+pub use utf8::prime_width;
 pub use utf8::whitespace_end;
 pub use utf8::whitespace_width;

@@ -4,6 +4,7 @@ use crate::charsets::between;
 use crate::charsets::is_ascii_family_char;
 use crate::charsets::is_ascii_whitespace;
 use crate::charsets::is_family_char;
+use crate::charsets::is_prime;
 use crate::charsets::is_whitespace;
 ghost use mathlib.Core.Path.{_≡_};
 ghost use mathlib.Core.Bool.{true, _&&_};
@@ -11,7 +12,7 @@ ghost use Prim.Native.Nat.{_+_, _%_, _<_, _≤_};
 ghost use lib.Dec.{eqb};
 ghost use lib.ListN.{length, drop};
 ghost use Rattle.notation.specs.Basics.{between, pick};
-ghost use Rattle.notation.specs.Chars.{isFamilyChar, whiteSpace};
+ghost use Rattle.notation.specs.Chars.{isFamilyChar, isPrime, whiteSpace};
 ghost use Rattle.notation.specs.Utf8.{byteAt, charWidth, codePoint, continuation, run, utf8, widthIf};
 
 // The byte at i; past the end 256, which is no byte.
@@ -170,6 +171,17 @@ pub fn whitespace_width(s: &[u8], at: usize) -> usize
     ensures { λ r. ⌜ r ≡ widthIf whiteSpace (drop at (now (s .entry))) ⌝ }
 {
     width(s, at, true)
+}
+
+// How many bytes the prime at `at` takes, 0 where none stands there.
+pub fn prime_width(s: &[u8], at: usize) -> usize
+    ensures { λ r. ⌜ r ≡ widthIf isPrime (drop at (now (s .entry))) ⌝ }
+{
+    let width = char_width(s, at);
+    if width == 0 {
+        return 0;
+    }
+    width_if(is_prime(code_point(s, at)), width)
 }
 
 // Whether eight bytes stand from `at` on, all of them ASCII. They are joined and tested once, so that no test stands between

@@ -103,8 +103,9 @@ constraintsReading text r = read (spanOption (r .part)) (r .next) (drop (r .next
 abbrev pub multiplierReading : List ℕ → Multiplied → Reading ℤ
 multiplierReading text r = read (fromBits 32 (r .bits)) (r .next) (drop (r .next) text)
 
-abbrev pub withQuote : ℕ → Reader ℤ
-withQuote n = (do just "'"; done (negℤ (pos n))) or done (pos n)
+-- a number and the sign that negates it, or none
+abbrev pub signed : Reader (Unit {0}) → ℕ → Reader ℤ
+signed sign n = (do sign; done (negℤ (pos n))) or done (pos n)
 
 abbrev pub groupReading : List ℕ → Group → Reading GroupKind
 groupReading text r = read (r .kind) (r .next) (drop (r .next) text)
@@ -119,8 +120,8 @@ recordReading text leafAnswer.Nothing = rejected
 recordReading text (leafAnswer.Took f next) = read (listed f) next (drop next text)
 
 -- a node with its multiplier
-abbrev pub repeated : Reading (ℤ → Node Leaf) → Reading (List ℕ)
-repeated r = andThen r (λ inner. do m ← multiplier; done (nodeFields (inner m)))
+abbrev pub repeated : Features → Reading (ℤ → Node Leaf) → Reading (List ℕ)
+repeated f r = andThen r (λ inner. do m ← multiplier f; done (nodeFields (inner m)))
 
 abbrev pub leafRead : Reading Leaf → Reading (List ℕ)
 leafRead r = andThen r (λ x. done (leafFields x))
@@ -132,7 +133,7 @@ abbrev pub pairAfter : Reader (List ℕ)
 pairAfter = do u ← padded i32; just ","; d ← padded i32; just ")"; done (leafFields (tree.pair u d))
 
 abbrev pub scrambleOrMove : Features → Reader (List ℕ)
-scrambleOrMove f = (λ at s. scrambleRead (when (f .megaminx) megaminxScrambleMove at s)) or (λ at s. repeated (moveNode f at s))
+scrambleOrMove f = (λ at s. scrambleRead (when (f .megaminx) megaminxScrambleMove at s)) or (λ at s. repeated f (moveNode f at s))
 
 -- twice a sign
 abbrev pub twice : List ℕ → ℕ → ℕ → Bool

@@ -74,22 +74,22 @@ abbrev pub nested : Reader Tree → Reader (ℤ → Node Leaf)
 nested list = groupNode list or binaryGroupNode list
 
 -- a node that can be repeated, with its multiplier
-abbrev pub repeated : Reader (ℤ → Node Leaf) → Reader (Node Leaf)
-repeated p = do
+abbrev pub repeated : Features → Reader (ℤ → Node Leaf) → Reader (Node Leaf)
+repeated f p = do
   inner ← p
-  m ← multiplier
+  m ← multiplier f
   done (inner m)
 
 -- a closing bracket and the multiplier after it
-pub record CloseRead (text : List ℕ) (at bracket bits next : ℕ) : Type 0 where
+pub record CloseRead (f : Features) (text : List ℕ) (at bracket bits next : ℕ) : Type 0 where
   pub stands : eqb (byteAt text at) bracket ≡ true
-  pub reads : multiplier (at + 1) (drop (at + 1) text) ≡ read (fromBits 32 bits) next (drop next text)
+  pub reads : multiplier f (at + 1) (drop (at + 1) text) ≡ read (fromBits 32 bits) next (drop next text)
   pub advances : at < next
   pub inside : next ≤ length text
 
-abbrev pub Closed : List ℕ → ℕ → ℕ → Closing → Type 0
-Closed text at bracket (Closing′.Took bits next) = CloseRead text at bracket bits next
-Closed text at bracket Closing′.Nothing = eqb (byteAt text at) bracket ≡ false
+abbrev pub Closed : Features → List ℕ → ℕ → ℕ → Closing → Type 0
+Closed f text at bracket (Closing′.Took bits next) = CloseRead f text at bracket bits next
+Closed f text at bracket Closing′.Nothing = eqb (byteAt text at) bracket ≡ false
 
 abbrev pub binaryKind : List ℕ → ℕ → BinaryKind → Reading BinaryGroupKind
 binaryKind text at (BinaryKind′.Is k) = read k (at + 1) (drop (at + 1) text)

@@ -49,12 +49,12 @@ enum BinaryKind {
 }
 
 // A closing bracket and the multiplier after it.
-fn close(text: &[u8], at: usize, bracket: u8) -> Closing
+fn close(text: &[u8], at: usize, features: Features, bracket: u8) -> Closing
     requires { ⌜ at ≤ length (now text) ⌝ }
-    ensures { λ r. ⌜ nodes.Closed (now (text .entry)) at bracket r ⌝ }
+    ensures { λ r. ⌜ nodes.Closed features (now (text .entry)) at bracket r ⌝ }
 {
     if has(text, at, bracket) {
-        let m = multiplier(text, at + 1);
+        let m = multiplier(text, at + 1, features);
         Closing::Took(m.bits, m.next)
     } else {
         Closing::Nothing
@@ -167,7 +167,7 @@ fn any_group(
     tally: u64,
 ) -> NodeAnswer
     requires { ⌜ nodes.Within (now text) at slot tally ⌝ }
-    ensures { λ r. ⌜ nodes.Told (λ k. nodes.repeated (nodes.nested (rule.nodeList features k))) (now (text .entry)) at slot tally (now (tree .entry)) (now (tree .exit)) r ⌝ }
+    ensures { λ r. ⌜ nodes.Told (λ k. nodes.repeated features (nodes.nested (rule.nodeList features k))) (now (text .entry)) at slot tally (now (tree .entry)) (now (tree .exit)) r ⌝ }
 {
     if text.len() <= at {
         return NodeAnswer::Nothing;
@@ -189,14 +189,14 @@ fn group(
     tally: u64,
 ) -> NodeAnswer
     requires { ⌜ nodes.Within (now text) at slot tally × (at < length (now text)) ⌝ }
-    ensures { λ r. ⌜ nodes.Told (λ k. nodes.repeated (rule.groupNode (rule.nodeList features k))) (now (text .entry)) at slot tally (now (tree .entry)) (now (tree .exit)) r ⌝ }
+    ensures { λ r. ⌜ nodes.Told (λ k. nodes.repeated features (rule.groupNode (rule.nodeList features k))) (now (text .entry)) at slot tally (now (tree .entry)) (now (tree .exit)) r ⌝ }
 {
     let start = group_kind(text, at);
     let kind = start.kind;
     let open = start.next;
     if has(text, open, b'(') {
         let list = node_list(text, open + 1, features, tree, slot + 1, tally + OF_FIRST);
-        let Closing::Took(bits, next) = close(text, list.next, b')') else {
+        let Closing::Took(bits, next) = close(text, list.next, features, b')') else {
             return NodeAnswer::Nothing;
         };
         let first = (list.slot - (slot + 1)) as u32;
@@ -217,14 +217,14 @@ fn binary_group(
     tally: u64,
 ) -> NodeAnswer
     requires { ⌜ nodes.Within (now text) at slot tally × (at < length (now text)) × (getD (now text) at 0 ≡ 91) ⌝ }
-    ensures { λ r. ⌜ nodes.Told (λ k. nodes.repeated (rule.binaryGroupNode (rule.nodeList features k))) (now (text .entry)) at slot tally (now (tree .entry)) (now (tree .exit)) r ⌝ }
+    ensures { λ r. ⌜ nodes.Told (λ k. nodes.repeated features (rule.binaryGroupNode (rule.nodeList features k))) (now (text .entry)) at slot tally (now (tree .entry)) (now (tree .exit)) r ⌝ }
 {
     let a = node_list(text, at + 1, features, tree, slot + 1, tally + OF_FIRST);
     let BinaryKind::Is(kind) = binary_group_kind(text, a.next) else {
         return NodeAnswer::Nothing;
     };
     let b = node_list(text, a.next + 1, features, tree, a.slot, tally + OF_SECOND);
-    let Closing::Took(bits, next) = close(text, b.next, b']') else {
+    let Closing::Took(bits, next) = close(text, b.next, features, b']') else {
         return NodeAnswer::Nothing;
     };
     let first = (a.slot - (slot + 1)) as u32;

@@ -19,6 +19,7 @@ use crate::sets::constraint_set;
 use crate::sets::layer_after_hyphen;
 use crate::sets::layer_set;
 use charsets::family_end;
+use charsets::prime_width;
 use notation::common::GroupKind;
 use notation::features::Features;
 use numbers::decimal::Unsigned;
@@ -36,6 +37,7 @@ ghost use mathlib.Core.Bool.{true};
 ghost use Prim.Native.Nat.{_≤_, _<_};
 ghost use lib.Dec.{eqb};
 ghost use lib.ListN.{length, drop};
+ghost use Rattle.notation.specs.Chars.{isPrime};
 ghost use Rattle.notation.specs.Utf8.{byteAt};
 ghost use Rattle.notation.specs.Entries.{MAX-TEXT};
 ghost use Rattle.notation.specs.Grammar as rule;
@@ -139,30 +141,47 @@ fn constraints(text: &[u8], at: usize, features: Features) -> Constraints
     }
 }
 
-// The number `n`, or its opposite where `'` follows.
-fn with_quote(text: &[u8], at: usize, n: u32) -> Multiplied
+// The number `n`, or its opposite where a prime follows.
+fn with_any_prime(text: &[u8], at: usize, n: u32) -> Multiplied
     requires { ⌜ (at ≤ length (now text)) × (n ≤ 2147483647) ⌝ }
-    ensures { λ r. ⌜ means.multiplierReading (now (text .entry)) r ≡ means.withQuote n at (drop at (now (text .entry))) ⌝ }
+    ensures { λ r. ⌜ means.multiplierReading (now (text .entry)) r ≡ means.signed (rule.character isPrime) n at (drop at (now (text .entry))) ⌝ }
 {
-    if has(text, at, b'\'') {
-        Multiplied {
-            bits: negate(n),
-            next: at + 1,
-        }
-    } else {
-        Multiplied { bits: n, next: at }
+    let width = prime_width(text, at);
+    if width == 0 {
+        return Multiplied { bits: n, next: at };
+    }
+    Multiplied {
+        bits: negate(n),
+        next: at + width,
     }
 }
 
+// The same of the primes that are admitted. The apostrophe is the usual one and has a test of its own.
+fn with_prime(text: &[u8], at: usize, features: Features, n: u32) -> Multiplied
+    requires { ⌜ (at ≤ length (now text)) × (n ≤ 2147483647) ⌝ }
+    ensures { λ r. ⌜ means.multiplierReading (now (text .entry)) r ≡ means.signed (rule.prime features) n at (drop at (now (text .entry))) ⌝ }
+{
+    if has(text, at, b'\'') {
+        return Multiplied {
+            bits: negate(n),
+            next: at + 1,
+        };
+    }
+    if features.curly_primes {
+        return with_any_prime(text, at, n);
+    }
+    Multiplied { bits: n, next: at }
+}
+
 // How often a node is repeated: 1 where no number is written.
-pub fn multiplier(text: &[u8], at: usize) -> Multiplied
+pub fn multiplier(text: &[u8], at: usize, features: Features) -> Multiplied
     requires { ⌜ at ≤ length (now text) ⌝ }
-    ensures { λ r. ⌜ means.multiplierReading (now (text .entry)) r ≡ rule.multiplier at (drop at (now (text .entry))) ⌝ }
+    ensures { λ r. ⌜ means.multiplierReading (now (text .entry)) r ≡ rule.multiplier features at (drop at (now (text .entry))) ⌝ }
 {
     let Unsigned::Took(n, end) = uint(text, at, 0, MAX) else {
-        return with_quote(text, at, 1);
+        return with_prime(text, at, features, 1);
     };
-    with_quote(text, end, n)
+    with_prime(text, end, features, n)
 }
 
 // What stands before the `(` of a group.
@@ -198,7 +217,7 @@ pub fn group_kind(text: &[u8], at: usize) -> Group
 fn rotation(text: &[u8], at: usize, features: Features) -> LeafAnswer
     requires { ⌜ (at < length (now text)) × (length (now text) ≤ MAX-TEXT) ⌝ }
     requires { ⌜ eqb (byteAt (now text) at) 64 ≡ true ⌝ }
-    ensures { λ r. ⌜ means.recordReading (now (text .entry)) r ≡ means.repeated (rule.rotationNode features at (drop at (now (text .entry)))) ⌝ }
+    ensures { λ r. ⌜ means.recordReading (now (text .entry)) r ≡ means.repeated features (rule.rotationNode features at (drop at (now (text .entry)))) ⌝ }
 {
     if features.generalized_rotations {
         let from = at + 1;
@@ -206,7 +225,7 @@ fn rotation(text: &[u8], at: usize, features: Features) -> LeafAnswer
         let family = family_span(from, end);
         let set = constraints(text, end, features);
         let part = set.part;
-        let times = multiplier(text, set.next);
+        let times = multiplier(text, set.next, features);
         return LeafAnswer::Took(
             rotation_fields(Rotation {
                 family,
@@ -222,7 +241,7 @@ fn rotation(text: &[u8], at: usize, features: Features) -> LeafAnswer
 // A move: layers, a family of at least one character, constraints and a multiplier.
 fn move_(text: &[u8], at: usize, features: Features) -> LeafAnswer
     requires { ⌜ (at ≤ length (now text)) × (length (now text) ≤ MAX-TEXT) ⌝ }
-    ensures { λ r. ⌜ means.recordReading (now (text .entry)) r ≡ means.repeated (rule.moveNode features at (drop at (now (text .entry)))) ⌝ }
+    ensures { λ r. ⌜ means.recordReading (now (text .entry)) r ≡ means.repeated features (rule.moveNode features at (drop at (now (text .entry)))) ⌝ }
 {
     let sign = tilde(text, at, features);
     let prefix = layer_prefix_contents(text, sign.next, features);
@@ -235,7 +254,7 @@ fn move_(text: &[u8], at: usize, features: Features) -> LeafAnswer
     let family = family_span(from, end);
     let set = constraints(text, end, features);
     let part = set.part;
-    let times = multiplier(text, set.next);
+    let times = multiplier(text, set.next, features);
     LeafAnswer::Took(
         move_fields(Move {
             inverted: sign.inverted,

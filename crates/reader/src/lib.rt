@@ -64,11 +64,11 @@ impl<'a> Reader<'a> {
     }
 
     // The 32 bits of a multiplier: 1 where no number is written.
-    pub fn multiplier(&mut self) -> u32
+    pub fn multiplier(&mut self, features: Features) -> u32
         requires { ⌜ cursor.Inside (now self) ⌝ }
-        ensures { λ m. ⌜ (cursor.reads (rule.done (fromBits 32 m)) (now (self .exit)) ≡ cursor.reads rule.multiplier (now (self .entry))) × cursor.Moves rule.multiplier (now (self .entry)) (now (self .exit)) ⌝ }
+        ensures { λ m. ⌜ (cursor.reads (rule.done (fromBits 32 m)) (now (self .exit)) ≡ cursor.reads (rule.multiplier features) (now (self .entry))) × cursor.Moves (rule.multiplier features) (now (self .entry)) (now (self .exit)) ⌝ }
     {
-        let times = parse::multiplier(self.text, self.at);
+        let times = parse::multiplier(self.text, self.at, features);
         self.at = times.next;
         times.bits
     }

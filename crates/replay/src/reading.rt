@@ -9,8 +9,8 @@ use crate::report;
 use crate::text;
 use notation::features;
 
-// All seven flags.
-pub const MAX_BITS: usize = 127;
+// All eight flags.
+pub const MAX_BITS: usize = 255;
 
 // Puts the answer of the case `given` into `line`, and answers its length.
 pub fn case(given: &[u8], text: &mut [u8], tree: &mut [u8], line: &mut [u8]) -> Decoded
