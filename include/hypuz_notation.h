@@ -52,6 +52,8 @@ extern "C" {
 #define HYPUZ_TRANSFORM_CONSTRAINTS 16u
 #define HYPUZ_MEGAMINX 32u
 #define HYPUZ_SQ1 64u
+/* U+2019 and U+2032 in a multiplier, read as an apostrophe. On in no named setting: add it to one. */
+#define HYPUZ_CURLY_PRIMES 128u
 #define HYPUZ_WCA (HYPUZ_MEGAMINX | HYPUZ_SQ1)
 #define HYPUZ_MAXIMAL 127u
 
