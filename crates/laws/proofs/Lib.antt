@@ -18,6 +18,7 @@ pub mod Walking
 pub mod InRange
 pub mod Readers
 pub mod Runs
+pub mod Characters
 pub mod Braces
 pub mod LayerSets
 pub mod ReadingYields

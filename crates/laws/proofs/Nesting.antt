@@ -14,15 +14,15 @@ use lib.IntN.{ℤ}
 use lib.ListN.{length, take, drop}
 use borrow.Author.Tests.{eqb-true}
 use Rattle.notation.specs.Basics.{pick, between, every}
-use Rattle.notation.specs.Chars.{isFamilyChar, whiteSpace}
-use Rattle.notation.specs.Utf8.{run}
+use Rattle.notation.specs.Chars.{isFamilyChar, isPrime, whiteSpace}
+use Rattle.notation.specs.Utf8.{widthIf, run}
 use Rattle.notation.specs.Numbers.{digitRun, decimal}
 use Rattle.notation.specs.Tree.{span, Leaf, Node, nil, cons, Tree}
 use Rattle.notation.specs.Grammar.{
   Reading, rejected, read, Reader, done, fail, andThen, orElse, _or_, when, just, word, takeWhile, whitespace, someWhitespace, padded,
-  spanned, uint, sint, multiplier, collect, moreOf, separatedBy, braces, family, familyText, constraint, constraintSet, layerSetElement,
+  spanned, uint, sint, prime, multiplier, collect, moreOf, separatedBy, braces, family, familyText, constraint, constraintSet, layerSetElement,
   layerSetElements, layerPrefixContents, constraints, rotationNode, moveNode, groupKind, groupNode, binaryGroupKind, binaryGroupNode,
-  megaminxScrambleMove, sq1Move, node, nodeList, atEnd, notation
+  megaminxScrambleMove, sq1Move, node, nodeList, atEnd, notation, nodeBy, nodeListBy, notationBy
 }
 use Rattle.notation.specs.Grammar as G
 use Rattle.notation.specs.Print.{put}
@@ -31,7 +31,7 @@ use Rattle.notation.specs.declared.features.Features.{Features}
 use Rattle.laws.proofs.Bools.{and-left, and-right, no-some}
 use Rattle.laws.proofs.Parens.{leafParens, nodeParens, bodyParens, parens}
 use Rattle.laws.proofs.PlainBytes.{
-  plain, plain-digits, plain-whites, plain-families, over-plain, drop-plains, Ok, along, room, opening, closing
+  plain, plain-digits, plain-whites, plain-families, plain-primes, over-plain, drop-plains, Ok, along, room, opening, closing
 }
 
 -- what a reading leaves: o are open, and P of what was read
@@ -177,8 +177,11 @@ sint-plain : {o : ℕ} (low high highNegative : ℕ) → Plain o (sint low high 
 sint-plain low high highNegative =
     either (just-plain "-" refl then λ _. uint-plain low highNegative then λ _. finished tt) (uint-plain low high then λ _. finished tt)
 
-multiplier-plain : {o : ℕ} → Plain o multiplier
-multiplier-plain = either (uint-plain _ _) (finished tt) then λ _. either (just-plain "'" refl then λ _. finished tt) (finished tt)
+prime-plain : {o : ℕ} (f : Features) → Plain o (prime f)
+prime-plain f = either (just-plain "'" refl) (admitted (f .«curly_primes») (taking (λ s. ltb 0 (widthIf isPrime s)) _ (widthIf isPrime) plain-primes))
+
+multiplier-plain : {o : ℕ} (f : Features) → Plain o (multiplier f)
+multiplier-plain f = either (uint-plain _ _) (finished tt) then λ _. either (prime-plain f then λ _. finished tt) (finished tt)
 
 braces-plain : {A : Type 0} {o : ℕ} {item : Reader A} → Plain o item → Plain o (braces item)
 braces-plain g =
@@ -275,17 +278,17 @@ module _ {o : ℕ} {list : Reader Tree} (g : Goes (suc o) (suc o) (λ t. parens 
       next λ _ _. finished (λ m. omega arith)
 
   node-goes : (f : Features) → Goes o o (λ n. nodeParens n ≤ 64 - o) (node f list)
-  unfolding node nodeParens
+  unfolding nodeBy nodeParens
   node-goes f =
       either (just-plain "." refl then λ _. finished (omega arith))
       (either (admitted (f .megaminx) (megaminx-plain then λ _. finished (omega arith)))
       (either
         (either (rotation-goes f) (either group-goes (either binaryGroup-goes (move-goes f)))
-          next λ _ h. multiplier-plain then λ m. finished (h m))
+          next λ _ h. multiplier-plain f then λ m. finished (h m))
       (admitted (f .sq1) (sq1-goes next λ _ h. finished h))))
 
 list-goes : (f : Features) (k o : ℕ) → Goes o o (λ t. parens t ≤ 64 - o) (nodeList f k)
-unfolding nodeList parens
+unfolding nodeListBy parens
 list-goes f zero o = rejects
 list-goes f (suc k) o =
     padded-goes (separated cons nil (node-goes (list-goes f k (suc o)) f) someWhites (omega arith) (λ n l h h′. omega arith))
@@ -297,7 +300,7 @@ at-end o P a (read b at []) l e = subst P (cc) (l .1)
 at-end o P a (read b at (x ∷ s)) l e = no-some (sym e)
 
 pub reading-parens : (f : Features) (text : List ℕ) (t : Tree) → notation f text ≡ some t → nestingOk 0 0 text ≡ true → parens t ≤ 64
-unfolding notation
+unfolding notationBy
 reading-parens f text t e h =
     let k = suc (length text) in
     at-end 0 (λ (x : Tree). parens x ≤ 64) t (nodeList f k 0 text) (list-goes f k 0 .leaves 0 text (record { passes = h })) e

@@ -10,7 +10,7 @@ use lib.Dec.{leb, eqb, leb·suc-suc}
 use lib.ListN.{take, drop, take-append-drop}
 use borrow.Author.Tests.{eqb-true, leb-true, leb-false, le-leb}
 use Rattle.notation.specs.Basics.{pick, choose, between, oneOf, every}
-use Rattle.notation.specs.Chars.{isFamilyChar, classify, whiteSpace}
+use Rattle.notation.specs.Chars.{isFamilyChar, isPrime, classify, whiteSpace}
 use Rattle.notation.specs.Utf8.{byteAt, continuation, charWidth, codePoint, afterFirst, widthIf, runFrom, run}
 use Rattle.notation.specs.Numbers.{isDigit, digitRun}
 use Rattle.notation.specs.WellFormed.{MAX-NESTING}
@@ -44,6 +44,10 @@ plain-family b e = passes-plain isFamilyChar refl refl refl refl b e
 plain-white : (b : ℕ) → whiteSpace b ≡ true → plain b ≡ true
 unfolding whiteSpace oneOf
 plain-white b e = passes-plain whiteSpace refl refl refl refl b e
+
+plain-prime : (b : ℕ) → isPrime b ≡ true → plain b ≡ true
+unfolding classify oneOf
+plain-prime b e = passes-plain isPrime refl refl refl refl b e
 
 pub plain-digit : (b : ℕ) → isDigit b ≡ true → plain b ≡ true
 plain-digit b e = passes-plain isDigit refl refl refl refl b e
@@ -192,6 +196,11 @@ low-point : (b : ℕ) (s : List ℕ) → leb b 0x7f ≡ true → codePoint (b �
 unfolding codePoint
 low-point b s e = rw e
 
+highs-plain : (l : List ℕ) → every high l ≡ true → every plain l ≡ true
+unfolding every
+highs-plain [] e = refl
+highs-plain (b ∷ l) e = and-both (plain b) _ (plain-high b (and-left _ _ e)) (highs-plain l (and-right (high b) _ e))
+
 -- A run of characters that pass a test of plain bytes is plain.
 module _ (p : ℕ → Bool) (q : (b : ℕ) → p b ≡ true → plain b ≡ true) where
   first-plain : (b : ℕ) (s : List ℕ) → p (codePoint (b ∷ s)) ≡ true → plain b ≡ true
@@ -207,6 +216,20 @@ module _ (p : ℕ → Bool) (q : (b : ℕ) → p b ≡ true → plain b ≡ true
       go : (t : Bool) → p (codePoint (b ∷ s)) ≡ t → pick t (charWidth (b ∷ s)) 0 ≡ suc k → (plain b ≡ true) × (every high (take k s) ≡ true)
       go true e w = (first-plain b s e, width-highs b k s w)
       go false e w = absurd (omega arith)
+
+  -- a character
+  plain-character : (s : List ℕ) → every plain (take (widthIf p s) s) ≡ true
+  unfolding every
+  plain-character [] = go (widthIf p [])
+    where
+      go : (n : ℕ) → every plain (take n []) ≡ true
+      go zero = refl
+      go (suc n) = refl
+  plain-character (b ∷ s) = go (widthIf p (b ∷ s)) refl
+    where
+      go : (n : ℕ) → widthIf p (b ∷ s) ≡ n → every plain (take n (b ∷ s)) ≡ true
+      go zero e = refl
+      go (suc k) e = let w = width-plain b k s e in and-both (plain b) _ (w .0) (highs-plain (take k s) (w .1))
 
   plain-run : (k : ℕ) (s : List ℕ) → every high (take k s) ≡ true → every plain (take (runFrom p k s) s) ≡ true
   unfolding runFrom every
@@ -226,3 +249,6 @@ plain-families s = plain-run isFamilyChar plain-family 0 s refl
 pub plain-whites : (s : List ℕ) → every plain (take (run whiteSpace s) s) ≡ true
 unfolding every
 plain-whites s = plain-run whiteSpace plain-white 0 s refl
+
+pub plain-primes : (s : List ℕ) → every plain (take (widthIf isPrime s) s) ≡ true
+plain-primes s = plain-character isPrime plain-prime s

@@ -19,7 +19,7 @@ use mathlib.Core.Option.{some}
 use lib.ListN.{length}
 use native.Mathlib.Omega.{arith}
 use Rattle.notation.specs.Tree.{Step, NodeList, Tree}
-use Rattle.notation.specs.Grammar.{Reading, atEnd, notation}
+use Rattle.notation.specs.Grammar.{Reading, atEnd, notation, notationBy}
 use Rattle.notation.specs.Meaning.{unspanned}
 use Rattle.notation.specs.Print.{putNodes}
 use Rattle.notation.specs.WellFormed.{depth}
@@ -37,7 +37,7 @@ whole-text g = (g .value, ap atEnd (g .is), g .passes)
 -- reading the printed text gives a tree whose unspanned form is the one that was printed
 pub reads-back : (f : Features) (u : NodeList Step) → inRange f u ≡ true →
     (t : Tree) × (notation f (putNodes u []) ≡ some t) × (unspanned (putNodes u []) t ≡ u)
-unfolding notation
+unfolding notationBy
 reads-back f u h =
     let text : List ℕ = putNodes u [] in
     let deep : depth u ≤ length text = omega (arith, nodes-deep u f [] h) in

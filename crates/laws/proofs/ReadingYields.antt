@@ -22,9 +22,9 @@ use Rattle.notation.specs.Tree.{
 }
 use Rattle.notation.specs.Packed.{familyAt, nowhere, nodeSize, bodySize, size}
 use Rattle.notation.specs.Grammar.{
-  Reading, rejected, read, Reader, done, andThen, when, spanned, sint, i32, layer, signedLayer, multiplier, MAX-I32, braces, family, familyText, constraint,
+  Reading, rejected, read, Reader, done, andThen, when, spanned, sint, i32, layer, signedLayer, prime, multiplier, MAX-I32, braces, family, familyText, constraint,
   constraintSet, layerSetElement, layerSetElements, layerPrefixContents, constraints, rotationNode, tilde, moveNode, groupKind, groupNode,
-  binaryGroupKind, binaryGroupNode, repeatableNode, megaminxScrambleMove, sq1Move, node, nodeList, atEnd, notation
+  binaryGroupKind, binaryGroupNode, repeatableNodeBy, megaminxScrambleMove, sq1Move, node, nodeList, atEnd, notation, nodeBy, nodeListBy, notationBy
 }
 use Rattle.notation.specs.Meaning.{constraintsIn, layerSetIn, constraintMeaning, layerMeaning, stepOf, unspanned}
 use Rattle.notation.specs.WellFormed.{
@@ -41,6 +41,7 @@ use Rattle.laws.proofs.InRange.{
   familyInRange, nameInRange, constraintInRange, constraintsInRange, signedInRange, elementInRange, layersInRange, stepInRange,
   nodeInRange, bodyInRange, inRange
 }
+use Rattle.laws.proofs.Characters.{yields-prime}
 use Rattle.laws.proofs.Readers.{
   Place, anywhere, Took, Yields, Grows, not-read, pick-read, took-front, took-is, weaken, yields-done, yields-fail, yields-bind, yields-or, yields-when,
   yields-just, yields-word, yields-word-some, yields-someWhitespace, yields-padded, yields-uint, yields-separatedBy, run-le
@@ -77,12 +78,12 @@ module _ {c : Place} where
       negative : (n : ℕ) → between 0 2147483648 n ≡ true → fitsBits 32 (negℤ (pos n)) ≡ true
       negative n e = opposite-fits 32 n (leb-true n 2147483648 (and-right (leb 0 n) _ e))
 
-  yields-multiplier : Yields c multiplier (λ m n. multiplierOk m ≡ true)
-  yields-multiplier =
+  yields-multiplier : (f : Features) → Yields c (multiplier f) (λ m n. multiplierOk m ≡ true)
+  yields-multiplier f =
       yields-bind {Q = λ v n. v ≤ MAX-I32}
       (yields-or (weaken (yields-uint 0 MAX-I32) (λ v n h. leb-true v MAX-I32 (and-right (leb 0 v) _ (h .0)))) (yields-done (omega arith)))
       λ v n h.
-      yields-or (yields-bind (yields-just "'") λ _ _ _. yields-done (negative v h)) (yields-done (lt-ltb v 2147483648 (omega arith)))
+      yields-or (yields-bind (yields-prime f) λ _ _ _. yields-done (negative v h)) (yields-done (lt-ltb v 2147483648 (omega arith)))
     where
       negative : (n : ℕ) → n ≤ MAX-I32 → multiplierOk (negℤ (pos n)) ≡ true
       negative zero h = refl
@@ -480,14 +481,14 @@ module _ (f : Features) (text : List ℕ) where
         yields-bind (yields-just "]") λ _ l _.
         yields-done (λ m e. binary-good k a b m g g′ e (omega arith))
 
-    yields-repeatable : Yields (inText text) (repeatableNode f list) (NodeGood f text)
+    yields-repeatable : Yields (inText text) (repeatableNodeBy (prime f) f list) (NodeGood f text)
     yields-repeatable =
         yields-bind {Q = Waiting} (yields-or yields-rotation (yields-or yields-group (yields-or yields-binary yields-move))) λ x n w.
-        yields-bind yields-multiplier λ m k e.
+        yields-bind (yields-multiplier f) λ m k e.
         yields-done (node-grows (x m) n (n + (k + 0)) (omega arith) (w m e))
 
     yields-node : Yields (inText text) (node f list) (NodeGood f text)
-    unfolding node
+    unfolding nodeBy
     yields-node =
         yields-or (yields-bind (yields-just ".") λ _ n i. yields-done (pause-good (omega arith)))
         (yields-or (yields-when (f .megaminx) λ t. yields-bind yields-megaminx λ k n h. yields-done (megaminx-good k t (omega arith)))
@@ -495,7 +496,7 @@ module _ (f : Features) (text : List ℕ) where
         (yields-when (f .sq1) λ t. yields-bind (yields-sq1 t) λ x n g. yields-done (node-grows (leaf x) n (n + 0) (omega arith) g))))
 
   yields-list : (k : ℕ) → Yields (inText text) (nodeList f k) (TreeGood f text)
-  unfolding nodeList
+  unfolding nodeListBy
   yields-list zero = yields-fail
   yields-list (suc k) =
       yields-padded tree-grows
@@ -508,7 +509,7 @@ at-end (read b at []) e = (at, cc)
 at-end (read b at (x ∷ s)) e = no-some (sym e)
 
 pub reading-good : (f : Features) (text : List ℕ) (t : Tree) → notation f text ≡ some t → TreeGood f text t (length text)
-unfolding notation
+unfolding notationBy
 reading-good f text t e =
     let x = at-end (nodeList f (suc (length text)) 0 text) e in
     let y = yields-list f text (suc (length text)) .took 0 text (record { from = refl; ends = omega arith }) t (x .0) [] (x .1) in

@@ -11,7 +11,7 @@ use lib.IntN.{ℤ, pos, negℤ}
 use Rattle.notation.specs.Utf8.{byteAt}
 use Rattle.notation.specs.Tree as tree
 use Rattle.notation.specs.Tree.{Node, leaf, Leaf, Tree}
-use Rattle.notation.specs.Grammar.{Reading, rejected, read, Reader, andThen, orElse, _or_, done, fail, when, just, word, uint, multiplier, rotationNode, moveNode, groupKind, groupNode, binaryGroupNode, megaminxScrambleMove, sq1Move, node}
+use Rattle.notation.specs.Grammar.{Reading, rejected, read, Reader, andThen, orElse, _or_, done, fail, when, just, word, uint, multiplier, rotationNode, moveNode, groupKind, groupNode, binaryGroupNode, megaminxScrambleMove, sq1Move, node, nodeBy}
 use Rattle.notation.specs.declared.features.Features.{Features}
 use Rattle.notation.specs.declared.common.MegaminxScrambleMove.{MegaminxScrambleMove}
 use Rattle.parse.specs.Nodes.{nested}
@@ -48,7 +48,7 @@ abbrev pub nodeBy : Features → Reader (ℤ → Node Leaf) → Reader (Node Lea
 nodeBy f p at s = orElse (pause at s) (λ at s. orElse (scramble f at s) (λ at s. orElse (andThen (p at s) times) (sq1 f) at s) at s) at s
 
 pub node-by : (f : Features) (list : Reader Tree) (at : ℕ) (s : List ℕ) → node f list at s ≡ nodeBy f (inner f list) at s
-unfolding node
+unfolding nodeBy
 node-by f list at s = refl
 
 pub by-same : (f : Features) (p q : Reader (ℤ → Node Leaf)) (at : ℕ) (s : List ℕ) → p at s ≡ q at s → nodeBy f p at s ≡ nodeBy f q at s

@@ -16,7 +16,7 @@ use Rattle.notation.specs.Utf8.{utf8}
 use Rattle.notation.specs.Tree.{Tree}
 use Rattle.notation.specs.Packed.{RECORD, pack}
 use Rattle.notation.specs.Refusals.{Outcome, refusal, result, TOO-LONG, NOT-UTF8, TOO-NESTED, NOT-NOTATION, NO-ROOM}
-use Rattle.notation.specs.Grammar.{read, nodeList, notation}
+use Rattle.notation.specs.Grammar.{read, nodeList, notation, notationBy}
 use Rattle.notation.specs.Entries.{Lent, lend, MAX-TEXT, nestingOk, treeIn, reading, parseNotation}
 use Rattle.notation.specs.declared.features.Features.{Features}
 use Rattle.tally.specs.Tallies.{tallyList, Tallied}
@@ -79,11 +79,11 @@ module _ (f : Features) (text old : List ℕ) where
           whole = list .reads (suc (length text)) (omega arith)
 
           no-tree : next < length text → notation f text ≡ none
-          unfolding notation
+          unfolding notationBy
           no-tree h = rw (whole, drop-cons text next 0 h)
 
           a-tree : length text ≤ next → notation f text ≡ some (list .tree)
-          unfolding notation
+          unfolding notationBy
           a-tree h = rw (whole, drop-of-length-le text h)
 
           pub not-notation : next < length text → Answered (refusal NOT-NOTATION) (after ++ old)

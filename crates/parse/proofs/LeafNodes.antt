@@ -8,7 +8,7 @@ use lib.IntN.{ℤ}
 use lib.ListN.{length, drop, set}
 use Rattle.notation.specs.Tree.{Leaf, megaminx, Node, leaf, block}
 use Rattle.notation.specs.Packed.{RECORD, widths, layOut, leafFields, nodeSize}
-use Rattle.notation.specs.Grammar.{Reading, rejected, read, Reader, done, fail, andThen, orElse, when, multiplier, just, constraints, tilde, family, layerPrefixContents, rotationNode, moveNode, groupKind, groupNode, binaryGroupNode, megaminxScrambleMove, sq1Move, node}
+use Rattle.notation.specs.Grammar.{Reading, rejected, read, Reader, done, fail, andThen, orElse, when, multiplier, just, constraints, tilde, family, layerPrefixContents, rotationNode, moveNode, groupKind, groupNode, binaryGroupNode, megaminxScrambleMove, sq1Move, node, nodeBy}
 use Rattle.notation.specs.declared.features.Features.{Features}
 use Rattle.tally.specs.Tallies.{tallyNode}
 use Rattle.parse.specs.Meaning.{nodeFields}
@@ -65,7 +65,7 @@ module _ (f : Features) (at : ℕ) (s : List ℕ) where
   binary-leaf = each-then Leaves (just "[" at s) _ (λ _ at s. none)
 
   node-leaf : Each IsLeaf (node f fail at s)
-  unfolding node
+  unfolding nodeBy
   node-leaf =
       each-or IsLeaf _ _ at s (each-then IsLeaf (just "." at s) _ (λ _ at s. one tt))
       (each-or IsLeaf _ _ at s (each-when IsLeaf (f .megaminx) _ at s (each-then IsLeaf (megaminxScrambleMove at s) _ (λ k at s. one tt)))

@@ -9,7 +9,7 @@ use lib.Seq.{drop-drop}
 use Rattle.notation.specs.Chars.{whiteSpace}
 use Rattle.notation.specs.Utf8.{run}
 use Rattle.notation.specs.Tree.{Leaf, Node, nil, cons, Tree, append}
-use Rattle.notation.specs.Grammar.{Reading, rejected, read, Reader, done, andThen, _>>=_, _>>_, whitespace, someWhitespace, collect, moreOf, node, nodeList}
+use Rattle.notation.specs.Grammar.{Reading, rejected, read, Reader, done, andThen, _>>=_, _>>_, whitespace, someWhitespace, collect, moreOf, node, nodeList, nodeListBy}
 use Rattle.notation.specs.declared.features.Features.{Features}
 
 -- White space after a list.
@@ -23,7 +23,7 @@ rest item fuel at s = andThen (collect cons nil (item at s) (moreOf cons nil ite
 -- a list is what is left after the white space before it
 pub list-start : (f : Features) (k at next : ℕ) (text : List ℕ) → next ≡ at + run whiteSpace (drop at text) →
     nodeList f (suc k) at (drop at text) ≡ rest (node f (nodeList f k)) (length (drop next text)) next (drop next text)
-unfolding nodeList
+unfolding nodeListBy
 list-start f k at next text e =
     rw (e, ← drop-drop (run whiteSpace (drop at text)) at text)
 

@@ -15,7 +15,7 @@ use Rattle.notation.specs.Numbers.{isDigit, digitRun}
 use Rattle.notation.specs.Utf8.{run, byteAt, codePoint, widthIf}
 use Rattle.notation.specs.Tree as tree
 use Rattle.notation.specs.Tree.{Node, leaf, Leaf, Tree, nil, block, group}
-use Rattle.notation.specs.Grammar.{Reading, rejected, read, Reader, andThen, orElse, done, fail, when, just, uint, i32, padded, groupNode, binaryGroupNode, sq1Move, node, nodeList}
+use Rattle.notation.specs.Grammar.{Reading, rejected, read, Reader, andThen, orElse, done, fail, when, just, uint, i32, padded, groupNode, binaryGroupNode, sq1Move, node, nodeList, nodeListBy}
 use Rattle.notation.specs.declared.features.Features.{Features}
 use Rattle.notation.specs.declared.common.GroupKind.the-variants.{Simple}
 use Rattle.charsets.proofs.Bools.{or-true}
@@ -70,7 +70,7 @@ module _ (s : List ℕ) (n : Numeric s) where
 -- so a list ends before it, and no parenthesis closes there
 no-list : (f : Features) (k at : ℕ) (u : List ℕ) → Numeric (drop (run whiteSpace u) u) → {A : Type 0} (g : Tree → Reader A) →
     andThen (nodeList f k at u) (λ a at s. andThen (just ")" at s) (λ _. g a)) ≡ rejected
-unfolding nodeList oneOf upTo
+unfolding nodeListBy oneOf upTo
 no-list f zero at u n g = refl
 no-list f (suc k) at u n g =
     let s : List ℕ = drop (run whiteSpace u) u in

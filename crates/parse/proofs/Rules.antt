@@ -7,7 +7,7 @@ use mathlib.Core.List.{List}
 use native.Mathlib.Omega.{arith}
 use lib.ListN.{length, drop}
 use Rattle.notation.specs.Tree.{Span, span}
-use Rattle.notation.specs.Grammar.{Reading, rejected, read, Reader, andThen, done, fail, just, word, sint, multiplier, spanned, constraint, constraintSet, layerSetElement, layerSetElements, layerPrefixContents, constraints, rotationNode, tilde, moveNode, groupNode, binaryGroupNode, megaminxScrambleMove, sq1Move, node}
+use Rattle.notation.specs.Grammar.{Reading, rejected, read, Reader, andThen, done, fail, just, word, sint, multiplier, spanned, constraint, constraintSet, layerSetElement, layerSetElements, layerPrefixContents, constraints, rotationNode, tilde, moveNode, groupNode, binaryGroupNode, megaminxScrambleMove, sq1Move, node, nodeBy}
 use Rattle.notation.specs.declared.features.Features.{Features}
 use Rattle.notation.specs.declared.common.MegaminxScrambleMove.{MegaminxScrambleMove}
 use Rattle.parse.specs.Meaning.{forget, elementOf, layerAfterHyphen, layerAfterDots, numberedLayers, recordReading, nodeFields, Within}
@@ -140,7 +140,7 @@ takes-sq1 =
     (λ u. first (takes-just ",") (λ _. first (takes-padded (takes-sint 0 2147483647 2147483648)) (λ d. first (takes-just ")") (λ _. takes-done))))))
 
 pub takes-node : (f : Features) → Takes 1 (node f fail)
-unfolding node
+unfolding nodeBy
 takes-node f =
     takes-or (first (takes-just ".") (λ _. takes-done))
     (takes-or (takes-when (f .megaminx) (first takes-scramble (λ k. takes-done)))

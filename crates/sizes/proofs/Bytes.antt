@@ -20,7 +20,7 @@ use Rattle.notation.specs.Tree.{
 use Rattle.notation.specs.Packed.{familyAt, nowhere, orNowhere, bit}
 use Rattle.notation.specs.Grammar.{
   Reader, done, when, spanned, i32, layer, MAX-I32, family, constraintSet, layerPrefixContents, constraints, rotationNode, tilde, moveNode, groupKind,
-  groupNode, binaryGroupKind, binaryGroupNode, repeatableNode, megaminxScrambleMove, sq1Move, node, nodeList, notation
+  groupNode, binaryGroupKind, binaryGroupNode, repeatableNodeBy, prime, megaminxScrambleMove, sq1Move, node, nodeList, notation, nodeBy, nodeListBy, notationBy
 }
 use Rattle.notation.specs.Invert.{undo}
 use Rattle.notation.specs.declared.features.Features.{Features}
@@ -206,13 +206,13 @@ module _ {c : Place} where
         yields-bind lists λ b j′ g′. yields-bind (yields-just "]") λ _ l i₂.
         yields-done (λ m. omega arith)
 
-    yields-repeatable : Yields c (repeatableNode f list) (λ x n. nodeBytes x ≤ n)
+    yields-repeatable : Yields c (repeatableNodeBy (prime f) f list) (λ x n. nodeBytes x ≤ n)
     yields-repeatable =
         yields-bind {Q = Waiting} (yields-or (yields-rotation f) (yields-or yields-group (yields-or yields-binary (yields-move f)))) λ x n w.
-        yields-bind yields-multiplier λ m k e. yields-done (omega (arith, w m))
+        yields-bind (yields-multiplier f) λ m k e. yields-done (omega (arith, w m))
 
     yields-node : Yields c (node f list) (λ x n. nodeBytes x ≤ n)
-    unfolding node nodeBytes leafBytes
+    unfolding nodeBy nodeBytes leafBytes
     yields-node =
         yields-or (yields-bind (yields-just ".") λ _ n i. yields-done (omega arith))
         (yields-or (yields-when (f .megaminx) λ _. yields-bind yields-megaminx λ k n h. yields-done (omega arith))
@@ -220,7 +220,7 @@ module _ {c : Place} where
         (yields-when (f .sq1) λ _. yields-bind yields-sq1 λ x n g. yields-done (omega arith))))
 
   yields-list : (f : Features) (k : ℕ) → Yields c (nodeList f k) (λ t n. bytes t ≤ n)
-  unfolding nodeList bytes
+  unfolding nodeListBy bytes
   yields-list f zero = yields-fail
   yields-list f (suc k) =
       yields-padded (λ t n m h q. omega arith)
@@ -228,5 +228,5 @@ module _ {c : Place} where
         (yields-node f (nodeList f k) (yields-list f k)) yields-someWhitespace)
 
 pub reading-bytes : (f : Features) (text : List ℕ) (t : Tree) → notation f text ≡ some t → bytes t ≤ length text
-unfolding notation
+unfolding notationBy
 reading-bytes f text t e = whole text (yields-list f (suc (length text))) e

@@ -13,6 +13,8 @@ use Rattle.notation.specs.Numbers.{isDigit, digitRun, decimal, showFrom, show, 
 use Rattle.notation.specs.Grammar.{uint, sint, multiplier, MAX-I32}
 use Rattle.notation.specs.Print.{putPrime, putMultiplier}
 use Rattle.laws.proofs.Bools.{and-left, and-right}
+use Rattle.laws.proofs.Characters.{yields-prime}
+use Rattle.notation.specs.declared.features.Features.{Features}
 use Rattle.laws.proofs.Readers.{
   Place, Yields, pick-read, took-front, took-is, weaken, yields-done, yields-bind, yields-or, yields-just
 }
@@ -134,12 +136,12 @@ module _ {c : Place} where
         yields-done (omega (arith, negative-digits v)))
       (yields-bind (yields-uint low high) λ v n h. yields-done (omega arith))
 
-  pub yields-multiplier : Yields c multiplier (λ m n. repeats (natAbs m) ≤ n)
-  yields-multiplier =
+  pub yields-multiplier : (f : Features) → Yields c (multiplier f) (λ m n. repeats (natAbs m) ≤ n)
+  yields-multiplier f =
       yields-bind {Q = λ v n. repeats v ≤ n}
       (yields-or (weaken (yields-uint 0 MAX-I32) (λ v n h. omega (arith, repeats-most v))) (yields-done (omega arith)))
       λ v n h.
-      yields-or (yields-bind (yields-just "'") λ _ k _. yields-done (rw (natAbs-neg (pos v)) (omega arith))) (yields-done (omega arith))
+      yields-or (yields-bind (yields-prime f) λ _ k _. yields-done (rw (natAbs-neg (pos v)) (omega arith))) (yields-done (omega arith))
 
 -- Printing.
 pub signed-long : (z : ℤ) (rest : List ℕ) → length (showSigned z rest) ≡ signedDigits z + length rest

@@ -18,7 +18,7 @@ use Rattle.notation.specs.Layers.{LayerSetElement, MAX-LAYER}
 use Rattle.notation.specs.Tree.{Constraint, Layers, noLayers, singleLayer, layerRange, layerSet, megaminx, Tree}
 use Rattle.notation.specs.Grammar.{
   Reader, read, rejected, andThen, _>>=_, just, word, layer, family, layerPrefixContents, layerSetElements, tilde, rotationNode, moveNode,
-  groupKind, groupNode, binaryGroupNode, megaminxScrambleMove, sq1Move, node
+  groupKind, groupNode, binaryGroupNode, megaminxScrambleMove, sq1Move, node, nodeBy
 }
 use Rattle.notation.specs.Print.{putTilde, putLayers}
 use Rattle.notation.specs.declared.features.Features.{Features}
@@ -115,7 +115,7 @@ rejects-sq1 h h′ = rejects-or (rejects-bind _ (rejects-just "/" h)) (rejects-b
 -- no node where none opens, no megaminx word stands and no move
 pub rejects-node : {text : List ℕ} (f : Features) (list : Reader Tree) (s : List ℕ) → starts notOpener s ≡ true →
     starts (isnt "R") s ≡ true → starts (isnt "D") s ≡ true → Rejects text (moveNode f) s → Rejects text (node f list) s
-unfolding node oneOf
+unfolding nodeBy oneOf
 rejects-node f list s h r d m =
     rejects-or (rejects-bind _ (rejects-just "." (no-opener "." s refl h)))
     (rejects-or (rejects-when (f .megaminx) (rejects-bind _ (rejects-megaminx r d)))

@@ -17,7 +17,7 @@ use Rattle.notation.specs.Layers.{LayerSetElement, MAX-LAYER}
 use Rattle.notation.specs.Tree.{Constraint, Layers, Leaf, Step, rotation, move, pause, pair, slash, megaminx, Node, leaf, nil, cons, Tree, mapNode}
 use Rattle.notation.specs.Grammar.{
   Reader, read, _or_, _>>=_, just, word, i32, rotationNode, moveNode, groupNode, binaryGroupNode, megaminxScrambleMove, sq1Move, node, nodeList,
-  moreOf, someWhitespace
+  moreOf, someWhitespace, nodeBy, nodeListBy
 }
 use Rattle.notation.specs.Meaning.{stepOf}
 use Rattle.notation.specs.Print.{putMultiplier, putTilde, putLayers, putMegaminx, putStep}
@@ -53,10 +53,10 @@ Waits text x n = (m : ℤ) → mapNode (stepOf text) (n m) ≡ x m
 pub reads-repeatable : {text : List ℕ} (f : Features) (list : Reader Tree) {s : List ℕ} (m : ℤ) (rest : List ℕ) (x : ℤ → Node Step) →
     starts (isnt ".") s ≡ true → Rejects text megaminxScrambleMove s → Reads text (inner f list) s (Waits text x) (putMultiplier m rest) →
     multiplierOk m ≡ true → afterNode rest ≡ true → Reads text (node f list) s (λ n. mapNode (stepOf text) n ≡ x m) rest
-unfolding node
+unfolding nodeBy
 reads-repeatable f list m rest x h w i hm s =
     reads-right (rejects-bind _ (rejects-just "." h)) (reads-right (rejects-when (f .megaminx) (rejects-bind _ w))
-    (reads-left _ (reads-bind i λ n e. reads-next _ (reads-multiplier m rest hm s) (reads-done (n m) (e m)))))
+    (reads-left _ (reads-bind i λ n e. reads-next _ (reads-multiplier f m rest hm s) (reads-done (n m) (e m)))))
 
 -- Rotations and moves.
 rotation-node : {text : List ℕ} (f : Features) (list : Reader Tree) (a : List ℕ) (c : Option (List Constraint)) (m : ℤ) (rest : List ℕ) →
@@ -105,7 +105,7 @@ megaminx-dot Dmm rest = refl
 
 megaminx-node : {text : List ℕ} (f : Features) (list : Reader Tree) (k : MegaminxScrambleMove) (rest : List ℕ) → f .megaminx ≡ true →
     Reads text (node f list) (putMegaminx k rest) (λ n. mapNode (stepOf text) n ≡ leaf (megaminx k)) rest
-unfolding node mapNode stepOf
+unfolding nodeBy mapNode stepOf
 megaminx-node f list k rest h =
     reads-right (rejects-bind _ (rejects-just "." (megaminx-dot k rest)))
     (reads-left _ (reads-when (f .megaminx) h
@@ -116,7 +116,7 @@ sq1-node : {text : List ℕ} (f : Features) (list : Reader Tree) {s : List ℕ} 
     f .sq1 ≡ true → stepOf text x ≡ y → starts (isnt ".") s ≡ true →
     Rejects text megaminxScrambleMove s → Rejects text (inner f list) s → Reads text sq1Move s (λ z. z ≡ x) rest →
     Reads text (node f list) s (λ n. mapNode (stepOf text) n ≡ leaf y) rest
-unfolding node mapNode
+unfolding nodeBy mapNode
 sq1-node {text} f list x y rest h g d m i r =
     reads-right (rejects-bind _ (rejects-just "." d)) (reads-right (rejects-when (f .megaminx) (rejects-bind _ m))
     (reads-right (rejects-bind _ i)
@@ -134,7 +134,7 @@ slash-node f list rest h =
 -- a pair's first number is no list, so that its parenthesis opens no group
 pair-no-list : {text : List ℕ} (f : Features) (k : ℕ) (u : ℤ) (r : List ℕ) → fitsBits 32 u ≡ true → {A : Type 0} (g : Tree → Unit {0} → Reader A) →
     Rejects text (_>>=_ (nodeList f k) (λ a. _>>=_ (just ")") (g a))) (showSigned u (44 ∷ r))
-unfolding nodeList every oneOf upTo whiteSpace
+unfolding nodeListBy every oneOf upTo whiteSpace
 pair-no-list f zero u r h g = record { no = λ at _. refl }
 pair-no-list f (suc k) u r h g =
     let s : List ℕ = showSigned u (44 ∷ r) in
@@ -176,7 +176,7 @@ pair-node f k u d rest h =
 
 pause-node : {text : List ℕ} (f : Features) (list : Reader Tree) (rest : List ℕ) →
     Reads text (node f list) (46 ∷ rest) (λ n. mapNode (stepOf text) n ≡ leaf pause) rest
-unfolding node mapNode stepOf
+unfolding nodeBy mapNode stepOf
 pause-node f list rest = reads-left _ (reads-bind (reads-just ".") λ _ _. reads-done (leaf pause) refl)
 
 -- Every step.

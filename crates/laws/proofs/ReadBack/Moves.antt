@@ -10,13 +10,13 @@ use lib.IntN.{ℤ, pos, negsuc}
 use native.Mathlib.Omega.{arith}
 use borrow.Author.Tests.{le-leb, ltb-true, leb-true, eqb-true}
 use Rattle.notation.specs.Basics.{pick, between, every, oneOf}
-use Rattle.notation.specs.Chars.{isFamilyChar, classify}
+use Rattle.notation.specs.Chars.{isFamilyChar, isPrime, classify}
 use Rattle.notation.specs.Utf8.{run}
 use Rattle.notation.specs.Numbers.{digitRun, show}
 use Rattle.notation.specs.Layers.{LayerSetElement, MAX-LAYER}
 use Rattle.notation.specs.Tree.{Constraint, Layers, noLayers, singleLayer, layerRange, layerSet, rotation, move, leaf, mapNode}
 use Rattle.notation.specs.Grammar.{_>>=_, 
-  when, spanned, done, _or_, uint, layer, multiplier, MAX-I32, constraintSet, layerSetElements, layerPrefixContents, constraints, tilde,
+  when, spanned, done, _or_, uint, layer, prime, multiplier, MAX-I32, constraintSet, layerSetElements, layerPrefixContents, constraints, tilde,
   rotationNode, moveNode
 }
 use Rattle.notation.specs.Meaning.{constraintsIn, layerSetIn, orEmpty, constraintMeaning, layerMeaning, stepOf}
@@ -29,8 +29,8 @@ use Rattle.laws.proofs.ReadBack.Starts.{
   same-first, notDigit, starts, starts-listed, isnt, no-digits, fails, no-run, upTo, Whole, family-whole, family-isnt, family-no-digit
 }
 use Rattle.laws.proofs.ReadBack.Reads.{
-  Reads, Rejects, reads-done, reads-bind, reads-next, reads-left, reads-right, reads-when, rejects-bind, rejects-after, rejects-when, reads-just,
-  rejects-just, reads-spanned, rejects-spanned
+  Reads, Rejects, reads-done, reads-bind, reads-next, reads-left, reads-right, reads-when, rejects-bind, rejects-after, rejects-or, rejects-when, reads-just,
+  rejects-just, rejects-character, reads-spanned, rejects-spanned
 }
 use Rattle.laws.proofs.ReadBack.Numbers.{reads-uint, rejects-uint, show-starts}
 use Rattle.laws.proofs.ReadBack.Printed.{constraints-apart, elements-apart}
@@ -56,16 +56,21 @@ reads-magnitude {text} n r h s = go (eqb n 1) refl
         reads-left (done 1) (reads-uint 0 MAX-I32 n r
         (and-both (leb 0 n) (leb n MAX-I32) (le-leb 0 n (omega arith)) (le-leb n MAX-I32 (omega arith))) (lit< tt) (no-digits r s))
 
+-- neither an apostrophe nor another prime stands there
+no-prime : {text : List ℕ} (f : Features) {r : List ℕ} → starts (isnt "'") r ≡ true → starts (fails isPrime) r ≡ true → Rejects text (prime f) r
+no-prime f a h = rejects-or (rejects-just "'" a) (rejects-when (f .«curly_primes») (rejects-character isPrime h))
+
 -- a multiplier is read back
-pub reads-multiplier : {text : List ℕ} (m : ℤ) (rest : List ℕ) → multiplierOk m ≡ true → afterNode rest ≡ true →
-    Reads text multiplier (putMultiplier m rest) (λ x. x ≡ m) rest
-unfolding every oneOf
-reads-multiplier (pos n) rest h s =
+pub reads-multiplier : {text : List ℕ} (f : Features) (m : ℤ) (rest : List ℕ) → multiplierOk m ≡ true → afterNode rest ≡ true →
+    Reads text (multiplier f) (putMultiplier m rest) (λ x. x ≡ m) rest
+unfolding every oneOf classify
+reads-multiplier f (pos n) rest h s =
     reads-next _ (reads-magnitude n rest (ltb-true n 2147483648 h) (starts-listed notDigit follow rest refl s))
-    (reads-right (rejects-bind _ (rejects-just "'" (starts-listed (isnt "'") follow rest refl s))) (reads-done (pos n) refl))
-reads-multiplier (negsuc n) rest h s =
+    (reads-right (rejects-bind _ (no-prime f (starts-listed (isnt "'") follow rest refl s) (starts-listed (fails isPrime) follow rest refl s)))
+      (reads-done (pos n) refl))
+reads-multiplier f (negsuc n) rest h s =
     reads-next _ (reads-magnitude (suc n) (39 ∷ rest) (ltb-true (suc n) 2147483648 h) refl)
-    (reads-left _ (reads-bind (reads-just "'") λ _ _. reads-done (negsuc n) refl))
+    (reads-left _ (reads-bind (reads-left _ (reads-just "'")) λ _ _. reads-done (negsuc n) refl))
 
 -- what a multiplier or what follows it starts with: `'`, what follows a node, digits
 abbrev marks : List ℕ

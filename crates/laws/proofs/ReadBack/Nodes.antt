@@ -16,7 +16,7 @@ use Rattle.notation.specs.Tree.{
   binaryGroup, NodeList, nil, cons, Tree, mapNode, mapBody, mapNodes
 }
 use Rattle.notation.specs.Grammar.{
-  Reader, groupKind, groupNode, binaryGroupKind, binaryGroupNode, node, nodeList, moreOf, someWhitespace, separatedBy
+  Reader, groupKind, groupNode, binaryGroupKind, binaryGroupNode, node, nodeList, moreOf, someWhitespace, separatedBy, nodeListBy
 }
 use Rattle.notation.specs.Meaning.{stepOf}
 use Rattle.notation.specs.Print.{
@@ -216,12 +216,12 @@ bare f k = separatedBy cons nil (node f (nodeList f k)) someWhitespace
 
 pub reads-list : {text : List ℕ} (f : Features) (k : ℕ) (u : NodeList Step) (rest : List ℕ) → inRange f u ≡ true → afterList rest ≡ true →
     Reads text (bare f k) (putNodes u rest) (Means text u) rest → Reads text (nodeList f (suc k)) (putNodes u rest) (Means text u) rest
-unfolding nodeList
+unfolding nodeListBy
 reads-list f k u rest h e x = reads-padded (tight-nodes f u rest h e) (tight-end rest e) x
 
 reads-list-spaced : {text : List ℕ} (f : Features) (k : ℕ) (u : NodeList Step) (rest : List ℕ) → inRange f u ≡ true → afterList rest ≡ true →
     Reads text (bare f k) (putNodes u rest) (Means text u) rest → Reads text (nodeList f (suc k)) (32 ∷ putNodes u rest) (Means text u) rest
-unfolding nodeList
+unfolding nodeListBy
 reads-list-spaced f k u rest h e x = reads-spaced (tight-nodes f u rest h e) (tight-end rest e) x
 
 -- a separator ends a list

@@ -13,9 +13,9 @@ use Rattle.notation.specs.Chars.{whiteSpace}
 use Rattle.notation.specs.Utf8.{run, runFrom, charWidth, codePoint}
 use Rattle.notation.specs.Tree.{span, partOf}
 use Rattle.notation.specs.Grammar.{
-  Reading, rejected, read, Reader, done, andThen, _>>=_, _>>_, orElse, _or_, when, just, whitespace, someWhitespace, padded, spanned
+  Reading, rejected, read, Reader, done, andThen, _>>=_, _>>_, orElse, _or_, when, just, whitespace, character, someWhitespace, padded, spanned
 }
-use Rattle.laws.proofs.ReadBack.Starts.{clash, starts, isnt, not-just}
+use Rattle.laws.proofs.ReadBack.Starts.{clash, starts, isnt, not-just, fails, no-character}
 
 -- offset at of the text, where s stands
 pub record Here (text : List ℕ) (at : ℕ) (s : List ℕ) : Type 0 where
@@ -129,6 +129,9 @@ reads-just c {s} = record {
 -- another character stands there
 pub rejects-just : {text : List ℕ} (c : Char) {s : List ℕ} → starts (isnt c) s ≡ true → Rejects text (just c) s
 rejects-just c {s} h = record { no = λ at _. not-just c s h at }
+
+pub rejects-character : {text : List ℕ} (p : ℕ → Bool) {s : List ℕ} → starts (fails p) s ≡ true → Rejects text (character p) s
+rejects-character p {s} h = record { no = λ at _. rw (no-character p s h) }
 
 -- a part that a reader takes whole
 pub reads-part : {text : List ℕ} {A : Type 0} {p : Reader A} {Q : A → Type 0} (a : List ℕ) {r : List ℕ} (v : A) → Q v →

@@ -10,7 +10,7 @@ use native.Mathlib.Omega.{arith}
 use borrow.Author.Tests.{leb-true, eqb-true, eqb-false, not-false}
 use Rattle.notation.specs.Basics.{pick, between, oneOf, every}
 use Rattle.notation.specs.Chars.{isFamilyChar, whiteSpace, classify}
-use Rattle.notation.specs.Utf8.{charWidth, codePoint, continuation, afterFirst, runFrom, run, utf8From, utf8}
+use Rattle.notation.specs.Utf8.{charWidth, codePoint, continuation, afterFirst, widthIf, runFrom, run, utf8From, utf8}
 use Rattle.notation.specs.Numbers.{isDigit, digitRun}
 use Rattle.notation.specs.Grammar.{rejected, just}
 use Rattle.laws.proofs.InRange.{familyInRange}
@@ -69,6 +69,16 @@ abbrev pub fails : (ℕ → Bool) → ℕ → Bool
 fails p b = leb b 0x7f && not (p b)
 
 -- no character that passes
+pub no-character : (p : ℕ → Bool) (s : List ℕ) → starts (fails p) s ≡ true → widthIf p s ≡ 0
+unfolding charWidth codePoint
+no-character p [] h = go (p (codePoint []))
+  where
+    go : (t : Bool) → _≡_ {A = ℕ} (pick t 0 0) 0
+    go true = refl
+    go false = refl
+no-character p (b ∷ s) h =
+    rw (and-left (leb b 0x7f) (not (p b)) h, not-true (p b) (and-right (leb b 0x7f) (not (p b)) h))
+
 pub no-run : (p : ℕ → Bool) (s : List ℕ) → starts (fails p) s ≡ true → run p s ≡ 0
 unfolding runFrom codePoint
 no-run p [] h = refl
