@@ -1,5 +1,5 @@
 -- A character's class, its number in the table, and what the sets of characters have to do with each other.
-use mathlib.Core.Path.{_≡_, refl}
+use mathlib.Core.Path.{_≡_, refl, ap}
 use mathlib.Core.Bool.{Bool, true, false, not, _||_}
 use mathlib.Core.List.{List, [], _∷_}
 use Prim.Native.Nat.{ℕ, _≤_, _<_}
@@ -9,12 +9,15 @@ use denote.Enum.Declared.{tagOf}
 use lib.Dec.{eqb, leb}
 use Rattle.notation.proofs.charsets.CharSet.{the-type}
 use Rattle.notation.specs.declared.charsets.CharSet.{CharSet}
-use Rattle.notation.specs.declared.charsets.CharSet.the-variants.{LowercaseLatin, UppercaseLatin, UppercaseGreek, TallLowercaseGreek, ShortLowercaseGreek, Underscore}
+use Rattle.notation.specs.declared.charsets.CharSet.the-variants.{LowercaseLatin, UppercaseLatin, UppercaseGreek, TallLowercaseGreek, ShortLowercaseGreek, Underscore, Prime}
 use Rattle.notation.specs.declared.charsets.Class.{Class}
 use Rattle.notation.specs.declared.charsets.Class.the-variants.{In, Outside}
 use Rattle.notation.specs.Basics.{pick, between, oneOf, every}
-use Rattle.notation.specs.Chars.{classify, classNumber, setNumber, isOutside, isFamilyChar, isLatinLetter, isGreekLetter, uppercaseGreek, tallLowercaseGreek, shortLowercaseGreek}
-use Rattle.charsets.proofs.Bools.{above}
+use Rattle.notation.specs.Chars.{
+  classify, classNumber, setNumber, isFamilyClass, isFamilyChar, isPrimeClass, isPrime, isLatinLetter, isGreekLetter, uppercaseGreek, tallLowercaseGreek,
+  shortLowercaseGreek, curlyPrimes
+}
+use Rattle.charsets.proofs.Bools.{contra}
 use Rattle.charsets.proofs.Among.{apart}
 
 -- the class that a number of the table stands for
@@ -25,7 +28,8 @@ classOf n =
     (pick (eqb n 3) (In UppercaseGreek)
     (pick (eqb n 4) (In TallLowercaseGreek)
     (pick (eqb n 5) (In ShortLowercaseGreek)
-    (pick (eqb n 6) (In Underscore) Outside)))))
+    (pick (eqb n 6) (In Underscore)
+    (pick (eqb n 7) (In Prime) Outside))))))
 
 set-of : (q : CharSet) → classOf (setNumber q) ≡ In q
 set-of LowercaseLatin = refl
@@ -34,28 +38,59 @@ set-of UppercaseGreek = refl
 set-of TallLowercaseGreek = refl
 set-of ShortLowercaseGreek = refl
 set-of Underscore = refl
+set-of Prime = refl
 
 pub class-of : (q : Class) (n : ℕ) → n ≡ classNumber q → classOf n ≡ q
 class-of Outside n e = rw e
 class-of (In q) n e = rw e (set-of q)
 
-pub outside-zero : (q : Class) → eqb (classNumber q) 0 ≡ isOutside q
-outside-zero Outside = refl
-outside-zero (In q) = not-zero q where
-  not-zero : (q : CharSet) → eqb (setNumber q) 0 ≡ false
-  not-zero LowercaseLatin = refl
-  not-zero UppercaseLatin = refl
-  not-zero UppercaseGreek = refl
-  not-zero TallLowercaseGreek = refl
-  not-zero ShortLowercaseGreek = refl
-  not-zero Underscore = refl
+-- a family holds the characters of all classes but the number 7, the primes
+pub family-number : (q : Class) → oneOf (0 ∷ 7 ∷ []) (classNumber q) ≡ not (isFamilyClass q)
+unfolding oneOf
+family-number Outside = refl
+family-number (In LowercaseLatin) = refl
+family-number (In UppercaseLatin) = refl
+family-number (In UppercaseGreek) = refl
+family-number (In TallLowercaseGreek) = refl
+family-number (In ShortLowercaseGreek) = refl
+family-number (In Underscore) = refl
+family-number (In Prime) = refl
 
--- no letter: a test that fails at every Greek letter passes, and it is neither Latin nor the underscore
-pub outside : (p : ℕ → Bool) (c : ℕ) → every (λ a. not (p a)) uppercaseGreek ≡ true → every (λ a. not (p a)) tallLowercaseGreek ≡ true → every (λ a. not (p a)) shortLowercaseGreek ≡ true → p c ≡ true →
-    between 0x61 0x7a c ≡ false → between 0x41 0x5a c ≡ false → (c ≡ 0x5f → ⊥) → 0 ≡ classNumber (classify c)
+-- the primes are three
+pub prime-is : (c : ℕ) → oneOf (0x27 ∷ curlyPrimes) c ≡ isPrime c
+unfolding classify oneOf every
+prime-is c = go (isPrime c) refl
+  where
+    one : (l u x y z e p : Bool) →
+        isPrimeClass
+        (pick l (In LowercaseLatin) (pick u (In UppercaseLatin) (pick x (In UppercaseGreek) (pick y (In TallLowercaseGreek)
+        (pick z (In ShortLowercaseGreek) (pick e (In Underscore) (pick p (In Prime) Outside))))))) ≡ true → p ≡ true
+    one true u x y z e p h = contra h
+    one false true x y z e p h = contra h
+    one false false true y z e p h = contra h
+    one false false false true z e p h = contra h
+    one false false false false true e p h = contra h
+    one false false false false false true p h = contra h
+    one false false false false false false true h = refl
+    one false false false false false false false h = contra h
+    go : (t : Bool) → isPrime c ≡ t → oneOf (0x27 ∷ curlyPrimes) c ≡ t
+    go true h =
+        one (between 0x61 0x7a c) (between 0x41 0x5a c) (oneOf uppercaseGreek c) (oneOf tallLowercaseGreek c) (oneOf shortLowercaseGreek c) (eqb c 0x5f)
+        (oneOf (0x27 ∷ curlyPrimes) c) h
+    go false h = apart (λ x. not (isPrime x)) (0x27 ∷ curlyPrimes) c refl (ap not h)
+
+-- No letter: a test that fails at every Greek letter passes, and it is neither Latin nor the underscore. Then it is a prime or nothing.
+pub no-letter : (p : ℕ → Bool) (c : ℕ) → every (λ a. not (p a)) uppercaseGreek ≡ true → every (λ a. not (p a)) tallLowercaseGreek ≡ true → every (λ a. not (p a)) shortLowercaseGreek ≡ true → p c ≡ true →
+    between 0x61 0x7a c ≡ false → between 0x41 0x5a c ≡ false → (c ≡ 0x5f → ⊥) →
+    classNumber (classify c) ≡ pick (oneOf (0x27 ∷ curlyPrimes) c) 7 0
 unfolding classify
-outside p c u t s h l m n =
+no-letter p c u t s h l m n =
     rw (l, m, apart p uppercaseGreek c u h, apart p tallLowercaseGreek c t h, apart p shortLowercaseGreek c s h, ne-eqb c 0x5f n)
+    (go (oneOf (0x27 ∷ curlyPrimes) c))
+  where
+    go : (t : Bool) → classNumber (pick t (In Prime) Outside) ≡ pick t 7 0
+    go true = refl
+    go false = refl
 
 -- the sets of Greek letters
 abbrev pub greekSet : CharSet → Bool
@@ -65,6 +100,7 @@ greekSet UppercaseGreek = true
 greekSet TallLowercaseGreek = true
 greekSet ShortLowercaseGreek = true
 greekSet Underscore = false
+greekSet Prime = false
 
 abbrev pub greek : Class → Bool
 greek Outside = false
@@ -78,8 +114,9 @@ greek-tags UppercaseGreek = refl
 greek-tags TallLowercaseGreek = refl
 greek-tags ShortLowercaseGreek = refl
 greek-tags Underscore = refl
+greek-tags Prime = refl
 
-pub other-tags : (q : CharSet) → oneOf (0 ∷ 1 ∷ 5 ∷ []) (tagOf the-type q) ≡ not (greekSet q)
+pub other-tags : (q : CharSet) → oneOf (0 ∷ 1 ∷ 5 ∷ 6 ∷ []) (tagOf the-type q) ≡ not (greekSet q)
 unfolding oneOf
 other-tags LowercaseLatin = refl
 other-tags UppercaseLatin = refl
@@ -87,6 +124,7 @@ other-tags UppercaseGreek = refl
 other-tags TallLowercaseGreek = refl
 other-tags ShortLowercaseGreek = refl
 other-tags Underscore = refl
+other-tags Prime = refl
 
 -- no Latin letter is a Greek one, so the order of the tests of `classify` does not matter
 pub greek-letter : (c : ℕ) → isGreekLetter c ≡ greek (classify c)
@@ -95,17 +133,19 @@ greek-letter c = by-latin (between 0x61 0x7a c) (between 0x41 0x5a c) refl refl 
   none : (p : ℕ → Bool) → every (λ a. not (p a)) uppercaseGreek ≡ true → every (λ a. not (p a)) tallLowercaseGreek ≡ true → every (λ a. not (p a)) shortLowercaseGreek ≡ true → p c ≡ true → isGreekLetter c ≡ false
   none p u t s h = rw (apart p uppercaseGreek c u h, apart p tallLowercaseGreek c t h, apart p shortLowercaseGreek c s h)
 
-  by-greek : (u t s e : Bool) → (u || t || s) ≡ greek (pick u (In UppercaseGreek) (pick t (In TallLowercaseGreek) (pick s (In ShortLowercaseGreek) (pick e (In Underscore) Outside))))
-  by-greek true t s e = refl
-  by-greek false true s e = refl
-  by-greek false false true e = refl
-  by-greek false false false true = refl
-  by-greek false false false false = refl
+  by-greek : (u t s e p : Bool) → (u || t || s)
+      ≡ greek (pick u (In UppercaseGreek) (pick t (In TallLowercaseGreek) (pick s (In ShortLowercaseGreek) (pick e (In Underscore) (pick p (In Prime) Outside)))))
+  by-greek true t s e p = refl
+  by-greek false true s e p = refl
+  by-greek false false true e p = refl
+  by-greek false false false true p = refl
+  by-greek false false false false true = refl
+  by-greek false false false false false = refl
 
   by-latin : (l u : Bool) → between 0x61 0x7a c ≡ l → between 0x41 0x5a c ≡ u → isGreekLetter c ≡ greek (classify c)
   by-latin true u e f = rw e (none (between 0x61 0x7a) refl refl refl e)
   by-latin false true e f = rw (e, f) (none (between 0x41 0x5a) refl refl refl f)
-  by-latin false false e f = rw (e, f) (by-greek (oneOf uppercaseGreek c) (oneOf tallLowercaseGreek c) (oneOf shortLowercaseGreek c) (eqb c 0x5f))
+  by-latin false false e f = rw (e, f) (by-greek (oneOf uppercaseGreek c) (oneOf tallLowercaseGreek c) (oneOf shortLowercaseGreek c) (eqb c 0x5f) (oneOf (0x27 ∷ curlyPrimes) c))
 
 -- in ASCII a family character is a Latin letter or the underscore
 pub ascii-family : (c : ℕ) → c ≤ 0x7f → isFamilyChar c ≡ (isLatinLetter c || eqb c 0x5f)
@@ -113,10 +153,11 @@ unfolding classify every
 ascii-family c h =
     let a : leb c 0x7f ≡ true = le-leb c 0x7f h in
     rw (apart (λ x. leb x 0x7f) uppercaseGreek c refl a, apart (λ x. leb x 0x7f) tallLowercaseGreek c refl a, apart (λ x. leb x 0x7f) shortLowercaseGreek c refl a)
-    (go (between 0x61 0x7a c) (between 0x41 0x5a c) (eqb c 0x5f))
+    (go (between 0x61 0x7a c) (between 0x41 0x5a c) (eqb c 0x5f) (oneOf (0x27 ∷ curlyPrimes) c))
   where
-    go : (l u e : Bool) → not (isOutside (pick l (In LowercaseLatin) (pick u (In UppercaseLatin) (pick e (In Underscore) Outside)))) ≡ (l || u || e)
-    go true u e = refl
-    go false true e = refl
-    go false false true = refl
-    go false false false = refl
+    go : (l u e p : Bool) → isFamilyClass (pick l (In LowercaseLatin) (pick u (In UppercaseLatin) (pick e (In Underscore) (pick p (In Prime) Outside)))) ≡ (l || u || e)
+    go true u e p = refl
+    go false true e p = refl
+    go false false true p = refl
+    go false false false true = refl
+    go false false false false = refl

@@ -29,7 +29,10 @@ returns-6 : tie.Need-returns-6
 returns-6 c = class-of (classify (c .before .before .args .c)) 6 (sym (c .match .keys6) ∙ c .before .class-number .ensures)
 
 returns-7 : tie.Need-returns-7
-returns-7 c = let r = c .match .rest in simp (ne-eqb _ _ (r .0 .0 .0 .0 .0 .1), ne-eqb _ _ (r .0 .0 .0 .0 .1), ne-eqb _ _ (r .0 .0 .0 .1), ne-eqb _ _ (r .0 .0 .1), ne-eqb _ _ (r .0 .1), ne-eqb _ _ (r .1)) at (class-of (classify (c .before .before .args .c)) (c .before .class-number .result) (c .before .class-number .ensures))
+returns-7 c = class-of (classify (c .before .before .args .c)) 7 (sym (c .match .keys7) ∙ c .before .class-number .ensures)
+
+returns-8 : tie.Need-returns-8
+returns-8 c = let r = c .match .rest in simp (ne-eqb _ _ (r .0 .0 .0 .0 .0 .0 .1), ne-eqb _ _ (r .0 .0 .0 .0 .0 .1), ne-eqb _ _ (r .0 .0 .0 .0 .1), ne-eqb _ _ (r .0 .0 .0 .1), ne-eqb _ _ (r .0 .0 .1), ne-eqb _ _ (r .0 .1), ne-eqb _ _ (r .1)) at (class-of (classify (c .before .before .args .c)) (c .before .class-number .result) (c .before .class-number .ensures))
 
 pub classify-spec : {M : Type 1} → statement M
 classify-spec =
@@ -42,4 +45,5 @@ classify-spec =
     returns-4
     returns-5
     returns-6
-    returns-7)
+    returns-7
+    returns-8)

@@ -23,7 +23,7 @@ returns : tie.Need-returns
 returns c = let b = c .before .before in sym (among 2 (3 ∷ 4 ∷ []) _ (c .match2 .keys1)) ∙ greek-tags (b .set .given .0 .0) ∙ ap greek (sym (b .set .given .1) ∙ b .before .before .classify .ensures) ∙ sym (greek-letter _)
 
 returns-2 : tie.Need-returns-2
-returns-2 c = let b = c .before .before in sym (not-true _ (sym (other-tags (b .set .given .0 .0)) ∙ among 0 (1 ∷ 5 ∷ []) _ (c .match2 .keys2))) ∙ ap greek (sym (b .set .given .1) ∙ b .before .before .classify .ensures) ∙ sym (greek-letter _)
+returns-2 c = let b = c .before .before in sym (not-true _ (sym (other-tags (b .set .given .0 .0)) ∙ among 0 (1 ∷ 5 ∷ 6 ∷ []) _ (c .match2 .keys2))) ∙ ap greek (sym (b .set .given .1) ∙ b .before .before .classify .ensures) ∙ sym (greek-letter _)
 
 returns-3 : tie.Need-returns-3
 returns-3 c = ap greek (sym (c .enum-told .given .1) ∙ c .before .before .classify .ensures) ∙ sym (greek-letter _)
