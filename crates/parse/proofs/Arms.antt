@@ -67,13 +67,13 @@ module _ (text : List ℕ) (at slot tally : ℕ) where
     nodes k = node f (nodeList f k)
 
     abbrev pub groups : ℕ → Reader (Node Leaf)
-    groups k = repeated (groupNode (nodeList f k))
+    groups k = repeated f (groupNode (nodeList f k))
 
     abbrev pub binaries : ℕ → Reader (Node Leaf)
-    binaries k = repeated (binaryGroupNode (nodeList f k))
+    binaries k = repeated f (binaryGroupNode (nodeList f k))
 
     abbrev pub either : ℕ → Reader (Node Leaf)
-    either k = repeated (nested (nodeList f k))
+    either k = repeated f (nested (nodeList f k))
 
     abbrev pub leaves : ℕ → Reader (Node Leaf)
     leaves _ = node f fail
@@ -83,7 +83,7 @@ module _ (text : List ℕ) (at slot tally : ℕ) where
         eqb (byteAt (drop at text) 0) 94 ≡ false → eqb (byteAt (drop at text) 0) 91 ≡ false → (old : List ℕ) → NoNode either text at slot old old
     none p₁ p₂ p₃ p₄ p₅ old =
         record {
-          rejects = λ k _. ap (λ (r : Reading (ℤ → Node Leaf)). andThen r times) (nothing-nested (nodeList f k) at (drop at text) p₁ p₂ p₃ p₄ p₅);
+          rejects = λ k _. ap (λ (r : Reading (ℤ → Node Leaf)). andThen r (times f)) (nothing-nested (nodeList f k) at (drop at text) p₁ p₂ p₃ p₄ p₅);
           kept = kept-all (RECORD * slot) old;
         }
 
@@ -105,13 +105,13 @@ module _ (text : List ℕ) (at slot tally : ℕ) where
       pub a-group : (getD text at 0 ≡ 91 → ⊥) → (old new : List ℕ) (r : NodeAnswer) → Told groups text at slot tally old new r → Told either text at slot tally old new r
       a-group e old new r =
           told-as groups either old new r
-          (λ k _. ap (λ (r : Reading (ℤ → Node Leaf)). andThen r times)
+          (λ k _. ap (λ (r : Reading (ℤ → Node Leaf)). andThen r (times f))
           (or-last (groupNode (nodeList f k) at (drop at text)) (binaryGroupNode (nodeList f k)) at (drop at text) (no-binary (nodeList f k) at (drop at text) (here 91 e))))
 
       pub a-bracket : getD text at 0 ≡ 91 → (old new : List ℕ) (r : NodeAnswer) → Told binaries text at slot tally old new r → Told either text at slot tally old new r
       a-bracket e old new r =
           told-as binaries either old new r
-          (λ k _. ap (λ (r : Reading (ℤ → Node Leaf)). andThen r times)
+          (λ k _. ap (λ (r : Reading (ℤ → Node Leaf)). andThen r (times f))
           (or-none (groupNode (nodeList f k) at (drop at text)) (binaryGroupNode (nodeList f k)) at (drop at text)
           (rw (drop-cons text at 0 h, e) (no-group (nodeList f k) at (drop (suc at) text)))))
 
@@ -121,7 +121,7 @@ module _ (text : List ℕ) (at slot tally : ℕ) where
         told-as leaves nodes old new (Took next end)
         (λ k l.
             node-choice f (nodeList f k) at (drop at text)
-            ∙ ap (λ (r : Reading (ℤ → Node Leaf)). orElse (andThen r times) (node f fail) at (drop at text))
+            ∙ ap (λ (r : Reading (ℤ → Node Leaf)). orElse (andThen r (times f)) (node f fail) at (drop at text))
             (no-nested f k at (drop at text) (t .node) next (drop next text) (t .reads k l))) t
 
     pub group-instead : (old mid new : List ℕ) (r : NodeAnswer) → NoNode leaves text at slot old mid → Told either text at slot tally mid new r → Told nodes text at slot tally old new r
@@ -130,7 +130,7 @@ module _ (text : List ℕ) (at slot tally : ℕ) where
         (told-as either nodes mid new r
         (λ k l.
             node-choice f (nodeList f k) at (drop at text)
-            ∙ or-last (andThen (nested (nodeList f k) at (drop at text)) times) (node f fail) at (drop at text) (g .rejects k l)) t)
+            ∙ or-last (andThen (nested (nodeList f k) at (drop at text)) (times f)) (node f fail) at (drop at text) (g .rejects k l)) t)
 
 pub no-bracket-byte : (b : ℕ) → OneOf openers b → b ≡ 91 → ⊥
 no-bracket-byte b = ⊎-elim (λ e q. omega arith) (⊎-elim (λ e q. omega arith) (⊎-elim (λ e q. omega arith) (λ e q. omega arith)))

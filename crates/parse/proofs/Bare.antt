@@ -98,7 +98,7 @@ module _ (f : Features) (at : ℕ) (s : List ℕ) (b : Bare s) where
       ∙ or-none (pause at s) _ at s (no-pause f at s p)
       ∙ or-none (scramble f at s) _ at s
       (when-none (f .megaminx) _ at s (ap (λ (r : Reading MegaminxScrambleMove). andThen r (λ k. done (leaf (tree.megaminx k)))) (scramble-none f at s r d)))
-      ∙ ap (λ (r : Reading (ℤ → Node Leaf)). orElse (andThen r times) (sq1 f) at s)
+      ∙ ap (λ (r : Reading (ℤ → Node Leaf)). orElse (andThen r (times f)) (sq1 f) at s)
       (inner-fail f at s ∙ or-none _ (moveNode f) at s (rotation-none f at s a) ∙ bare-move)
 
 -- where no digit stands either

@@ -33,10 +33,10 @@ outer slot tally fs h e xs old mid w =
 
 module _ (f : Features) (text : List ℕ) (at slot tally : ℕ) (old : List ℕ) where
   module _ (kind : GroupKind) (bracket : ℕ) (starts : read kind bracket (drop bracket text) ≡ groupKind at (drop at text)) where
-    pub no-group : eqb (byteAt text bracket) 40 ≡ false → NoNode (λ k. repeated (groupNode (nodeList f k))) text at slot old old
+    pub no-group : eqb (byteAt text bracket) 40 ≡ false → NoNode (λ k. repeated f (groupNode (nodeList f k))) text at slot old old
     no-group e =
         record {
-          rejects = λ k h. group-unopened text at (nodeList f k) kind bracket starts e;
+          rejects = λ k h. group-unopened f text at (nodeList f k) kind bracket starts e;
           kept = kept-all (RECORD * slot) old;
         }
 
@@ -45,16 +45,16 @@ module _ (f : Features) (text : List ℕ) (at slot tally : ℕ) (old : List ℕ)
       lists : (k : ℕ) → length text - at ≤ k → nodeList f k (bracket + 1) (drop (bracket + 1) text) ≡ read (list .tree) close (drop close text)
       lists k h = list .reads k (omega (arith, seen text bracket 40 (omega arith) opens))
 
-      pub open-group : eqb (byteAt text close) 41 ≡ false → NoNode (λ k. repeated (groupNode (nodeList f k))) text at slot old mid
+      pub open-group : eqb (byteAt text close) 41 ≡ false → NoNode (λ k. repeated f (groupNode (nodeList f k))) text at slot old mid
       open-group e =
           record {
-            rejects = λ k h. group-unclosed text at (nodeList f k) kind bracket starts opens (list .tree) close (lists k h) e;
+            rejects = λ k h. group-unclosed f text at (nodeList f k) kind bracket starts opens (list .tree) close (lists k h) e;
             kept = inner-kept slot (tallyList (tally + 2) (list .tree)) old mid (list .wrote);
           }
 
       pub closed-group : (bits next : ℕ) (fs : List ℕ) → fs ≡ headFields (groupHead kind (end - (slot + 1)) (fromBits 32 bits) 0) →
-          CloseRead text close 41 bits next →
-          NodeRead (λ k. repeated (groupNode (nodeList f k))) text at slot tally old (put (RECORD * slot) (layOut widths (set fs 11 (tally % 256))) mid) next end
+          CloseRead f text close 41 bits next →
+          NodeRead (λ k. repeated f (groupNode (nodeList f k))) text at slot tally old (put (RECORD * slot) (layOut widths (set fs 11 (tally % 256))) mid) next end
       unfolding nodeSize bodySize tallyNode tallyBody
       closed-group bits next fs laid closes =
           let m = fromBits 32 bits in
@@ -62,7 +62,7 @@ module _ (f : Features) (text : List ℕ) (at slot tally : ℕ) (old : List ℕ)
           record {
             node = block (group kind (list .tree)) m;
             reads = λ k h.
-                group-read text at (nodeList f k) kind bracket starts opens (list .tree) close (lists k h) m next (closes .stands) (closes .reads);
+                group-read f text at (nodeList f k) kind bracket starts opens (list .tree) close (lists k h) m next (closes .stands) (closes .reads);
             slots = omega (arith, list .slots);
             advances = omega (arith, list .advances, closes .advances);
             inside = closes .inside;
@@ -74,10 +74,10 @@ module _ (f : Features) (text : List ℕ) (at slot tally : ℕ) (old : List ℕ)
     first : (k : ℕ) → length text - at ≤ k → nodeList f k (at + 1) (drop (at + 1) text) ≡ read (a .tree) sign (drop sign text)
     first k h = a .reads k (omega (arith, seen text at 91 (omega arith) opens))
 
-    pub unsigned-group : rejected ≡ binaryGroupKind sign (drop sign text) → NoNode (λ k. repeated (binaryGroupNode (nodeList f k))) text at slot old mid
+    pub unsigned-group : rejected ≡ binaryGroupKind sign (drop sign text) → NoNode (λ k. repeated f (binaryGroupNode (nodeList f k))) text at slot old mid
     unsigned-group e =
         record {
-          rejects = λ k h. binary-unsigned text at (nodeList f k) opens (a .tree) sign (first k h) e;
+          rejects = λ k h. binary-unsigned f text at (nodeList f k) opens (a .tree) sign (first k h) e;
           kept = inner-kept slot (tallyList (tally + 2) (a .tree)) old mid (a .wrote);
         }
 
@@ -91,16 +91,16 @@ module _ (f : Features) (text : List ℕ) (at slot tally : ℕ) (old : List ℕ)
           wrote-then (RECORD * (slot + 1)) (RECORD * middle) (tallyList (tally + 2) (a .tree)) old mid last
           (omega (arith, length-tallyList (tally + 2) (a .tree), a .slots)) (a .wrote) (tallyList (tally + 1) (b .tree)) (b .wrote)
 
-      pub open-binary : eqb (byteAt text close) 93 ≡ false → NoNode (λ k. repeated (binaryGroupNode (nodeList f k))) text at slot old last
+      pub open-binary : eqb (byteAt text close) 93 ≡ false → NoNode (λ k. repeated f (binaryGroupNode (nodeList f k))) text at slot old last
       open-binary e =
           record {
-            rejects = λ k h. binary-unclosed text at (nodeList f k) opens (a .tree) sign (first k h) kind signs (b .tree) close (second k h) e;
+            rejects = λ k h. binary-unclosed f text at (nodeList f k) opens (a .tree) sign (first k h) kind signs (b .tree) close (second k h) e;
             kept = inner-kept slot (tallyList (tally + 2) (a .tree) ++ tallyList (tally + 1) (b .tree)) old last both;
           }
 
       pub closed-binary : (bits next : ℕ) (fs : List ℕ) → fs ≡ headFields (binaryHead kind (middle - (slot + 1)) (end - middle) (fromBits 32 bits) 0) →
-          CloseRead text close 93 bits next →
-          NodeRead (λ k. repeated (binaryGroupNode (nodeList f k))) text at slot tally old (put (RECORD * slot) (layOut widths (set fs 11 (tally % 256))) last) next end
+          CloseRead f text close 93 bits next →
+          NodeRead (λ k. repeated f (binaryGroupNode (nodeList f k))) text at slot tally old (put (RECORD * slot) (layOut widths (set fs 11 (tally % 256))) last) next end
       unfolding nodeSize bodySize tallyNode tallyBody
       closed-binary bits next fs laid closes =
           let m = fromBits 32 bits in
@@ -109,7 +109,7 @@ module _ (f : Features) (text : List ℕ) (at slot tally : ℕ) (old : List ℕ)
           record {
             node = block (binaryGroup kind (a .tree) (b .tree)) m;
             reads = λ k h.
-                binary-read text at (nodeList f k) opens (a .tree) sign (first k h) kind signs (b .tree) close (second k h) m next (closes .stands) (closes .reads);
+                binary-read f text at (nodeList f k) opens (a .tree) sign (first k h) kind signs (b .tree) close (second k h) m next (closes .stands) (closes .reads);
             slots = omega (arith, a .slots, b .slots);
             advances = omega (arith, a .advances, b .advances, closes .advances);
             inside = closes .inside;

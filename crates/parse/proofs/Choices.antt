@@ -11,7 +11,7 @@ use lib.IntN.{ℤ, pos, negℤ}
 use Rattle.notation.specs.Utf8.{byteAt}
 use Rattle.notation.specs.Tree as tree
 use Rattle.notation.specs.Tree.{Node, leaf, Leaf, Tree}
-use Rattle.notation.specs.Grammar.{Reading, rejected, read, Reader, andThen, orElse, _or_, done, fail, when, just, word, uint, multiplier, rotationNode, moveNode, groupKind, groupNode, binaryGroupNode, megaminxScrambleMove, sq1Move, node, nodeBy}
+use Rattle.notation.specs.Grammar.{Reading, rejected, read, Reader, andThen, orElse, _or_, done, fail, when, just, word, uint, prime, multiplier, rotationNode, moveNode, groupKind, groupNode, binaryGroupNode, megaminxScrambleMove, sq1Move, node, nodeBy}
 use Rattle.notation.specs.declared.features.Features.{Features}
 use Rattle.notation.specs.declared.common.MegaminxScrambleMove.{MegaminxScrambleMove}
 use Rattle.parse.specs.Nodes.{nested}
@@ -28,8 +28,8 @@ or-same rejected p q at s e = e
 or-same (read a i t) p q at s e = refl
 
 -- a node that can be repeated, with its multiplier
-abbrev pub times : (ℤ → Node Leaf) → Reader (Node Leaf)
-times inner at s = andThen (multiplier at s) (λ m. done (inner m))
+abbrev pub times : Features → (ℤ → Node Leaf) → Reader (Node Leaf)
+times f inner at s = andThen (multiplier f at s) (λ m. done (inner m))
 
 -- the rules before and after a group or a bracket
 abbrev pub pause : Reader (Node Leaf)
@@ -44,16 +44,16 @@ sq1 f at s = when (f .sq1) (λ at s. andThen (sq1Move at s) (λ x. done (leaf x)
 abbrev pub inner : Features → Reader Tree → Reader (ℤ → Node Leaf)
 inner f list at s = orElse (rotationNode f at s) (λ at s. orElse (groupNode list at s) (λ at s. orElse (binaryGroupNode list at s) (moveNode f) at s) at s) at s
 
-abbrev pub nodeBy : Features → Reader (ℤ → Node Leaf) → Reader (Node Leaf)
-nodeBy f p at s = orElse (pause at s) (λ at s. orElse (scramble f at s) (λ at s. orElse (andThen (p at s) times) (sq1 f) at s) at s) at s
+abbrev pub nodeOf : Features → Reader (ℤ → Node Leaf) → Reader (Node Leaf)
+nodeOf f p at s = orElse (pause at s) (λ at s. orElse (scramble f at s) (λ at s. orElse (andThen (p at s) (times f)) (sq1 f) at s) at s) at s
 
-pub node-by : (f : Features) (list : Reader Tree) (at : ℕ) (s : List ℕ) → node f list at s ≡ nodeBy f (inner f list) at s
+pub node-by : (f : Features) (list : Reader Tree) (at : ℕ) (s : List ℕ) → node f list at s ≡ nodeOf f (inner f list) at s
 unfolding nodeBy
 node-by f list at s = refl
 
-pub by-same : (f : Features) (p q : Reader (ℤ → Node Leaf)) (at : ℕ) (s : List ℕ) → p at s ≡ q at s → nodeBy f p at s ≡ nodeBy f q at s
+pub by-same : (f : Features) (p q : Reader (ℤ → Node Leaf)) (at : ℕ) (s : List ℕ) → p at s ≡ q at s → nodeOf f p at s ≡ nodeOf f q at s
 by-same f p q at s e =
-    or-same (pause at s) _ _ at s (or-same (scramble f at s) _ _ at s (ap (λ (r : Reading (ℤ → Node Leaf)). orElse (andThen r times) (sq1 f) at s) e))
+    or-same (pause at s) _ _ at s (or-same (scramble f at s) _ _ at s (ap (λ (r : Reading (ℤ → Node Leaf)). orElse (andThen r (times f)) (sq1 f) at s) e))
 
 -- a list reader that always rejects
 pub no-group : (at : ℕ) (s : List ℕ) → groupNode fail at s ≡ rejected
@@ -143,8 +143,8 @@ module _ (f : Features) (at : ℕ) (s : List ℕ) where
   sq1-none a b = simp (just-no "/" at s a, just-no "(" at s b)
 
 -- a multiplier is always read
-always : (inner : ℤ → Node Leaf) (at : ℕ) (s : List ℕ) (q p : Reader (Node Leaf)) (i : ℕ) (w : List ℕ) → orElse (times inner at s) q i w ≡ orElse (times inner at s) p i w
-always inner at s q p i w = go (uint 0 2147483647 at s)
+always : (f : Features) (inner : ℤ → Node Leaf) (at : ℕ) (s : List ℕ) (q p : Reader (Node Leaf)) (i : ℕ) (w : List ℕ) → orElse (times f inner at s) q i w ≡ orElse (times f inner at s) p i w
+always f inner at s q p i w = go (uint 0 2147483647 at s)
   where
     signed : (n e : ℕ) (t : List ℕ) (r : Reading (Unit {0})) →
         orElse (andThen (orElse (andThen r (λ _. done (negℤ (pos n)))) (done (pos n)) e t) (λ m. done (inner m))) q i w
@@ -153,26 +153,26 @@ always inner at s q p i w = go (uint 0 2147483647 at s)
     signed n e t (read u j v) = refl
 
     quoted : ℕ → Reader ℤ
-    quoted n at s = orElse (andThen (just "'" at s) (λ _. done (negℤ (pos n)))) (done (pos n)) at s
+    quoted n at s = orElse (andThen (prime f at s) (λ _. done (negℤ (pos n)))) (done (pos n)) at s
 
     go : (r : Reading ℕ) →
         orElse (andThen (andThen (orElse r (done 1) at s) quoted) (λ m. done (inner m))) q i w ≡ orElse (andThen (andThen (orElse r (done 1) at s) quoted) (λ m. done (inner m))) p i w
-    go rejected = signed 1 at s (just "'" at s)
-    go (read n e t) = signed n e t (just "'" e t)
+    go rejected = signed 1 at s (prime f at s)
+    go (read n e t) = signed n e t (prime f e t)
 
 -- A node is a group or a bracket with its multiplier, if one is read, or else a node that holds no list.
-pub node-choice : (f : Features) (list : Reader Tree) (at : ℕ) (s : List ℕ) → node f list at s ≡ orElse (andThen (nested list at s) times) (node f fail) at s
+pub node-choice : (f : Features) (list : Reader Tree) (at : ℕ) (s : List ℕ) → node f list at s ≡ orElse (andThen (nested list at s) (times f)) (node f fail) at s
 node-choice f list at s = go (nested list at s) refl
   where
-    go : (r : Reading (ℤ → Node Leaf)) → nested list at s ≡ r → node f list at s ≡ orElse (andThen r times) (node f fail) at s
+    go : (r : Reading (ℤ → Node Leaf)) → nested list at s ≡ r → node f list at s ≡ orElse (andThen r (times f)) (node f fail) at s
     go rejected e = none-nested f list at s e
     go (read i e t) q =
         node-by f list at s
         ∙ or-none (pause at s) _ at s (no-pause f at s (no-dot list at s i e t q))
         ∙ or-none (scramble f at s) _ at s (when-none (f .megaminx) _ at s (ap (λ (r : Reading MegaminxScrambleMove). andThen r (λ k. done (leaf (tree.megaminx k)))) (scramble-none f at s (no-r list at s i e t q) (no-d list at s i e t q))))
-        ∙ ap (λ (r : Reading (ℤ → Node Leaf)). orElse (andThen r times) (sq1 f) at s)
+        ∙ ap (λ (r : Reading (ℤ → Node Leaf)). orElse (andThen r (times f)) (sq1 f) at s)
         (or-none (rotationNode f at s) _ at s (rotation-none f at s (no-at list at s i e t q)) ∙ first (groupNode list at s) q)
-        ∙ always i e t (sq1 f) (node f fail) at s
+        ∙ always f i e t (sq1 f) (node f fail) at s
       where
         first : (r : Reading (ℤ → Node Leaf)) → orElse r (binaryGroupNode list) at s ≡ read i e t → orElse r (λ at s. orElse (binaryGroupNode list at s) (moveNode f) at s) at s ≡ read i e t
         first rejected w = rw w

@@ -29,9 +29,9 @@ head-or : (r : Reading (Node Leaf)) (q : Reader (Node Leaf)) (at : ℕ) (s : Lis
 head-or rejected q at s = refl
 head-or (read n e t) q at s = refl
 
-head-times : (r : Reading (ℤ → Node Leaf)) → headed (andThen r times) ≡ repeated r
-head-times rejected = refl
-head-times (read i e t) = sym (assoc (multiplier e t) (λ m. done (i m)) (λ n. done (nodeFields n)))
+head-times : (f : Features) (r : Reading (ℤ → Node Leaf)) → headed (andThen r (times f)) ≡ repeated f r
+head-times f rejected = refl
+head-times f (read i e t) = sym (assoc (multiplier f e t) (λ m. done (i m)) (λ n. done (nodeFields n)))
 
 head-leaf : {A : Type 0} (b : Bool) (p : Reader A) (x : A → Leaf) (at : ℕ) (s : List ℕ) →
     headed (when b (λ at s. andThen (p at s) (λ a. done (leaf (x a)))) at s) ≡ andThen (when b p at s) (λ a. done (leafFields (x a)))
@@ -44,7 +44,7 @@ module _ (f : Features) where
   last at s = leafRead (when (f .sq1) sq1Move at s)
 
   abbrev turned : Reader (List ℕ)
-  turned at s = repeated (orElse (rotationNode f at s) (moveNode f) at s)
+  turned at s = repeated f (orElse (rotationNode f at s) (moveNode f) at s)
 
   abbrev scrambled : Reader (List ℕ)
   scrambled at s = scrambleRead (when (f .megaminx) megaminxScrambleMove at s)
@@ -53,24 +53,24 @@ module _ (f : Features) where
   either at s = orElse (rotationNode f at s) (moveNode f) at s
 
   -- from the rule of rotations on, and from that of scramble moves on
-  late : (at : ℕ) (s : List ℕ) → headed (orElse (andThen (either at s) times) (sq1 f) at s) ≡ orElse (turned at s) last at s
+  late : (at : ℕ) (s : List ℕ) → headed (orElse (andThen (either at s) (times f)) (sq1 f) at s) ≡ orElse (turned at s) last at s
   late at s =
-      head-or (andThen (either at s) times) (sq1 f) at s
-      ∙ ap (λ (r : Reading (List ℕ)). orElse r (λ at s. headed (sq1 f at s)) at s) (head-times (either at s))
+      head-or (andThen (either at s) (times f)) (sq1 f) at s
+      ∙ ap (λ (r : Reading (List ℕ)). orElse r (λ at s. headed (sq1 f at s)) at s) (head-times f (either at s))
       ∙ or-same (turned at s) (λ at s. headed (sq1 f at s)) last at s (head-leaf (f .sq1) sq1Move (λ x. x) at s)
 
   middle : (at : ℕ) (s : List ℕ) →
-      headed (orElse (scramble f at s) (λ at s. orElse (andThen (either at s) times) (sq1 f) at s) at s) ≡ orElse (scrambled at s) (λ at s. orElse (turned at s) last at s) at s
+      headed (orElse (scramble f at s) (λ at s. orElse (andThen (either at s) (times f)) (sq1 f) at s) at s) ≡ orElse (scrambled at s) (λ at s. orElse (turned at s) last at s) at s
   middle at s =
-      head-or (scramble f at s) (λ at s. orElse (andThen (either at s) times) (sq1 f) at s) at s
-      ∙ ap (λ (r : Reading (List ℕ)). orElse r (λ at s. headed (orElse (andThen (either at s) times) (sq1 f) at s)) at s) (head-leaf (f .megaminx) megaminxScrambleMove tree.megaminx at s)
-      ∙ or-same (scrambled at s) (λ at s. headed (orElse (andThen (either at s) times) (sq1 f) at s)) (λ at s. orElse (turned at s) last at s) at s (late at s)
+      head-or (scramble f at s) (λ at s. orElse (andThen (either at s) (times f)) (sq1 f) at s) at s
+      ∙ ap (λ (r : Reading (List ℕ)). orElse r (λ at s. headed (orElse (andThen (either at s) (times f)) (sq1 f) at s)) at s) (head-leaf (f .megaminx) megaminxScrambleMove tree.megaminx at s)
+      ∙ or-same (scrambled at s) (λ at s. headed (orElse (andThen (either at s) (times f)) (sq1 f) at s)) (λ at s. orElse (turned at s) last at s) at s (late at s)
 
   choices : (at : ℕ) (s : List ℕ) → headed (node f fail at s) ≡ orElse (headed (pause at s)) (λ at s. orElse (scrambled at s) (λ at s. orElse (turned at s) last at s) at s) at s
   choices at s =
       ap headed (node-by f fail at s ∙ by-same f (inner f fail) either at s (inner-fail f at s))
-      ∙ head-or (pause at s) (λ at s. orElse (scramble f at s) (λ at s. orElse (andThen (either at s) times) (sq1 f) at s) at s) at s
-      ∙ or-same (headed (pause at s)) (λ at s. headed (orElse (scramble f at s) (λ at s. orElse (andThen (either at s) times) (sq1 f) at s) at s))
+      ∙ head-or (pause at s) (λ at s. orElse (scramble f at s) (λ at s. orElse (andThen (either at s) (times f)) (sq1 f) at s) at s) at s
+      ∙ or-same (headed (pause at s)) (λ at s. headed (orElse (scramble f at s) (λ at s. orElse (andThen (either at s) (times f)) (sq1 f) at s) at s))
       (λ at s. orElse (scrambled at s) (λ at s. orElse (turned at s) last at s) at s) at s (middle at s)
 
 -- The answers of `leaf`.
@@ -101,13 +101,13 @@ module _ (f : Features) (text : List ℕ) (at : ℕ) where
     no-last : (getD text at 0 ≡ 47 → ⊥) → (getD text at 0 ≡ 40 → ⊥) → last f at (drop at text) ≡ rejected
     no-last a b = ap leafRead (when-none (f .sq1) sq1Move at (drop at text) (sq1-none f at (drop at text) (byte 47 a) (byte 40 b)))
 
-    pub is-rotation : {x : Reading (List ℕ)} → getD text at 0 ≡ 64 → x ≡ repeated (rotationNode f at (drop at text)) → x ≡ headed (node f fail at (drop at text))
+    pub is-rotation : {x : Reading (List ℕ)} → getD text at 0 ≡ 64 → x ≡ repeated f (rotationNode f at (drop at text)) → x ≡ headed (node f fail at (drop at text))
     is-rotation e q =
         q
         ∙ sym
         (later (λ z. omega arith) (λ z. omega arith) (λ z. omega arith)
         ∙ or-last (turned f at (drop at text)) (last f) at (drop at text) (no-last (λ z. omega arith) (λ z. omega arith))
-        ∙ ap repeated (or-last (rotationNode f at (drop at text)) (moveNode f) at (drop at text) (bare-move f at (drop at text) (bare 64 e bare-at-sign))))
+        ∙ ap (repeated f) (or-last (rotationNode f at (drop at text)) (moveNode f) at (drop at text) (bare-move f at (drop at text) (bare 64 e bare-at-sign))))
 
     square : {x : Reading (List ℕ)} (k : ℕ) → getD text at 0 ≡ k → ((u : List ℕ) → Bare (k ∷ u)) → (k ≡ 46 → ⊥) → (k ≡ 82 → ⊥) → (k ≡ 68 → ⊥) → (k ≡ 64 → ⊥) →
         x ≡ last f at (drop at text) → x ≡ headed (node f fail at (drop at text))
@@ -133,7 +133,7 @@ module _ (f : Features) (text : List ℕ) (at : ℕ) where
         ∙ or-none (headed (pause at (drop at text))) _ at (drop at text) (ap headed (no-pause f at (drop at text) (byte 46 p)))
         ∙ or-same (scrambled f at (drop at text)) _ _ at (drop at text)
         (or-last (turned f at (drop at text)) (last f) at (drop at text) (no-last s o)
-        ∙ ap repeated (or-none (rotationNode f at (drop at text)) (moveNode f) at (drop at text) (rotation-none f at (drop at text) (byte 64 a)))))
+        ∙ ap (repeated f) (or-none (rotationNode f at (drop at text)) (moveNode f) at (drop at text) (rotation-none f at (drop at text) (byte 64 a)))))
 
   pub is-end : length text ≤ at → rejected ≡ headed (node f fail at (drop at text))
   is-end h = rw (drop-of-length-le text h) (sym all)

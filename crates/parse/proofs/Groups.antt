@@ -25,27 +25,28 @@ use Rattle.notation.specs.Grammar.{
   binaryGroupNode,
 }
 use Rattle.notation.specs.declared.common.GroupKind.{GroupKind}
+use Rattle.notation.specs.declared.features.Features.{Features}
 use Rattle.notation.specs.declared.common.BinaryGroupKind.{BinaryGroupKind}
 use Rattle.notation.specs.declared.common.BinaryGroupKind.the-variants.{Commutator, Conjugate}
 use Rattle.parse.specs.Nodes.{repeated}
 use Rattle.parse.proofs.Bytes.{just-is, just-not}
 use Rattle.parse.proofs.Past.{Takes, within, takes-done, takes-then, takes-or, takes-less, takes-just}
 
-module _ (text : List ℕ) (at : ℕ) (list : Reader Tree) where
+module _ (f : Features) (text : List ℕ) (at : ℕ) (list : Reader Tree) where
   -- a group: its kind, `(`, its list, `)` and its multiplier
   module _ (kind : GroupKind) (bracket : ℕ) (starts : read kind bracket (drop bracket text) ≡ groupKind at (drop at text)) where
-    pub group-unopened : eqb (byteAt text bracket) 40 ≡ false → repeated (groupNode list) at (drop at text) ≡ rejected
+    pub group-unopened : eqb (byteAt text bracket) 40 ≡ false → repeated f (groupNode list) at (drop at text) ≡ rejected
     unfolding groupNode
     group-unopened h = rw (← starts, just-not "(" text bracket h)
 
     module _ (opens : eqb (byteAt text bracket) 40 ≡ true) (a : Tree) (close : ℕ)
         (lists : list (bracket + 1) (drop (bracket + 1) text) ≡ read a close (drop close text)) where
-      pub group-unclosed : eqb (byteAt text close) 41 ≡ false → repeated (groupNode list) at (drop at text) ≡ rejected
+      pub group-unclosed : eqb (byteAt text close) 41 ≡ false → repeated f (groupNode list) at (drop at text) ≡ rejected
       unfolding groupNode
       group-unclosed h = rw (← starts, just-is "(" text bracket (omega arith) opens, lists, just-not ")" text close h)
 
-      pub group-read : (m : ℤ) (next : ℕ) → eqb (byteAt text close) 41 ≡ true → multiplier (close + 1) (drop (close + 1) text) ≡ read m next (drop next text) →
-          repeated (groupNode list) at (drop at text) ≡ read (block (group kind a) m) next (drop next text)
+      pub group-read : (m : ℤ) (next : ℕ) → eqb (byteAt text close) 41 ≡ true → multiplier f (close + 1) (drop (close + 1) text) ≡ read m next (drop next text) →
+          repeated f (groupNode list) at (drop at text) ≡ read (block (group kind a) m) next (drop next text)
       unfolding groupNode
       group-read m next h e =
           rw (← starts, just-is "(" text bracket (omega arith) opens, lists, just-is ")" text close (omega arith) h)
@@ -54,18 +55,18 @@ module _ (text : List ℕ) (at : ℕ) (list : Reader Tree) where
   -- a commutator or a conjugate: `[`, a list, its sign, a list, `]` and its multiplier
   module _ (opens : eqb (byteAt text at) 91 ≡ true) (a : Tree) (sign : ℕ)
       (first : list (at + 1) (drop (at + 1) text) ≡ read a sign (drop sign text)) where
-    pub binary-unsigned : rejected ≡ binaryGroupKind sign (drop sign text) → repeated (binaryGroupNode list) at (drop at text) ≡ rejected
+    pub binary-unsigned : rejected ≡ binaryGroupKind sign (drop sign text) → repeated f (binaryGroupNode list) at (drop at text) ≡ rejected
     unfolding binaryGroupNode
     binary-unsigned h = rw (just-is "[" text at (omega arith) opens, first, ← h)
 
     module _ (kind : BinaryGroupKind) (signs : read kind (sign + 1) (drop (sign + 1) text) ≡ binaryGroupKind sign (drop sign text))
         (b : Tree) (close : ℕ) (second : list (sign + 1) (drop (sign + 1) text) ≡ read b close (drop close text)) where
-      pub binary-unclosed : eqb (byteAt text close) 93 ≡ false → repeated (binaryGroupNode list) at (drop at text) ≡ rejected
+      pub binary-unclosed : eqb (byteAt text close) 93 ≡ false → repeated f (binaryGroupNode list) at (drop at text) ≡ rejected
       unfolding binaryGroupNode
       binary-unclosed h = rw (just-is "[" text at (omega arith) opens, first, ← signs, second, just-not "]" text close h)
 
-      pub binary-read : (m : ℤ) (next : ℕ) → eqb (byteAt text close) 93 ≡ true → multiplier (close + 1) (drop (close + 1) text) ≡ read m next (drop next text) →
-          repeated (binaryGroupNode list) at (drop at text) ≡ read (block (binaryGroup kind a b) m) next (drop next text)
+      pub binary-read : (m : ℤ) (next : ℕ) → eqb (byteAt text close) 93 ≡ true → multiplier f (close + 1) (drop (close + 1) text) ≡ read m next (drop next text) →
+          repeated f (binaryGroupNode list) at (drop at text) ≡ read (block (binaryGroup kind a b) m) next (drop next text)
       unfolding binaryGroupNode
       binary-read m next h e =
           rw (just-is "[" text at (omega arith) opens, first, ← signs, second, just-is "]" text close (omega arith) h)

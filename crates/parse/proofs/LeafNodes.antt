@@ -73,7 +73,7 @@ module _ (f : Features) (at : ℕ) (s : List ℕ) where
       (each-after IsLeaf Leaves _ _
       (each-or Leaves (rotationNode f at s) _ at s rotation-leaf
       (each-or Leaves (groupNode fail at s) _ at s group-leaf (each-or Leaves (binaryGroupNode fail at s) (moveNode f) at s binary-leaf move-leaf)))
-      (λ g h at s. each-then IsLeaf (multiplier at s) _ (λ m at s. one (h m))))
+      (λ g h at s. each-then IsLeaf (multiplier f at s) _ (λ m at s. one (h m))))
       (each-when IsLeaf (f .sq1) _ at s (each-then IsLeaf (sq1Move at s) _ (λ x at s. one tt)))))
 
 -- a record that was read is a leaf's

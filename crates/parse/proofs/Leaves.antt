@@ -7,13 +7,13 @@ use mathlib.Core.Bool.{Bool, true, false, _&&_, _||_}
 use mathlib.Core.List.{List, [], _∷_}
 use mathlib.Core.Option.{Option, none, some}
 use native.Mathlib.Omega.{arith}
-use borrow.Author.Tests.{le-leb}
+use borrow.Author.Tests.{le-leb, lt-ltb}
 use lib.Dec.{eqb}
 use lib.ListN.{drop}
 use lib.Seq.{drop-drop}
-use lib.IntN.{ℤ}
+use lib.IntN.{ℤ, pos, negℤ}
 use Rattle.notation.specs.Chars.{isFamilyChar, whiteSpace}
-use Rattle.notation.specs.Utf8.{run, byteAt}
+use Rattle.notation.specs.Utf8.{widthIf, run, byteAt}
 use Rattle.notation.specs.Tree as tree
 use Rattle.notation.specs.Tree.{Span, span, Layers}
 use Rattle.notation.specs.Packed.{familyAt, leafFields}
@@ -31,6 +31,8 @@ use Rattle.notation.specs.Grammar.{
   uint,
   i32,
   padded,
+  character,
+  prime,
   multiplier,
   constraintSet,
   constraints,
@@ -45,18 +47,26 @@ use Rattle.notation.specs.declared.features.Features.{Features}
 use Rattle.notation.specs.declared.common.MegaminxScrambleMove.the-variants.{Rpp, Rmm, Dpp, Dmm}
 use Rattle.charsets.proofs.Bools.{contra, and-left, and-right, and-false}
 use Rattle.parse.specs.declared.parts.Element.the-variants.{Constraint}
-use Rattle.parse.specs.Meaning.{forget, elementOf, withQuote, repeated, leafRead, scrambleRead, pairAfter, scrambleOrMove, twice, scrambleAt, scrambleKind}
+use Rattle.parse.specs.Meaning.{forget, elementOf, signed, repeated, leafRead, scrambleRead, pairAfter, scrambleOrMove, twice, scrambleAt, scrambleKind}
 use Rattle.parse.proofs.Bytes.{other, just-is, just-not, word-not}
 use Rattle.parse.proofs.Readings.{took, gone, or-none}
 use Rattle.parse.proofs.InBraces.{no-brace, constraint-set-ends}
 
 -- Multipliers.
-module _ (at : ℕ) (s : List ℕ) where
-  pub no-number : rejected ≡ uint 0 2147483647 at s → withQuote 1 at s ≡ multiplier at s
+module _ (f : Features) (at : ℕ) (s : List ℕ) where
+  pub no-number : rejected ≡ uint 0 2147483647 at s → signed (prime f) 1 at s ≡ multiplier f at s
   no-number e = rw (← e)
 
-  pub a-number : (n next : ℕ) (rest : List ℕ) → read n next rest ≡ uint 0 2147483647 at s → withQuote n next rest ≡ multiplier at s
+  pub a-number : (n next : ℕ) (rest : List ℕ) → read n next rest ≡ uint 0 2147483647 at s → signed (prime f) n next rest ≡ multiplier f at s
   a-number n next rest e = rw (← e)
+
+-- the sign that negates, one character of a class
+module _ (p : ℕ → Bool) (text : List ℕ) (at w n : ℕ) (e : w ≡ widthIf p (drop at text)) where
+  pub no-sign : w ≡ 0 → read (pos n) at (drop at text) ≡ signed (character p) n at (drop at text)
+  no-sign z = rw (← e, z)
+
+  pub a-sign : (w ≡ 0 → ⊥) → read (negℤ (pos n)) (at + w) (drop (at + w) text) ≡ signed (character p) n at (drop at text)
+  a-sign h = rw (← e, lt-ltb 0 w (omega arith), drop-drop w at text)
 
 -- Constraints after a family.
 module _ (f : Features) (text : List ℕ) (at : ℕ) where
@@ -85,14 +95,14 @@ module _ (f : Features) (at : ℕ) (s : List ℕ) where
   a-tilde next rest e q = rw (e, q)
 
 -- Rotations.
-pub rotations-off : (f : Features) (at : ℕ) (s : List ℕ) → f .«generalized_rotations» ≡ false → rejected ≡ repeated (rotationNode f at s)
+pub rotations-off : (f : Features) (at : ℕ) (s : List ℕ) → f .«generalized_rotations» ≡ false → rejected ≡ repeated f (rotationNode f at s)
 unfolding rotationNode
 rotations-off f at s e = rw e
 
 pub a-rotation : (f : Features) (text : List ℕ) (at end next last : ℕ) (a : Span) (c : Option Span) (m : ℤ) → f .«generalized_rotations» ≡ true → eqb (byteAt text at) 64 ≡ true →
     end ≡ at + 1 + run isFamilyChar (drop (at + 1) text) → a ≡ familyAt (at + 1) (end - (at + 1)) →
-    read c next (drop next text) ≡ constraints f end (drop end text) → read m last (drop last text) ≡ multiplier next (drop next text) →
-    read (leafFields (tree.rotation a c m)) last (drop last text) ≡ repeated (rotationNode f at (drop at text))
+    read c next (drop next text) ≡ constraints f end (drop end text) → read m last (drop last text) ≡ multiplier f next (drop next text) →
+    read (leafFields (tree.rotation a c m)) last (drop last text) ≡ repeated f (rotationNode f at (drop at text))
 unfolding rotationNode
 a-rotation f text at end next last a c m on sign e family set times =
     let n : run isFamilyChar (drop (at + 1) text) ≡ end - (at + 1) = omega arith in
@@ -111,15 +121,15 @@ a-rotation f text at end next last a c m on sign e family set times =
 -- Moves.
 module _ (f : Features) (text : List ℕ) (at mark : ℕ) (t : Bool) (from end : ℕ) (l : Layers Span) (sign : read t mark (drop mark text) ≡ tilde f at (drop at text))
     (prefix : read l from (drop from text) ≡ layerPrefixContents f mark (drop mark text)) (e : end ≡ from + run isFamilyChar (drop from text)) where
-  pub no-move : end ≡ from → rejected ≡ repeated (moveNode f at (drop at text))
+  pub no-move : end ≡ from → rejected ≡ repeated f (moveNode f at (drop at text))
   unfolding moveNode
   no-move h =
       let z : run isFamilyChar (drop from text) ≡ 0 = omega arith in
       rw (← sign, ← prefix, z)
 
   pub a-move : (next last : ℕ) (a : Span) (c : Option Span) (m : ℤ) → (end ≡ from → ⊥) → a ≡ familyAt from (end - from) →
-      read c next (drop next text) ≡ constraints f end (drop end text) → read m last (drop last text) ≡ multiplier next (drop next text) →
-      read (leafFields (tree.move t l a c m)) last (drop last text) ≡ repeated (moveNode f at (drop at text))
+      read c next (drop next text) ≡ constraints f end (drop end text) → read m last (drop last text) ≡ multiplier f next (drop next text) →
+      read (leafFields (tree.move t l a c m)) last (drop last text) ≡ repeated f (moveNode f at (drop at text))
   unfolding moveNode
   a-move next last a c m h family set times =
       let n : run isFamilyChar (drop from text) ≡ end - from = omega arith in
@@ -323,14 +333,14 @@ module _ (f : Features) (text : List ℕ) (at : ℕ) where
   scrambled b = scrambleRead (when b megaminxScrambleMove at (drop at text))
 
   abbrev orMove : Reading (List ℕ) → Reading (List ℕ)
-  orMove r = orElse r (λ at s. repeated (moveNode f at s)) at (drop at text)
+  orMove r = orElse r (λ at s. repeated f (moveNode f at s)) at (drop at text)
 
   pub a-scramble : {x : Reading (List ℕ)} → f .megaminx ≡ true → scrambleAt text at ≡ true → x ≡ scrambleRead (megaminxScrambleMove at (drop at text)) →
       x ≡ scrambleOrMove f at (drop at text)
   a-scramble e n q = let m = scramble-stands text at n in q ∙ sym m ∙ sym (ap (λ (b : Bool). orMove (scrambled b)) e ∙ ap orMove (sym m))
 
-  pub no-scramble : {x : Reading (List ℕ)} → (f .megaminx && scrambleAt text at) ≡ false → x ≡ repeated (moveNode f at (drop at text)) → x ≡ scrambleOrMove f at (drop at text)
-  no-scramble e q = q ∙ sym (or-none (scrambled (f .megaminx)) (λ at s. repeated (moveNode f at s)) at (drop at text) (go (f .megaminx) e))
+  pub no-scramble : {x : Reading (List ℕ)} → (f .megaminx && scrambleAt text at) ≡ false → x ≡ repeated f (moveNode f at (drop at text)) → x ≡ scrambleOrMove f at (drop at text)
+  no-scramble e q = q ∙ sym (or-none (scrambled (f .megaminx)) (λ at s. repeated f (moveNode f at s)) at (drop at text) (go (f .megaminx) e))
     where
       go : (b : Bool) → (b && scrambleAt text at) ≡ false → scrambled b ≡ rejected
       go true e = sym (scramble-missing text at e)

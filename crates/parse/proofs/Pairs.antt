@@ -62,7 +62,7 @@ module _ (s : List ℕ) (n : Numeric s) where
   unfolding oneOf upTo
   no-node f list at =
       node-choice f list at s
-      ∙ ap (λ (r : Reading (ℤ → Node Leaf)). orElse (andThen r times) (node f fail) at s)
+      ∙ ap (λ (r : Reading (ℤ → Node Leaf)). orElse (andThen r (times f)) (node f fail) at s)
       (nothing-nested list at s (not-byte 40 refl) (not-byte 33 refl) (not-byte 38 refl) (not-byte 94 refl) (not-byte 91 refl))
       ∙ bare-node f at s bare-number (not-byte 46 refl) (not-byte 82 refl) (not-byte 68 refl) (not-byte 64 refl)
       ∙ when-none (f .sq1) _ at s (ap (λ (r : Reading Leaf). andThen r (λ x. done (leaf x))) (sq1-none f at s (not-byte 47 refl) (not-byte 40 refl)))

@@ -10,11 +10,11 @@ use lib.Dec.{eqb, leb, ltb}
 use lib.ListN.{length, take, drop, length-drop}
 use Rattle.notation.specs.Basics.{pick}
 use Rattle.notation.specs.Chars.{isFamilyChar, whiteSpace}
-use Rattle.notation.specs.Utf8.{run}
+use Rattle.notation.specs.Utf8.{widthIf, run}
 use Rattle.notation.specs.Packed.{familyAt}
-use Rattle.notation.specs.Grammar.{Reading, rejected, read, Reader, andThen, orElse, done, fail, when, just, uint, whitespace, padded, familyText, family, collect, moreOf, separatedBy, braces}
+use Rattle.notation.specs.Grammar.{Reading, rejected, read, Reader, andThen, orElse, done, fail, when, just, character, uint, whitespace, padded, familyText, family, collect, moreOf, separatedBy, braces}
 use Rattle.numbers.proofs.Bounds.{number}
-use Rattle.charsets.proofs.Runs.{run-length}
+use Rattle.charsets.proofs.Runs.{run-length, widthIf-length}
 use Rattle.parse.proofs.Readings.{never as nothing}
 
 pub record Takes {A : Type 0} (k : ℕ) (p : Reader A) : Type 0 where
@@ -80,18 +80,27 @@ takes-just c = record { ends = λ at s a e t q. go at s a e t q }
 pub takes-uint : (low high : ℕ) → Takes 1 (uint low high)
 takes-uint low high = record { ends = λ at s a e t q. let n = number low high at s a e t q in (omega (arith, n .later), n .inside) }
 
--- a run of characters, of which a rule asks for at least k bytes
-pub takes-run : {A : Type 0} (p : ℕ → Bool) (k : ℕ) (x : ℕ → Bool) (f : ℕ → List ℕ → ℕ → A) → ((n : ℕ) → x n ≡ true → k ≤ n) →
-    Takes k (λ at s. pick (x (run p s)) (read (f at s (run p s)) (at + run p s) (drop (run p s) s)) rejected)
-takes-run {A} p k x f h = record { ends = λ at s a e t q. go at s (x (run p s)) refl a e t q }
+-- n bytes of the text, of which a rule asks for at least k
+takes-front : {A : Type 0} (n : List ℕ → ℕ) → ((s : List ℕ) → n s ≤ length s) → (k : ℕ) (x : ℕ → Bool) (f : ℕ → List ℕ → ℕ → A) →
+    ((n : ℕ) → x n ≡ true → k ≤ n) → Takes k (λ at s. pick (x (n s)) (read (f at s (n s)) (at + n s) (drop (n s) s)) rejected)
+takes-front {A} n most k x f h = record { ends = λ at s a e t q. go at s (x (n s)) refl a e t q }
   where
-    go : (at : ℕ) (s : List ℕ) (b : Bool) → x (run p s) ≡ b → (a : A) (e : ℕ) (t : List ℕ) → pick b (read (f at s (run p s)) (at + run p s) (drop (run p s) s)) rejected ≡ read a e t →
+    go : (at : ℕ) (s : List ℕ) (b : Bool) → x (n s) ≡ b → (a : A) (e : ℕ) (t : List ℕ) → pick b (read (f at s (n s)) (at + n s) (drop (n s) s)) rejected ≡ read a e t →
         (at + k ≤ e) × (e + length t ≡ at + length s)
     go at s true w a e t q =
-        let i : at + run p s ≡ e = cc in
-        let l : length (drop (run p s) s) ≡ length t = cc in
-        (omega (arith, h (run p s) w), omega (arith, length-drop (run p s) s, run-length p 0 s))
+        let i : at + n s ≡ e = cc in
+        let l : length (drop (n s) s) ≡ length t = cc in
+        (omega (arith, h (n s) w), omega (arith, length-drop (n s) s, most s))
     go at s false w a e t q = nothing q
+
+-- a run of characters
+pub takes-run : {A : Type 0} (p : ℕ → Bool) (k : ℕ) (x : ℕ → Bool) (f : ℕ → List ℕ → ℕ → A) → ((n : ℕ) → x n ≡ true → k ≤ n) →
+    Takes k (λ at s. pick (x (run p s)) (read (f at s (run p s)) (at + run p s) (drop (run p s) s)) rejected)
+takes-run p = takes-front (run p) (run-length p 0)
+
+-- a character
+pub takes-character : (p : ℕ → Bool) → Takes 1 (character p)
+takes-character p = takes-front (widthIf p) (widthIf-length p) 1 (λ n. ltb 0 n) (λ _ _ _. tt {0}) (λ n h. omega (arith, ltb-true 0 n h))
 
 pub takes-whitespace : Takes 0 whitespace
 takes-whitespace = takes-run whiteSpace 0 (λ _. true) (λ _ _ _. tt {0}) (λ _ _. omega arith)

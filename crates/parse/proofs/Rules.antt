@@ -7,7 +7,8 @@ use mathlib.Core.List.{List}
 use native.Mathlib.Omega.{arith}
 use lib.ListN.{length, drop}
 use Rattle.notation.specs.Tree.{Span, span}
-use Rattle.notation.specs.Grammar.{Reading, rejected, read, Reader, andThen, done, fail, just, word, sint, multiplier, spanned, constraint, constraintSet, layerSetElement, layerSetElements, layerPrefixContents, constraints, rotationNode, tilde, moveNode, groupNode, binaryGroupNode, megaminxScrambleMove, sq1Move, node, nodeBy}
+use Rattle.notation.specs.Chars.{isPrime}
+use Rattle.notation.specs.Grammar.{Reading, rejected, read, Reader, andThen, done, fail, just, word, sint, prime, multiplier, spanned, constraint, constraintSet, layerSetElement, layerSetElements, layerPrefixContents, constraints, rotationNode, tilde, moveNode, groupNode, binaryGroupNode, megaminxScrambleMove, sq1Move, node, nodeBy}
 use Rattle.notation.specs.declared.features.Features.{Features}
 use Rattle.notation.specs.declared.common.MegaminxScrambleMove.{MegaminxScrambleMove}
 use Rattle.parse.specs.Meaning.{forget, elementOf, layerAfterHyphen, layerAfterDots, numberedLayers, recordReading, nodeFields, Within}
@@ -15,7 +16,7 @@ use Rattle.parse.specs.declared.parts.Element.{Element}
 use Rattle.parse.specs.declared.parts.Element.the-variants as element
 use Rattle.parse.specs.declared.parts.LeafAnswer.{LeafAnswer}
 use Rattle.parse.specs.declared.parts.LeafAnswer.the-variants as leafAnswer
-use Rattle.parse.proofs.Past.{Takes, within, takes-fail, takes-done, takes-then, takes-or, takes-when, takes-less, takes-just, takes-uint, takes-familyText, takes-family, takes-padded, takes-braces}
+use Rattle.parse.proofs.Past.{Takes, within, takes-fail, takes-done, takes-then, takes-or, takes-when, takes-less, takes-just, takes-character, takes-uint, takes-familyText, takes-family, takes-padded, takes-braces}
 use Rattle.parse.proofs.Readings.{took, never}
 
 pub takes-forget : {A : Type 0} {k : ℕ} {p : Reader A} → Takes k p → Takes k (λ at s. forget (p at s))
@@ -101,8 +102,11 @@ takes-constraints f = takes-or (any (first (takes-when (f .«transform_constrain
 pub takes-tilde : (f : Features) → Takes 0 (tilde f)
 takes-tilde f = takes-or (takes-when (f .layers .«inverted_layers») (any (first (takes-just "~") (λ _. takes-done)))) takes-done
 
-pub takes-multiplier : Takes 0 multiplier
-takes-multiplier = second (takes-or (any (takes-uint 0 2147483647)) takes-done) (λ n. takes-or (any (first (takes-just "'") (λ _. takes-done))) takes-done)
+takes-prime : (f : Features) → Takes 1 (prime f)
+takes-prime f = takes-or (takes-just "'") (takes-when (f .«curly_primes») (takes-character isPrime))
+
+pub takes-multiplier : (f : Features) → Takes 0 (multiplier f)
+takes-multiplier f = second (takes-or (any (takes-uint 0 2147483647)) takes-done) (λ n. takes-or (any (first (takes-prime f) (λ _. takes-done))) takes-done)
 
 takes-rotation : (f : Features) → Takes 1 (rotationNode f)
 unfolding rotationNode
@@ -144,7 +148,7 @@ unfolding nodeBy
 takes-node f =
     takes-or (first (takes-just ".") (λ _. takes-done))
     (takes-or (takes-when (f .megaminx) (first takes-scramble (λ k. takes-done)))
-    (takes-or (first (takes-or (takes-rotation f) (takes-or takes-group (takes-or takes-binary (takes-move f)))) (λ inner. first takes-multiplier (λ m. takes-done)))
+    (takes-or (first (takes-or (takes-rotation f) (takes-or takes-group (takes-or takes-binary (takes-move f)))) (λ inner. first (takes-multiplier f) (λ m. takes-done)))
     (takes-when (f .sq1) (first takes-sq1 (λ x. takes-done)))))
 
 -- the answer of `leaf` lies within the text, past its start

@@ -28,7 +28,7 @@ returns c =
     let a = c .before .before .before .before .args in
     let here : byteAt (a .text .now) (a .at) ≡ a .bracket = eqb-true _ _ (sym (c .before .before .has .ensures) ∙ c .before .if1 .taken) in
     let inside = is-byte (a .text .now) (a .at) (omega (arith, here, c .before .before .before .before .fits .bracket)) in
-    let ends = within (a .text .now) (a .at + 1) takes-multiplier (omega (arith, inside)) (c .multiplier .ensures) in
+    let ends = within (a .text .now) (a .at + 1) (takes-multiplier (a .features)) (omega (arith, inside)) (c .multiplier .ensures) in
     record {
       stands = sym (c .before .before .has .ensures) ∙ c .before .if1 .taken;
       reads = sym (c .multiplier .ensures);
