@@ -26,8 +26,8 @@ use Rattle.reader.specs.Cursor.{text, Inside, reads, endOf, moved, after
 pub whitespace-moves : (r : Reader) (n : ℕ) → Inside r → n ≡ r .at + run whiteSpace (drop (r .at) (text r)) → Moves whitespace r (moved r n)
 whitespace-moves r n inside e = (ap (moved r) e, omega (arith, inside, e, length-drop (r .at) (text r), run-length whiteSpace 0 (drop (r .at) (text r))))
 
-pub multiplier-moves : (r : Reader) (m : Multiplied) → Inside r → multiplierReading (text r) m ≡ reads multiplier r → Moves multiplier r (moved r (m .next))
-multiplier-moves r m inside e = (ap (after r) e, within (text r) (r .at) takes-multiplier inside e .1)
+pub multiplier-moves : (f : Features) (r : Reader) (m : Multiplied) → Inside r → multiplierReading (text r) m ≡ reads (multiplier f) r → Moves (multiplier f) r (moved r (m .next))
+multiplier-moves f r m inside e = (ap (after r) e, within (text r) (r .at) (takes-multiplier f) inside e .1)
 
 -- a leaf's answer says where its reading ends
 leaf-end : (s : List ℕ) (at : ℕ) (a : LeafAnswer) → afterLeaf at a ≡ endOf at (recordReading s a)

@@ -1,5 +1,5 @@
 -- A method of `Reader<'a>` that takes `&mut self`: its signature but for what it takes beside the reader and what it returns, how its walk begins and ends, and how the walk gives that it meets its contract.
---     Beside           what the method takes beside the reader: the slots, what is had of each at exit, its machine values, and the laws of both.        alone      nothing
+--     Beside           what the method takes beside the reader: the slots, what is had of each at exit, its machine values, and the laws of both.        alone      nothing.        features      a setting
 --     ended s res      the signature, with what it keeps.        stayed s res     what is had of the parameters at exit
 --     self l, vals s l a       the argument `self`, and the machine values of the others.        at-call      what the walk's triple binds outside.        Post     what a walk ends in
 --     leaves           how a walk ends: the cursor stands at n, the result is r, and what the clause says holds
@@ -22,13 +22,16 @@ use sound.WpLaws.{WpFn-mono}
 use denote.RattleType.{Denots, Valss, flat, owns}
 use denote.Laws.{Are, Ises, Spells, valss, Tellss}
 use denote.Exit.{yes}
+use denote.Struct.Laws as LL
 use denote.Ref.{RefT, ptr-vals, mut-tells}
 use denote.Signature.{Slot, plain, mutRefTo, namedLft, typeAt, typesAt}
 use denote.Triple.Clauses.{Ended, Clauses, atExit, closing}
 use denote.Triple.End.{Kepts, Fins}
 use denote.Triple.Entry.{onEntry}
 use denote.Triple.Spec.{Meets}
-use denote.Triple.Walked.{Stays, stay-ref, goes-ref, AllGo, fitsOf, hasOf, walkOf, ends-at, walked, walk-meets}
+use denote.Triple.Walked.{Stays, stay-none, stay-ref, goes-none, goes-ref, AllGo, fitsOf, hasOf, walkOf, ends-at, walked, walk-meets}
+use Rattle.notation.proofs.features.Features as F
+use Rattle.notation.proofs.features.Features.Laws as F′
 use Rattle.reader.specs.Cursor.{moved}
 use Rattle.reader.specs.declared.Reader.{Reader}
 use Rattle.reader.proofs.Lent.{Loan, Token, Left}
@@ -44,6 +47,17 @@ pub record Beside : Type 2 where
 
 abbrev pub alone : Beside
 alone = record { slots = []; kept = tt; stays = tt; spells = λ κs. tt; tells = λ κs. tt; goes = λ 𝓤 H A W. tt }
+
+-- a setting
+abbrev pub features : Beside
+features = record {
+  slots = plain (λ _. F.the-row) ∷ [];
+  kept = (yes, tt);
+  stays = (stay-none (λ _. F.the-row) yes, tt);
+  spells = λ κs. (LL.vals F.the-type F′.the-laws, tt);
+  tells = λ κs. (LL.tells F.the-type F′.the-laws, tt);
+  goes = λ 𝓤 H A W. (goes-none 𝓤 H A W 2 (λ _. F.the-row) yes (λ κs x f. refl), tt);
+}
 
 -- `Reader<'a>`, as the referent's place in the signature
 abbrev pub behind : Slot 2

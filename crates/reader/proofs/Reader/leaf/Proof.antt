@@ -27,16 +27,14 @@ use denote.RattleType.{owns}
 use denote.Laws.{Is, shows}
 use denote.Plain.{uint-lawful}
 use denote.Builtin.{usize}
-use denote.Signature.{plain}
 use denote.Steps.{only, owned, peeks, nothing}
 use denote.Enum.Laws as EL
 use denote.Struct.Laws as LL
-use denote.Exit.{yes}
 use denote.Triple.Call.{calls-at}
 use denote.Triple.Spec.{Meets, tripleOf}
 use denote.Triple.Statement.{Contract, Triple}
 use denote.Triple.Table.{entered, cited}
-use denote.Triple.Walked.{needs, stay-none, goes-none}
+use denote.Triple.Walked.{needs}
 use Rattle.notation.specs.Entries.{MAX-TEXT}
 use Rattle.notation.specs.declared.features.Features.{Features}
 use Rattle.notation.proofs.features.Features as F
@@ -53,7 +51,7 @@ use Rattle.reader.specs.Cursor.{text, Inside, reads, afterLeaf}
 use Rattle.reader.specs.Cursor as cursor
 use Rattle.reader.proofs.Ends.{leaf-moves}
 use Rattle.reader.proofs.Lent.{Loan, RE, R, mach, text-val, Own, Bor, Token, Left, opens-reader, closes-reader, hands-text, on-answer, hands-answer, answered}
-use Rattle.reader.proofs.Method.{Beside, bound, lfts, Post, leaves, meets}
+use Rattle.reader.proofs.Method.{features, bound, lfts, Post, leaves, meets}
 use Rattle.reader.proofs.after_leaf as after-leaf
 use Rattle.reader.proofs.after_leaf.Symbol as after-leaf-def
 use Rattle.reader.proofs.after_leaf.Symbol.{name as #reader·after-leaf}
@@ -62,17 +60,6 @@ use Rattle.reader.proofs.Reader.leaf.Key.{name as #reader·leaf}
 use Rattle.reader.proofs.Reader.leaf as leaf
 use Rattle.reader.proofs.Reader.leaf.Statement as stated
 use Rattle.reader.proofs.Reader.leaf.Code as code
-
--- what the method takes beside the reader
-abbrev features : Beside
-features = record {
-  slots = plain (λ _. F.the-row) ∷ [];
-  kept = (yes, tt);
-  stays = (stay-none (λ _. F.the-row) yes, tt);
-  spells = λ κs. (LL.vals F.the-type F′.the-laws, tt);
-  tells = λ κs. (LL.tells F.the-type F′.the-laws, tt);
-  goes = λ 𝓤 H A W. (goes-none 𝓤 H A W 2 (λ _. F.the-row) yes (λ κs x f. refl), tt);
-}
 
 -- the body, whole and from its fourth statement on
 abbrev at-field : ℕ → Place
