@@ -1,9 +1,8 @@
 -- A character's class, its number in the table, and what the sets of characters have to do with each other.
 use mathlib.Core.Path.{_≡_, refl, ap}
 use mathlib.Core.Bool.{Bool, true, false, not, _||_}
-use mathlib.Core.List.{List, [], _∷_}
-use Prim.Native.Nat.{ℕ, _≤_, _<_}
-use native.Mathlib.Omega.{arith}
+use mathlib.Core.List.{[], _∷_}
+use Prim.Native.Nat.{ℕ, _≤_}
 use borrow.Author.Tests.{le-leb, ne-eqb}
 use denote.Enum.Declared.{tagOf}
 use lib.Dec.{eqb, leb}

@@ -34,7 +34,7 @@ fn code(answer: Answer) -> u64
     }
 }
 
-// Bytes used. Bits 0 to 6 of features are the flags in the order of the header; higher bits are ignored.
+// Bytes used. Bits 0 to 7 of features are the flags in the order of the header; higher bits are ignored.
 #[no_mangle]
 pub extern "C" fn hypuz_parse_notation(text: &[u8], features: u32, tree: &mut [u8]) -> u64
     ensures { λ r. ⌜ Hands r (now (tree .exit)) (rule.parseNotation (flags.ofBits features) (now (text .entry)) (now (tree .entry))) ⌝ }

@@ -2,7 +2,7 @@
 use Prim.Native.Nat.{ℕ, zero, suc}
 use Prim.Native.String.{String}
 use mathlib.Core.Path.{_≡_, refl}
-use mathlib.Core.Bool.{Bool, true, false}
+use mathlib.Core.Bool.{true, false}
 use mathlib.Core.List.{List, [], _∷_, _++_, map}
 use mathlib.Core.Option.{none, some}
 use lib.IntN.{pos, negsuc}
@@ -10,14 +10,14 @@ use lib.ListN.{replicate}
 use Rattle.notation.specs.Features.{MINIMAL, WCA, MAXIMAL, ofBits}
 use Rattle.notation.specs.Tree.{span, leaf, block, group, nil, cons, rotation, move, noLayers, layerSet}
 use Rattle.notation.specs.Packed.{nowhere}
-use Rattle.notation.specs.Refusals.{Outcome, refusal, result, _>>=_}
-use Rattle.notation.specs.Print.{printed}
+use Rattle.notation.specs.Refusals.{result, _>>=_}
 use Rattle.notation.specs.Entries.{treeIn, refusalNumber}
 use Rattle.notation.specs.Primes.{straight, given, treeGiven, straightTreeIn, withoutCurly}
 use Rattle.notation.specs.declared.features.Features.{Features}
 use Rattle.notation.specs.declared.common.GroupKind.the-variants.{Simple}
 use Rattle.notation.proofs.Opened.{opened}
 use Rattle.notation.proofs.Examples.Text.{bytes}
+use Rattle.notation.proofs.Examples.Reading.{shown, refusals}
 
 -- bit 7: the flag alone, and beside all others; without it a number is what it was
 abbrev alone : Features
@@ -31,14 +31,8 @@ settings : (alone .«curly_primes» ≡ true) × (withoutCurly alone ≡ MINIMAL
     × (map (λ (f : Features). f .«curly_primes») (MINIMAL ∷ WCA ∷ MAXIMAL ∷ []) ≡ false ∷ false ∷ false ∷ [])
 settings = (refl, refl, refl, refl, refl, refl, refl)
 
-abbrev shown : Features → String → Outcome (List ℕ)
-shown f s = do t ← treeIn f (bytes s); result (printed (bytes s) t)
-
-abbrev refusals : Features → List String → List ℕ
-refusals f l = map (λ s. refusalNumber (treeIn f (bytes s))) l
-
 -- after a number or none, of a move, a rotation and every group; printed with the apostrophe
-negates : map (shown all)
+negates : map (λ s. shown all (bytes s))
     ("R’" ∷ "R′" ∷ "R2’ U007′ F'" ∷ "R0’" ∷ "(R’ U)’" ∷ "[R’: U′]2′" ∷ "[,]’" ∷ "!()’ &()′ ^(R’)" ∷ "@’" ∷ "@U{A}3′" ∷ "~{1}R{A->B}’" ∷ "Ω’" ∷ "R’\t" ∷ [])
     ≡ map (λ s. result (bytes s))
     ("R'" ∷ "R'" ∷ "R2' U7' F'" ∷ "R0" ∷ "(R' U)'" ∷ "[R': U']2'" ∷ "[, ]'" ∷ "!()' &()' ^(R')" ∷ "@'" ∷ "@U{A}3'" ∷ "~{1}R{A->B}'" ∷ "Ω'" ∷ "R'" ∷ [])

@@ -20,11 +20,11 @@ use Rattle.notation.specs.declared.common.MegaminxScrambleMove.the-varia
 use Rattle.notation.proofs.Opened.{opened}
 use Rattle.notation.proofs.Examples.Text.{bytes}
 
-abbrev shown : Features → List ℕ → Outcome (List ℕ)
+abbrev pub shown : Features → List ℕ → Outcome (List ℕ)
 shown f text = do t ← treeIn f text; result (printed text t)
 
 -- the refusal of each text, 0 where it is read
-abbrev refusals : Features → List String → List ℕ
+abbrev pub refusals : Features → List String → List ℕ
 refusals f l = map (λ s. refusalNumber (treeIn f (bytes s))) l
 
 -- what was read is printed so

@@ -1,6 +1,6 @@
 -- `charsets::charsets::class_number` meets its contract: antt compares the table with the rule's own, entry by entry, and past the table
 -- no test of `classify` passes.
-use Prim.Native.Nat.{ℕ, _+_, _≤_}
+use Prim.Native.Nat.{ℕ, _≤_}
 use mathlib.Core.Path.{_≡_, _∙_, ap, refl, sym}
 use mathlib.Core.Bool.{Bool, true, false}
 use mathlib.Core.List.{_∷_}
