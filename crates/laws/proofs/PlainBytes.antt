@@ -16,6 +16,7 @@ use Rattle.notation.specs.Numbers.{isDigit, digitRun}
 use Rattle.notation.specs.WellFormed.{MAX-NESTING}
 use Rattle.notation.specs.Entries.{opens, closes, nestingOk}
 use Rattle.laws.proofs.Bools.{and-left, and-right, and-both}
+use Rattle.laws.proofs.Runs.{second}
 
 -- none of ( [ ) ]
 abbrev pub plain : ℕ → Bool
@@ -58,6 +59,9 @@ high b = leb 0x80 b
 
 plain-high : (b : ℕ) → high b ≡ true → plain b ≡ true
 plain-high b e = passes-plain high refl refl refl refl b e
+
+plain-continuation : (b : ℕ) → continuation b ≡ true → plain b ≡ true
+plain-continuation b e = passes-plain continuation refl refl refl refl b e
 
 -- Small facts of tests.
 unmarked : (s t : Bool) → not (s || t) ≡ true → (s ≡ false) × (t ≡ false)
@@ -135,25 +139,30 @@ plain-digits (b ∷ s) = go (isDigit b) refl (plain-digits s)
     go true e h = and-both (plain b) _ (plain-digit b e) h
     go false e h = refl
 
--- The bytes of a character after the first are high.
-highs-1 : (s : List ℕ) → high (byteAt s 0) ≡ true → every high (take 1 s) ≡ true
+-- The bytes of a character after the first are continuations.
+tail-1 : (s : List ℕ) → continuation (byteAt s 0) ≡ true → every continuation (take 1 s) ≡ true
 unfolding every
-highs-1 [] e = refl
-highs-1 (b ∷ s) e = and-both (high b) true e refl
+tail-1 [] e = refl
+tail-1 (b ∷ s) e = and-both (continuation b) true e refl
 
-highs-2 : (s : List ℕ) → high (byteAt s 0) ≡ true → high (byteAt s 1) ≡ true → every high (take 2 s) ≡ true
+tail-2 : (s : List ℕ) → continuation (byteAt s 0) ≡ true → continuation (byteAt s 1) ≡ true → every continuation (take 2 s) ≡ true
 unfolding every
-highs-2 [] e₀ e₁ = refl
-highs-2 (b ∷ s) e₀ e₁ = and-both (high b) _ e₀ (highs-1 s e₁)
+tail-2 [] e₀ e₁ = refl
+tail-2 (b ∷ s) e₀ e₁ = and-both (continuation b) _ e₀ (tail-1 s e₁)
 
-highs-3 : (s : List ℕ) → high (byteAt s 0) ≡ true → high (byteAt s 1) ≡ true → high (byteAt s 2) ≡ true → every high (take 3 s) ≡ true
+tail-3 : (s : List ℕ) → continuation (byteAt s 0) ≡ true → continuation (byteAt s 1) ≡ true → continuation (byteAt s 2) ≡ true →
+    every continuation (take 3 s) ≡ true
 unfolding every
-highs-3 [] e₀ e₁ e₂ = refl
-highs-3 (b ∷ s) e₀ e₁ e₂ = and-both (high b) _ e₀ (highs-2 s e₁ e₂)
+tail-3 [] e₀ e₁ e₂ = refl
+tail-3 (b ∷ s) e₀ e₁ e₂ = and-both (continuation b) _ e₀ (tail-2 s e₁ e₂)
 
-raised : (t : Bool) (m u x : ℕ) → 0x80 ≤ m → between (pick t m 0x80) u x ≡ true → high x ≡ true
-raised true m u x h e = le-leb 0x80 x (omega (arith, leb-true m x (and-left _ _ e)))
-raised false m u x h e = and-left _ _ e
+-- so is a second byte between narrower bounds
+narrow : (t u : Bool) (m n x : ℕ) → 0x80 ≤ m → n ≤ 0xbf → between (pick t m 0x80) (pick u n 0xbf) x ≡ true → continuation x ≡ true
+narrow t u m n x h k e = go (continuation x) refl
+  where
+    go : (c : Bool) → continuation x ≡ c → c ≡ true
+    go true f = refl
+    go false f = never (sym (second t u m n x h k f) ∙ e)
 
 -- the four widths, told apart by the tests of `charWidth`
 widths : (t₁ t₂ t₃ t₄ : Bool) (k : ℕ) (Q : ℕ → Type 0) → Q 0 → (t₂ ≡ true → Q 1) → (t₃ ≡ true → Q 2) → (t₄ ≡ true → Q 3) →
@@ -164,12 +173,9 @@ widths false false true t₄ k Q q₀ q₁ q₂ q₃ e = subst Q (omega arith) (
 widths false false false true k Q q₀ q₁ q₂ q₃ e = subst Q (omega arith) (q₃ refl)
 widths false false false false k Q q₀ q₁ q₂ q₃ e = absurd (omega arith)
 
-high-continuation : (x : ℕ) → continuation x ≡ true → high x ≡ true
-high-continuation x e = and-left (high x) (leb x 0xbf) e
-
-width-highs : (b k : ℕ) (s : List ℕ) → charWidth (b ∷ s) ≡ suc k → every high (take k s) ≡ true
+pub width-tail : (b k : ℕ) (s : List ℕ) → charWidth (b ∷ s) ≡ suc k → every continuation (take k s) ≡ true
 unfolding charWidth every
-width-highs b k s e =
+width-tail b k s e =
     let b₁ = byteAt s 0 in
     let c₁ = continuation b₁ in
     let c₂ = continuation (byteAt s 1) in
@@ -179,16 +185,16 @@ width-highs b k s e =
     let r₄ = between 0xf0 0xf4 b in
     let s₃ = between (pick (eqb b 0xe0) 0xa0 0x80) (pick (eqb b 0xed) 0x9f 0xbf) b₁ in
     let s₄ = between (pick (eqb b 0xf0) 0x90 0x80) (pick (eqb b 0xf4) 0x8f 0xbf) b₁ in
-    widths (leb b 0x7f) (r₂ && c₁) (r₃ && s₃ && c₂) (r₄ && s₄ && c₂ && c₃) k (λ (j : ℕ). every high (take j s) ≡ true)
+    widths (leb b 0x7f) (r₂ && c₁) (r₃ && s₃ && c₂) (r₄ && s₄ && c₂ && c₃) k (λ (j : ℕ). every continuation (take j s) ≡ true)
     refl
-    (λ h. highs-1 s (high-continuation b₁ (and-right r₂ c₁ h)))
-    (λ h. highs-2 s
-      (raised (eqb b 0xe0) 0xa0 (pick (eqb b 0xed) 0x9f 0xbf) b₁ (omega arith) (and-right r₃ s₃ (and-left (r₃ && s₃) c₂ h)))
-      (high-continuation (byteAt s 1) (and-right (r₃ && s₃) c₂ h)))
-    (λ h. let g = and-left (r₄ && s₄ && c₂) c₃ h in highs-3 s
-      (raised (eqb b 0xf0) 0x90 (pick (eqb b 0xf4) 0x8f 0xbf) b₁ (omega arith) (and-right r₄ s₄ (and-left (r₄ && s₄) c₂ g)))
-      (high-continuation (byteAt s 1) (and-right (r₄ && s₄) c₂ g))
-      (high-continuation (byteAt s 2) (and-right (r₄ && s₄ && c₂) c₃ h)))
+    (λ h. tail-1 s (and-right r₂ c₁ h))
+    (λ h. tail-2 s
+      (narrow (eqb b 0xe0) (eqb b 0xed) 0xa0 0x9f b₁ (omega arith) (omega arith) (and-right r₃ s₃ (and-left (r₃ && s₃) c₂ h)))
+      (and-right (r₃ && s₃) c₂ h))
+    (λ h. let g = and-left (r₄ && s₄ && c₂) c₃ h in tail-3 s
+      (narrow (eqb b 0xf0) (eqb b 0xf4) 0x90 0x8f b₁ (omega arith) (omega arith) (and-right r₄ s₄ (and-left (r₄ && s₄) c₂ g)))
+      (and-right (r₄ && s₄) c₂ g)
+      (and-right (r₄ && s₄ && c₂) c₃ h))
     e
 
 -- An ASCII byte is its character.
@@ -196,10 +202,10 @@ low-point : (b : ℕ) (s : List ℕ) → leb b 0x7f ≡ true → codePoint (b �
 unfolding codePoint
 low-point b s e = rw e
 
-highs-plain : (l : List ℕ) → every high l ≡ true → every plain l ≡ true
+tail-plain : (l : List ℕ) → every continuation l ≡ true → every plain l ≡ true
 unfolding every
-highs-plain [] e = refl
-highs-plain (b ∷ l) e = and-both (plain b) _ (plain-high b (and-left _ _ e)) (highs-plain l (and-right (high b) _ e))
+tail-plain [] e = refl
+tail-plain (b ∷ l) e = and-both (plain b) _ (plain-continuation b (and-left _ _ e)) (tail-plain l (and-right (continuation b) _ e))
 
 -- A run of characters that pass a test of plain bytes is plain.
 module _ (p : ℕ → Bool) (q : (b : ℕ) → p b ≡ true → plain b ≡ true) where
@@ -210,11 +216,11 @@ module _ (p : ℕ → Bool) (q : (b : ℕ) → p b ≡ true → plain b ≡ true
       go true e = q b (ap p (sym (low-point b s e)) ∙ h)
       go false e = plain-high b (le-leb 0x80 b (omega (arith, leb-false b 0x7f e)))
 
-  width-plain : (b k : ℕ) (s : List ℕ) → widthIf p (b ∷ s) ≡ suc k → (plain b ≡ true) × (every high (take k s) ≡ true)
+  width-plain : (b k : ℕ) (s : List ℕ) → widthIf p (b ∷ s) ≡ suc k → (plain b ≡ true) × (every continuation (take k s) ≡ true)
   width-plain b k s = go (p (codePoint (b ∷ s))) refl
     where
-      go : (t : Bool) → p (codePoint (b ∷ s)) ≡ t → pick t (charWidth (b ∷ s)) 0 ≡ suc k → (plain b ≡ true) × (every high (take k s) ≡ true)
-      go true e w = (first-plain b s e, width-highs b k s w)
+      go : (t : Bool) → p (codePoint (b ∷ s)) ≡ t → pick t (charWidth (b ∷ s)) 0 ≡ suc k → (plain b ≡ true) × (every continuation (take k s) ≡ true)
+      go true e w = (first-plain b s e, width-tail b k s w)
       go false e w = absurd (omega arith)
 
   -- a character
@@ -229,15 +235,15 @@ module _ (p : ℕ → Bool) (q : (b : ℕ) → p b ≡ true → plain b ≡ true
     where
       go : (n : ℕ) → widthIf p (b ∷ s) ≡ n → every plain (take n (b ∷ s)) ≡ true
       go zero e = refl
-      go (suc k) e = let w = width-plain b k s e in and-both (plain b) _ (w .0) (highs-plain (take k s) (w .1))
+      go (suc k) e = let w = width-plain b k s e in and-both (plain b) _ (w .0) (tail-plain (take k s) (w .1))
 
-  plain-run : (k : ℕ) (s : List ℕ) → every high (take k s) ≡ true → every plain (take (runFrom p k s) s) ≡ true
+  plain-run : (k : ℕ) (s : List ℕ) → every continuation (take k s) ≡ true → every plain (take (runFrom p k s) s) ≡ true
   unfolding runFrom every
   plain-run k [] e = refl
-  plain-run (suc k) (b ∷ s) e = and-both (plain b) _ (plain-high b (and-left _ _ e)) (plain-run k s (and-right (high b) _ e))
+  plain-run (suc k) (b ∷ s) e = and-both (plain b) _ (plain-continuation b (and-left _ _ e)) (plain-run k s (and-right (continuation b) _ e))
   plain-run zero (b ∷ s) e = go (widthIf p (b ∷ s)) refl (λ k h. plain-run k s h)
     where
-      go : (w : ℕ) → widthIf p (b ∷ s) ≡ w → ((k : ℕ) → every high (take k s) ≡ true → every plain (take (runFrom p k s) s) ≡ true) →
+      go : (w : ℕ) → widthIf p (b ∷ s) ≡ w → ((k : ℕ) → every continuation (take k s) ≡ true → every plain (take (runFrom p k s) s) ≡ true) →
           every plain (take (afterFirst w 0 (λ k. suc (runFrom p k s))) (b ∷ s)) ≡ true
       go zero f h = refl
       go (suc k) f h = let w = width-plain b k s f in and-both (plain b) _ (w .0) (h k (w .1))

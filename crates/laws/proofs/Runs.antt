@@ -83,7 +83,7 @@ wide-is p s =
     go x y z w false false false false l₂ l₃ h₂ h₃ h₄ = same (p _)
 
 -- A form with a byte that is no continuation is none.
-second : (e f : Bool) (x y b : ℕ) → 0x80 ≤ x → y ≤ 0xbf → continuation b ≡ false → between (pick e x 0x80) (pick f y 0xbf) b ≡ false
+pub second : (e f : Bool) (x y b : ℕ) → 0x80 ≤ x → y ≤ 0xbf → continuation b ≡ false → between (pick e x 0x80) (pick f y 0xbf) b ≡ false
 second e f x y b hx hy n = go (between (pick e x 0x80) (pick f y 0xbf) b) refl
   where
     low : (e : Bool) → 0x80 ≤ pick e x 0x80
