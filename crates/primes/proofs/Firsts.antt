@@ -2,6 +2,7 @@
 use Prim.Native.Nat.{ℕ, zero, suc, _+_, _-_, _*_, _%_, _≤_, _<_}
 use Prim.Native.Char.{code}
 use mathlib.Core.Path.{_≡_, refl, sym, ap, _∙_}
+use mathlib.Core.Logic.{_⊎_, inl, inr, ⊎-elim}
 use mathlib.Core.Bool.{Bool, true, false, _&&_, _||_}
 use mathlib.Core.List.{List, [], _∷_, _++_}
 use native.Mathlib.Omega.{arith}
@@ -9,7 +10,7 @@ use native.Mathlib.Nat.{suc-add}
 use borrow.Author.Tests.{eqb-true, eqb-false, leb-true, leb-false, le-leb}
 use lib.Dec.{eqb, leb}
 use lib.ListN.{length, take, drop, take-append-drop}
-use Rattle.notation.specs.Basics.{pick, between, oneOf, every}
+use Rattle.notation.specs.Basics.{pick, between, oneOf}
 use Rattle.notation.specs.Chars.{curlyPrimes}
 use Rattle.notation.specs.Utf8.{byteAt, continuation, charWidth, codePoint, utf8From, utf8, widthIf}
 use Rattle.notation.specs.Primes.{curlyWidth, straightFrom, straight, givenFrom, given}
@@ -36,6 +37,111 @@ given-from zero s i h = omega arith
 given-from (suc k) [] i h = absurd (omega arith)
 given-from (suc k) (b ∷ s) i h = ap suc (given-from k s i (omega arith)) ∙ sym (suc-add k (given (drop k s) i))
 
+-- How many bytes a code point takes.
+pub data Point (a c : ℕ) : ℕ → Type 0 where
+  no-point : Point a c 0
+  one-byte : a ≤ 0x7f → c ≡ a → Point a c 1
+  two-bytes : 0x7f < a → 0x7f < c → c ≤ 0x7ff → Point a c 2
+  three-bytes : 0x7f < a → 0x7ff < c → Point a c 3
+  four-bytes : 0x7f < a → 0xffff < c → Point a c 4
+
+-- a second byte between bounds that depend on the first: after x it is at least m
+second-low : (a x m b : ℕ) (t u : Bool) (n : ℕ) → eqb a x ≡ t → x ≤ a → between (pick t m 0x80) (pick u n 0xbf) b ≡ true → ((a ≡ x) × (m ≤ b)) ⊎ (x < a)
+second-low a x m b true u n e h g = inl (eqb-true a x e, leb-true m b (and-left _ (leb b (pick u n 0xbf)) g))
+second-low a x m b false u n e h g = inr (more (leb a x) refl)
+  where
+    more : (u : Bool) → leb a x ≡ u → x < a
+    more true i = let j = leb-true a x i in absurd (eqb-false a x e (omega arith))
+    more false i = leb-false a x i
+
+second-high : (t u : Bool) (m n b : ℕ) → n ≤ 0xbf → between (pick t m 0x80) (pick u n 0xbf) b ≡ true → b ≤ 0xbf
+second-high t u m n b h e = omega (arith, most u, leb-true b (pick u n 0xbf) (and-right (leb (pick t m 0x80) b) _ e))
+  where
+    most : (u : Bool) → pick u n 0xbf ≤ 0xbf
+    most true = h
+    most false = omega arith
+
+module _ (a b c d : ℕ) where
+  abbrev starts-three : Bool
+  starts-three = between 0xe0 0xef a && between (pick (eqb a 0xe0) 0xa0 0x80) (pick (eqb a 0xed) 0x9f 0xbf) b
+
+  abbrev starts-four : Bool
+  starts-four = between 0xf0 0xf4 a && between (pick (eqb a 0xf0) 0x90 0x80) (pick (eqb a 0xf4) 0x8f 0xbf) b
+
+  point₂ : leb a 0x7f ≡ false → (between 0xc2 0xdf a && continuation b) ≡ true → (l₂ : Bool) → leb a 0xdf ≡ l₂ → (z : ℕ) → Point a (pick l₂ (a % 32 * 64 + b % 64) z) 2
+  point₂ e g true f z =
+      let i = leb-true 0xc2 a (and-left _ (leb a 0xdf) (and-left (between 0xc2 0xdf a) (continuation b) g)) in
+      let j = leb-true a 0xdf f in
+      two-bytes (leb-false a 0x7f e) (omega arith) (omega arith)
+  point₂ e g false f z =
+      let i = leb-true a 0xdf (and-right (leb 0xc2 a) _ (and-left (between 0xc2 0xdf a) (continuation b) g)) in
+      let j = leb-false a 0xdf f in
+      absurd (omega arith)
+
+  point₃ : leb a 0x7f ≡ false → starts-three ≡ true → (l₂ l₃ : Bool) → leb a 0xdf ≡ l₂ → leb a 0xef ≡ l₃ → (y z : ℕ) →
+      Point a (pick l₂ y (pick l₃ (a % 16 * 4096 + b % 64 * 64 + c % 64) z)) 3
+  point₃ e g l₂ l₃ f₂ f₃ y z = go l₂ l₃ f₂ f₃
+    where
+      low : 0xe0 ≤ a
+      low = leb-true 0xe0 a (and-left _ (leb a 0xef) (and-left (between 0xe0 0xef a) _ g))
+      high : a ≤ 0xef
+      high = leb-true a 0xef (and-right (leb 0xe0 a) _ (and-left (between 0xe0 0xef a) _ g))
+      h : between (pick (eqb a 0xe0) 0xa0 0x80) (pick (eqb a 0xed) 0x9f 0xbf) b ≡ true
+      h = and-right (between 0xe0 0xef a) _ g
+      top : b ≤ 0xbf
+      top = second-high (eqb a 0xe0) (eqb a 0xed) 0xa0 0x9f b (omega arith) h
+      many : (((a ≡ 0xe0) × (0xa0 ≤ b)) ⊎ (0xe0 < a)) → 0x7ff < a % 16 * 4096 + b % 64 * 64 + c % 64
+      many = ⊎-elim (λ i. omega (arith, i .0, i .1, top)) (λ i. omega (arith, i, high))
+      go : (l₂ l₃ : Bool) → leb a 0xdf ≡ l₂ → leb a 0xef ≡ l₃ → Point a (pick l₂ y (pick l₃ (a % 16 * 4096 + b % 64 * 64 + c % 64) z)) 3
+      go true l₃ f₂ f₃ = let i = leb-true a 0xdf f₂ in absurd (omega (arith, low))
+      go false false f₂ f₃ = let i = leb-false a 0xef f₃ in absurd (omega (arith, high))
+      go false true f₂ f₃ =
+          three-bytes (leb-false a 0x7f e)
+          (many (second-low a 0xe0 0xa0 b (eqb a 0xe0) (eqb a 0xed) 0x9f refl low h))
+
+  point₄ : leb a 0x7f ≡ false → starts-four ≡ true → (l₂ l₃ : Bool) → leb a 0xdf ≡ l₂ → leb a 0xef ≡ l₃ → (y z : ℕ) →
+      Point a (pick l₂ y (pick l₃ z (a % 8 * 262144 + b % 64 * 4096 + c % 64 * 64 + d % 64))) 4
+  point₄ e g l₂ l₃ f₂ f₃ y z = go l₂ l₃ f₂ f₃
+    where
+      low : 0xf0 ≤ a
+      low = leb-true 0xf0 a (and-left _ (leb a 0xf4) (and-left (between 0xf0 0xf4 a) _ g))
+      high : a ≤ 0xf4
+      high = leb-true a 0xf4 (and-right (leb 0xf0 a) _ (and-left (between 0xf0 0xf4 a) _ g))
+      h : between (pick (eqb a 0xf0) 0x90 0x80) (pick (eqb a 0xf4) 0x8f 0xbf) b ≡ true
+      h = and-right (between 0xf0 0xf4 a) _ g
+      top : b ≤ 0xbf
+      top = second-high (eqb a 0xf0) (eqb a 0xf4) 0x90 0x8f b (omega arith) h
+      many : (((a ≡ 0xf0) × (0x90 ≤ b)) ⊎ (0xf0 < a)) → 0xffff < a % 8 * 262144 + b % 64 * 4096 + c % 64 * 64 + d % 64
+      many = ⊎-elim (λ i. omega (arith, i .0, i .1, top)) (λ i. omega (arith, i, high))
+      go : (l₂ l₃ : Bool) → leb a 0xdf ≡ l₂ → leb a 0xef ≡ l₃ → Point a (pick l₂ y (pick l₃ z (a % 8 * 262144 + b % 64 * 4096 + c % 64 * 64 + d % 64))) 4
+      go true l₃ f₂ f₃ = let i = leb-true a 0xdf f₂ in absurd (omega (arith, low))
+      go false true f₂ f₃ = let i = leb-true a 0xef f₃ in absurd (omega (arith, low))
+      go false false f₂ f₃ =
+          four-bytes (leb-false a 0x7f e)
+          (many (second-low a 0xf0 0x90 b (eqb a 0xf0) (eqb a 0xf4) 0x8f refl low h))
+
+  by-rows : (t₁ l₂ l₃ t₂ t₃ t₄ : Bool) → leb a 0x7f ≡ t₁ → leb a 0xdf ≡ l₂ → leb a 0xef ≡ l₃ →
+      (between 0xc2 0xdf a && continuation b) ≡ t₂ → (starts-three && continuation c) ≡ t₃ → (starts-four && continuation c && continuation d) ≡ t₄ →
+      Point a
+      (pick t₁ a (pick l₂ (a % 32 * 64 + b % 64) (pick l₃ (a % 16 * 4096 + b % 64 * 64 + c % 64) (a % 8 * 262144 + b % 64 * 4096 + c % 64 * 64 + d % 64))))
+      (pick t₁ 1 (pick t₂ 2 (pick t₃ 3 (pick t₄ 4 0))))
+  by-rows true l₂ l₃ t₂ t₃ t₄ e₁ f₂ f₃ e₂ e₃ e₄ = one-byte (leb-true a 0x7f e₁) refl
+  by-rows false l₂ l₃ true t₃ t₄ e₁ f₂ f₃ e₂ e₃ e₄ = point₂ e₁ e₂ l₂ f₂ _
+  by-rows false l₂ l₃ false true t₄ e₁ f₂ f₃ e₂ e₃ e₄ = point₃ e₁ (and-left starts-three (continuation c) e₃) l₂ l₃ f₂ f₃ _ _
+  by-rows false l₂ l₃ false false true e₁ f₂ f₃ e₂ e₃ e₄ =
+      point₄ e₁ (and-left starts-four (continuation c) (and-left (starts-four && continuation c) (continuation d) e₄)) l₂ l₃ f₂ f₃ _ _
+  by-rows false l₂ l₃ false false false e₁ f₂ f₃ e₂ e₃ e₄ = no-point
+
+pub point : (s : List ℕ) → Point (byteAt s 0) (codePoint s) (charWidth s)
+unfolding charWidth codePoint
+point s =
+    let a = byteAt s 0 in
+    let b = byteAt s 1 in
+    let c = byteAt s 2 in
+    let d = byteAt s 3 in
+    by-rows a b c d (leb a 0x7f) (leb a 0xdf) (leb a 0xef) (between 0xc2 0xdf a && continuation b) (starts-three a b c d && continuation c)
+    (starts-four a b c d && continuation c && continuation d) refl refl refl refl refl refl
+
 -- Both signs have three bytes.
 bounded : (c : ℕ) → oneOf curlyPrimes c ≡ true → (0x2019 ≤ c) × (c ≤ 0x2032)
 unfolding oneOf
@@ -46,73 +152,12 @@ bounded c e = go (eqb 0x2019 c) (eqb 0x2032 c) refl refl e
     go false true f g h = let i = eqb-true 0x2032 c g in (omega arith, omega arith)
     go false false f g h = contra h
 
-module _ (a b c d : ℕ) where
-  abbrev two : Bool
-  two = between 0xc2 0xdf a && continuation b
-
-  abbrev three : Bool
-  three = between 0xe0 0xef a && between (pick (eqb a 0xe0) 0xa0 0x80) (pick (eqb a 0xed) 0x9f 0xbf) b && continuation c
-
-  abbrev four : Bool
-  four = between 0xf0 0xf4 a && between (pick (eqb a 0xf0) 0x90 0x80) (pick (eqb a 0xf4) 0x8f 0xbf) b && continuation c && continuation d
-
-  -- a second byte after F0 is above 8F
-  raised : (t u : Bool) → eqb a 0xf0 ≡ t → 0xf0 ≤ a → a ≤ 0xf4 → between (pick t 0x90 0x80) (pick u 0x8f 0xbf) b ≡ true →
-      0x2032 < a % 8 * 262144 + b % 64 * 4096 + c % 64 * 64 + d % 64
-  raised true u e l h f =
-      let i = eqb-true a 0xf0 e in
-      let j = leb-true 0x90 b (and-left _ (leb b (pick u 0x8f 0xbf)) f) in
-      let k = leb-true b (pick u 0x8f 0xbf) (and-right (leb 0x90 b) _ f) in
-      let m : pick u 0x8f 0xbf ≤ 0xbf = most u in
-      omega arith
-    where
-      most : (u : Bool) → pick u 0x8f 0xbf ≤ 0xbf
-      most true = omega arith
-      most false = omega arith
-  raised false u e l h f = go (leb a 0xf0) refl
-    where
-      go : (t : Bool) → leb a 0xf0 ≡ t → 0x2032 < a % 8 * 262144 + b % 64 * 4096 + c % 64 * 64 + d % 64
-      go true i = let j = leb-true a 0xf0 i in absurd (eqb-false a 0xf0 e (omega arith))
-      go false i = let j = leb-false a 0xf0 i in omega arith
-
-  of-three : (t₁ l₂ l₃ t₂ t₃ t₄ : Bool) → leb a 0x7f ≡ t₁ → leb a 0xdf ≡ l₂ → leb a 0xef ≡ l₃ → two ≡ t₂ → three ≡ t₃ → four ≡ t₄ →
-      0x2019 ≤ pick t₁ a (pick l₂ (a % 32 * 64 + b % 64) (pick l₃ (a % 16 * 4096 + b % 64 * 64 + c % 64) (a % 8 * 262144 + b % 64 * 4096 + c % 64 * 64 + d % 64))) →
-      pick t₁ a (pick l₂ (a % 32 * 64 + b % 64) (pick l₃ (a % 16 * 4096 + b % 64 * 64 + c % 64) (a % 8 * 262144 + b % 64 * 4096 + c % 64 * 64 + d % 64))) ≤ 0x2032 →
-      0 < pick t₁ 1 (pick t₂ 2 (pick t₃ 3 (pick t₄ 4 0))) → _≡_ {A = ℕ} (pick t₁ 1 (pick t₂ 2 (pick t₃ 3 (pick t₄ 4 0)))) 3
-  of-three true l₂ l₃ t₂ t₃ t₄ e₁ f₂ f₃ e₂ e₃ e₄ l h w = let i = leb-true a 0x7f e₁ in absurd (omega arith)
-  of-three false true l₃ true t₃ t₄ e₁ f₂ f₃ e₂ e₃ e₄ l h w = absurd (omega arith)
-  of-three false false l₃ true t₃ t₄ e₁ f₂ f₃ e₂ e₃ e₄ l h w =
-      let i = leb-false a 0xdf f₂ in
-      let j = leb-true a 0xdf (and-right (leb 0xc2 a) _ (and-left (between 0xc2 0xdf a) (continuation b) e₂)) in
-      absurd (omega arith)
-  of-three false l₂ l₃ false true t₄ e₁ f₂ f₃ e₂ e₃ e₄ l h w = refl
-  of-three false l₂ l₃ false false false e₁ f₂ f₃ e₂ e₃ e₄ l h w = absurd (omega arith)
-  of-three false l₂ l₃ false false true e₁ f₂ f₃ e₂ e₃ e₄ l h w = absurd (go l₂ l₃ f₂ f₃ h)
-    where
-      starts : (between 0xf0 0xf4 a && between (pick (eqb a 0xf0) 0x90 0x80) (pick (eqb a 0xf4) 0x8f 0xbf) b) ≡ true
-      starts = and-left _ (continuation c) (and-left _ (continuation d) e₄)
-      first : between 0xf0 0xf4 a ≡ true
-      first = and-left (between 0xf0 0xf4 a) _ starts
-      low : 0xf0 ≤ a
-      low = leb-true 0xf0 a (and-left _ (leb a 0xf4) first)
-      high : a ≤ 0xf4
-      high = leb-true a 0xf4 (and-right (leb 0xf0 a) _ first)
-      go : (l₂ l₃ : Bool) → leb a 0xdf ≡ l₂ → leb a 0xef ≡ l₃ →
-          pick l₂ (a % 32 * 64 + b % 64) (pick l₃ (a % 16 * 4096 + b % 64 * 64 + c % 64) (a % 8 * 262144 + b % 64 * 4096 + c % 64 * 64 + d % 64)) ≤ 0x2032 → ⊥
-      go true l₃ f₂ f₃ h = let i = leb-true a 0xdf f₂ in omega (arith, low)
-      go false true f₂ f₃ h = let i = leb-true a 0xef f₃ in omega (arith, low)
-      go false false f₂ f₃ h =
-          omega (arith, raised (eqb a 0xf0) (eqb a 0xf4) refl low high (and-right (between 0xf0 0xf4 a) _ starts))
-
-sign-width : (s : List ℕ) → 0 < charWidth s → oneOf curlyPrimes (codePoint s) ≡ true → charWidth s ≡ 3
-unfolding charWidth codePoint
-sign-width s w e =
-    let a = byteAt s 0 in
-    let b = byteAt s 1 in
-    let c = byteAt s 2 in
-    let d = byteAt s 3 in
-    let k = bounded (codePoint s) e in
-    of-three a b c d (leb a 0x7f) (leb a 0xdf) (leb a 0xef) (two a b c d) (three a b c d) (four a b c d) refl refl refl refl refl refl (k .0) (k .1) w
+sign-width : {a c w : ℕ} → Point a c w → 0 < w → oneOf curlyPrimes c ≡ true → (w ≡ 3) × (0x7f < a)
+sign-width no-point h e = absurd (omega arith)
+sign-width {c = c} (one-byte l i) h e = absurd (omega (arith, bounded c e .0))
+sign-width {c = c} (two-bytes l i j) h e = absurd (omega (arith, bounded c e .0))
+sign-width (three-bytes l i) h e = (refl, l)
+sign-width {c = c} (four-bytes l i) h e = absurd (omega (arith, bounded c e .1))
 
 -- What follows a character is no continuation, in either text.
 no-tail : (r : List ℕ) → utf8 r ≡ true → (continuation (byteAt r 0) ≡ false) × (continuation (byteAt (straight r) 0) ≡ false)
@@ -131,12 +176,14 @@ no-tail (b ∷ r) e = (no (continuation b) refl, other (eqb (curlyWidth (b ∷ r
 pub record Sign (s : List ℕ) : Type 0 where
   pub curly : oneOf curlyPrimes (codePoint s) ≡ true
   pub width : charWidth s ≡ 3
+  pub high : 0x7f < byteAt s 0
   pub first : straight s ≡ 0x27 ∷ straight (drop 3 s)
   pub moves : (j : ℕ) → given s (suc j) ≡ 3 + given (drop 3 s) j
   pub well : utf8 (drop 3 s) ≡ true
 
 -- Another character: it is the same in both texts.
 pub record Other (s : List ℕ) (w : ℕ) : Type 0 where
+  pub usual : oneOf curlyPrimes (codePoint s) ≡ false
   pub width : charWidth s ≡ w
   pub some : 0 < w
   pub plain : Plain w s
@@ -157,11 +204,13 @@ first (b ∷ s) e = go (charWidth (b ∷ s)) refl (oneOf curlyPrimes (codePoint 
 
     a-sign : (k : ℕ) → charWidth (b ∷ s) ≡ suc k → oneOf curlyPrimes (codePoint (b ∷ s)) ≡ true → Sign (b ∷ s)
     a-sign k w c =
-        let three : charWidth (b ∷ s) ≡ 3 = sign-width (b ∷ s) (omega (arith, w)) c in
+        let wide = sign-width (point (b ∷ s)) (omega (arith, w)) c in
+        let three : charWidth (b ∷ s) ≡ 3 = wide .0 in
         let curlies : curlyWidth (b ∷ s) ≡ 3 = rw c three in
         record {
           curly = c;
           width = three;
+          high = wide .1;
           first = rw curlies (ap (λ (l : List ℕ). 0x27 ∷ l) (straight-from 2 s));
           moves = λ j. rw curlies (ap suc (given-from 2 s j (omega (arith, inside, three))) ∙ sym (suc-add 2 (given (drop 2 s) j)));
           well = sym (utf8-step (b ∷ s) 3 (sym three) (omega arith)) ∙ e
@@ -175,6 +224,7 @@ first (b ∷ s) e = go (charWidth (b ∷ s)) refl (oneOf curlyPrimes (codePoint 
         let well : utf8 (drop k s) ≡ true = sym (utf8-step (b ∷ s) (suc k) (sym w) (omega arith)) ∙ e in
         let same : straight (b ∷ s) ≡ b ∷ (take k s ++ straight (drop k s)) = kept-byte b s none ∙ ap (λ (l : List ℕ). b ∷ l) (tail .0) in
         record {
+          usual = c;
           width = w;
           some = omega arith;
           plain = record {

@@ -64,8 +64,8 @@ module _ {c : Places} where
   pub narrow : {A : Type 0} {m k : ℕ} {R : A → A → Type 0} {p p′ : Reader A} (m′ : ℕ) → m′ ≤ m → Follows c m k R p p′ → Follows c m′ k R p p′
   narrow m′ h g = record { meets = λ at s at′ e l. g .meets at s at′ e (omega arith) }
 
-  pub some : {A : Type 0} {m : ℕ} {R : A → A → Type 0} {p p′ : Reader A} → Follows c m 1 R p p′ → Follows c m 0 R p p′
-  some g = record { meets = λ at s at′ h l. less 0 (length (straight s)) (omega arith) (g .meets at s at′ h l) }
+  pub loosely : {A : Type 0} {m : ℕ} {R : A → A → Type 0} {p p′ : Reader A} → Follows c m 1 R p p′ → Follows c m 0 R p p′
+  loosely g = record { meets = λ at s at′ h l. less 0 (length (straight s)) (omega arith) (g .meets at s at′ h l) }
 
   -- one reader after another
   pub after : {A B : Type 0} {R : A → A → Type 0} {Q : B → B → Type 0} {f f′ : A → Reader B} {k₁ l : ℕ} (k k₂ m : ℕ) →

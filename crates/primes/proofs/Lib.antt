@@ -5,3 +5,9 @@ pub mod Fronts
 -- The text as given and the straight text, read at once.
 pub mod Follows
 pub mod Readers
+pub mod Parts
+pub mod Signs
+pub mod Nodes
+-- The theorems.
+pub mod Straight
+pub mod Unchanged

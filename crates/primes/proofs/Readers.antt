@@ -27,7 +27,7 @@ use Rattle.primes.proofs.Plain.{straight-length, plain-part}
 use Rattle.primes.proofs.Firsts.{plain-ascii}
 use Rattle.primes.proofs.Fronts.{Both, families-both, whites-both, digits-both}
 use Rattle.primes.proofs.Follows.{
-  Places, Left, Meets, neither, both, Follows, finished, rejects, less, after, narrow, some, _next_, _past_, _before_, _then_, either, admitted, taking
+  Places, Left, Meets, neither, both, Follows, finished, rejects, less, after, narrow, loosely, _next_, _past_, _before_, _then_, either, admitted, taking
 }
 
 -- both texts are read by one reader, and what is read is the same
@@ -65,7 +65,7 @@ module _ {c : Places} where
   pub word-alike : {m : ℕ} (w : String) → every usual (put w []) ≡ true → Alike c m 0 (word w)
   unfolding word every
   word-alike S.[] e = finished refl
-  word-alike (S._∷_ x w) e = some (just-alike x (and-left _ _ e)) then λ _. word-alike w (and-right (usual (code x)) _ e)
+  word-alike (S._∷_ x w) e = loosely (just-alike x (and-left _ _ e)) then λ _. word-alike w (and-right (usual (code x)) _ e)
 
   -- White space.
   white : {m : ℕ} → Alike c m 0 (takeWhile whiteSpace)
@@ -103,7 +103,7 @@ module _ {c : Places} where
 
   pub sint-alike : {m : ℕ} (low high highNegative : ℕ) → Alike c m 0 (sint low high highNegative)
   sint-alike low high highNegative =
-      either (some (just-alike "-" refl) then λ _. uint-alike low highNegative then λ _. finished refl) (uint-alike low high then λ _. finished refl)
+      either (loosely (just-alike "-" refl) then λ _. uint-alike low highNegative then λ _. finished refl) (uint-alike low high then λ _. finished refl)
 
   pub familyText-alike : {m : ℕ} → Alike c m 0 familyText
   familyText-alike =
@@ -173,9 +173,9 @@ module _ {c : Places} where
   -- What stands in braces.
   pub braces-alike : {A : Type 0} {m : ℕ} {item : Reader A} → Alike c m 0 item → Alike c m 0 (braces item)
   braces-alike {A = A} g =
-      some (just-alike "{" refl)
+      loosely (just-alike "{" refl)
       then λ _. padded-follows (separated {Q = λ l l′. l ≡ l′} _∷_ [] _ _ _ refl (λ a a′ l l′ e f. rw (e, f)) (λ m. commas) g)
-      then λ _. some (just-alike "}" refl)
+      then λ _. loosely (just-alike "}" refl)
       then λ _. finished refl
     where
       commas : {m : ℕ} → Alike c m 1 (padded (just ","))
@@ -196,7 +196,7 @@ module _ {c : Places} where
   unfolding every
   element-alike hsc1 =
       either (sint-alike _ _ _ then λ _. word-alike ".." refl then λ _. sint-alike _ _ _ then λ _. finished refl)
-      (either (admitted hsc1 (uint-alike _ _ then λ _. some (just-alike "-" refl) then λ _. uint-alike _ _ then λ _. finished refl))
+      (either (admitted hsc1 (uint-alike _ _ then λ _. loosely (just-alike "-" refl) then λ _. uint-alike _ _ then λ _. finished refl))
       (sint-alike _ _ _ then λ _. finished refl))
 
   pub elements-alike : {m : ℕ} (hsc1 : Bool) → Alike c m 0 (layerSetElements hsc1)
