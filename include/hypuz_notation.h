@@ -44,7 +44,7 @@ extern "C" {
 /* Bytes of a record. Host code that names it, and never the number, goes on to work when a record gains a field. */
 #define HYPUZ_RECORD 38
 
-/* The features of a setting, to be added up. */
+/* The features of a setting, to be added up. Higher bits are ignored. */
 #define HYPUZ_INVERTED_LAYERS 1u
 #define HYPUZ_LAYER_SETS 2u
 #define HYPUZ_HSC1_LAYER_RANGES 4u

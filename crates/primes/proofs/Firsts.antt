@@ -1,5 +1,5 @@
 -- The character at the start of a text, in the text as given and in the straight text. Assumes nothing.
-use Prim.Native.Nat.{ℕ, zero, suc, _+_, _-_, _*_, _%_, _≤_, _<_}
+use Prim.Native.Nat.{ℕ, zero, suc, _+_, _*_, _%_, _≤_, _<_}
 use Prim.Native.Char.{code}
 use mathlib.Core.Path.{_≡_, refl, sym, ap, _∙_}
 use mathlib.Core.Logic.{_⊎_, inl, inr, ⊎-elim}
@@ -12,7 +12,7 @@ use lib.Dec.{eqb, leb}
 use lib.ListN.{length, take, drop, take-append-drop}
 use Rattle.notation.specs.Basics.{pick, between, oneOf}
 use Rattle.notation.specs.Chars.{curlyPrimes}
-use Rattle.notation.specs.Utf8.{byteAt, continuation, charWidth, codePoint, utf8From, utf8, widthIf}
+use Rattle.notation.specs.Utf8.{byteAt, continuation, charWidth, codePoint, utf8, widthIf}
 use Rattle.notation.specs.Primes.{curlyWidth, straightFrom, straight, givenFrom, given}
 use Rattle.charsets.proofs.Widths.{width-length}
 use Rattle.charsets.proofs.Runs.{utf8-step, utf8-stop}

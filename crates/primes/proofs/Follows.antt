@@ -1,32 +1,20 @@
 -- Two readings at once, of the text as given and of the straight text: both reject, or both read what belongs together and stand at places that
 -- belong together. One rule for each way to build a reader. Assumes nothing.
-use Prim.Native.Nat.{ℕ, zero, suc, _+_, _-_, _≤_, _<_}
-use Prim.Native.Char.{Char, code}
+use Prim.Native.Nat.{ℕ, suc, _+_, _≤_, _<_}
 use Prim.Native.String as S
 use Prim.Native.String.{String}
-use mathlib.Core.Path.{_≡_, refl, sym, ap, subst, _∙_}
-use mathlib.Core.Bool.{Bool, true, false, not, _&&_}
-use mathlib.Core.List.{List, [], _∷_, _++_}
+use mathlib.Core.Path.{_≡_, refl, sym, subst}
+use mathlib.Core.Bool.{Bool, true, false}
+use mathlib.Core.List.{List}
 use native.Mathlib.Omega.{arith}
-use borrow.Author.Tests.{eqb-true, leb-true, ltb-true}
-use lib.Dec.{eqb, leb, ltb}
-use lib.ListN.{length, take, drop, length-drop, length-append}
-use lib.Seq.{length-take-le}
-use Rattle.notation.specs.Basics.{pick, between, every}
-use Rattle.notation.specs.Chars.{isFamilyChar, whiteSpace}
-use Rattle.notation.specs.Utf8.{utf8, run}
-use Rattle.notation.specs.Numbers.{digitRun, decimal}
-use Rattle.notation.specs.Grammar.{
-  Reading, rejected, read, Reader, done, fail, andThen, orElse, _or_, when, just, word, takeWhile, whitespace, someWhitespace, padded, uint, sint,
-  collect, moreOf, separatedBy, braces, familyText
-}
+use lib.ListN.{length, drop, length-drop}
+use Rattle.notation.specs.Basics.{pick}
+use Rattle.notation.specs.Utf8.{utf8}
+use Rattle.notation.specs.Grammar.{Reading, rejected, read, Reader, done, fail, andThen, orElse, _or_, when}
 use Rattle.notation.specs.Grammar as G
-use Rattle.notation.specs.Print.{put}
-use Rattle.notation.specs.Primes.{curlyWidth, straightFrom, straight}
-use Rattle.laws.proofs.Bools.{and-left, and-right, not-true}
-use Rattle.primes.proofs.Plain.{Plain, plain-inside, plain-part, plain-rest}
-use Rattle.primes.proofs.Firsts.{plain-ascii}
-use Rattle.primes.proofs.Fronts.{Both, families-both, whites-both, digits-both}
+use Rattle.notation.specs.Primes.{straight}
+use Rattle.primes.proofs.Plain.{Plain, plain-inside, plain-rest}
+use Rattle.primes.proofs.Fronts.{Both}
 
 -- A statement of places (an offset and the text from there, and the offset in the straight text) that plain bytes keep.
 pub record Places : Type 1 where

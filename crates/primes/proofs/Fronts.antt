@@ -2,20 +2,20 @@
 use Prim.Native.Nat.{ℕ, zero, suc, _+_, _≤_, _<_}
 use Prim.Native.Char.{code}
 use mathlib.Core.Path.{_≡_, refl, sym, ap, _∙_}
-use mathlib.Core.Bool.{Bool, true, false, not, _&&_}
+use mathlib.Core.Bool.{Bool, true, false, not}
 use mathlib.Core.List.{List, [], _∷_}
 use native.Mathlib.Omega.{arith}
 use borrow.Author.Tests.{leb-true}
 use lib.Dec.{eqb, leb}
 use lib.ListN.{length, drop, length-drop}
-use Rattle.notation.specs.Basics.{pick, choose, oneOf, every}
+use Rattle.notation.specs.Basics.{pick, oneOf, every}
 use Rattle.notation.specs.Chars.{curlyPrimes, classify, isFamilyChar, whiteSpace}
 use Rattle.notation.specs.Utf8.{charWidth, codePoint, utf8From, utf8, widthIf, runFrom, run}
 use Rattle.notation.specs.Numbers.{isDigit, digitRun}
 use Rattle.notation.specs.Primes.{curlyWidth, straightFrom, straight}
 use Rattle.charsets.proofs.Runs.{run-step, run-stop}
 use Rattle.laws.proofs.Bools.{and-right, not-true}
-use Rattle.laws.proofs.ReadBack.Starts.{listed, no-run}
+use Rattle.laws.proofs.ReadBack.Starts.{listed}
 use Rattle.primes.proofs.Plain.{Plain, plain-none, plain-join, plain-rest}
 use Rattle.primes.proofs.Firsts.{First, nothing, sign, other, Sign, Other, first, plain-ascii}
 

@@ -12,8 +12,8 @@ use Rattle.notation.specs.Tree.{
   Span, Layers, Leaf, rotation, move, pause, pair, slash, megaminx, Node, leaf, block, group, binaryGroup, nil, cons, Tree, mapNode, mapBody, mapNodes
 }
 use Rattle.notation.specs.Grammar.{
-  Reader, i32, MAX-I32, rotationNode, tilde, moveNode, groupKind, groupNode, binaryGroupKind, binaryGroupNode, megaminxScrambleMove, sq1Move, nodeBy, node,
-  nodeListBy, nodeList
+  Reader, MAX-I32, rotationNode, tilde, moveNode, groupKind, groupNode, binaryGroupKind, binaryGroupNode, megaminxScrambleMove, sq1Move, nodeBy,
+  node, nodeListBy, nodeList
 }
 use Rattle.notation.specs.Meaning.{stepOf}
 use Rattle.notation.specs.Primes.{straight, leafGiven, withoutCurly}
@@ -21,7 +21,7 @@ use Rattle.notation.specs.declared.features.Features.{Features}
 use Rattle.notation.specs.declared.common.GroupKind.{GroupKind}
 use Rattle.notation.specs.declared.common.BinaryGroupKind.{BinaryGroupKind}
 use Rattle.notation.specs.declared.common.MegaminxScrambleMove.{MegaminxScrambleMove}
-use Rattle.primes.proofs.Follows.{Places, Follows, finished, loosely, narrow, _next_, _past_, _then_, either, admitted}
+use Rattle.primes.proofs.Follows.{Places, Follows, finished, loosely, _next_, _past_, _then_, either, admitted}
 use Rattle.primes.proofs.Readers.{Alike, just-alike, word-alike, someWhites, padded-follows, sint-alike, separated}
 use Rattle.primes.proofs.Parts.{within, Told, Spans, Constrained, Layered, family-follows, constraints-follow, layers-follow}
 use Rattle.primes.proofs.Signs.{multiplier-follows}

@@ -2,12 +2,12 @@
 use Prim.Native.Nat.{ℕ, _+_, _-_, min, max}
 use mathlib.Core.Path.{_≡_, refl, sym, ap, _∙_}
 use mathlib.Core.Bool.{Bool, true, false}
-use mathlib.Core.List.{List, [], _∷_}
+use mathlib.Core.List.{List}
 use mathlib.Core.Option.{Option, none, some}
 use native.Mathlib.Omega.{arith}
 use native.Mathlib.Nat.{add-zero}
 use lib.Dec.{eqb, leb}
-use lib.ListN.{length, take, drop}
+use lib.ListN.{length, drop}
 use lib.Seq.{drop-drop}
 use Rattle.notation.specs.Basics.{pick}
 use Rattle.notation.specs.Chars.{isFamilyChar}
@@ -15,15 +15,13 @@ use Rattle.notation.specs.Utf8.{utf8, run}
 use Rattle.notation.specs.Layers.{MAX-LAYER}
 use Rattle.notation.specs.Tree.{Span, span, partOf, Layers, noLayers, singleLayer, layerRange, layerSet}
 use Rattle.notation.specs.Packed.{familyAt, nowhere}
-use Rattle.notation.specs.Grammar.{Reading, rejected, read, Reader, done, andThen, spanned, family, constraints, layerPrefixContents}
+use Rattle.notation.specs.Grammar.{Reading, Reader, done, andThen, spanned, family, constraints, layerPrefixContents}
 use Rattle.notation.specs.Meaning.{constraintsIn, layerSetIn, orEmpty, constraintMeaning, layerMeaning}
 use Rattle.notation.specs.Primes.{straight, given, spanGiven, constraintsGiven, layersGiven, withoutCurly}
 use Rattle.notation.specs.declared.features.Features.{Features}
 use Rattle.primes.proofs.Plain.{Plain, given-zero, plain-none, plain-join, plain-part, plain-rest}
-use Rattle.primes.proofs.Fronts.{Both, families-both}
-use Rattle.primes.proofs.Follows.{
-  Places, Left, Meets, neither, both, Follows, finished, loosely, _next_, _then_, either, admitted, taking
-}
+use Rattle.primes.proofs.Fronts.{families-both}
+use Rattle.primes.proofs.Follows.{Places, Meets, neither, both, Follows, finished, loosely, _next_, _then_, either, admitted, taking}
 use Rattle.primes.proofs.Readers.{just-alike, uint-alike, set-alike, elements-alike}
 
 -- offset at of the text, where s stands, and offset at′ of the straight text

@@ -1,6 +1,6 @@
 -- The readers of characters, numbers, families and lists over both texts at once. None takes a prime, so that both read the same.
 -- Assumes nothing.
-use Prim.Native.Nat.{ℕ, zero, suc, _+_, _-_, _≤_, _<_}
+use Prim.Native.Nat.{ℕ, zero, suc, _+_, _≤_, _<_}
 use Prim.Native.Char.{Char, code}
 use Prim.Native.String as S
 use Prim.Native.String.{String}
@@ -10,7 +10,6 @@ use mathlib.Core.List.{List, [], _∷_}
 use native.Mathlib.Omega.{arith}
 use borrow.Author.Tests.{eqb-true, leb-true, ltb-true}
 use lib.Dec.{eqb, leb, ltb}
-use lib.IntN.{ℤ}
 use lib.ListN.{length, take, drop}
 use Rattle.notation.specs.Basics.{pick, between, every}
 use Rattle.notation.specs.Chars.{isFamilyChar, whiteSpace}
@@ -27,7 +26,7 @@ use Rattle.primes.proofs.Plain.{straight-length, plain-part}
 use Rattle.primes.proofs.Firsts.{plain-ascii}
 use Rattle.primes.proofs.Fronts.{Both, families-both, whites-both, digits-both}
 use Rattle.primes.proofs.Follows.{
-  Places, Left, Meets, neither, both, Follows, finished, rejects, less, after, narrow, loosely, _next_, _past_, _before_, _then_, either, admitted, taking
+  Places, Meets, neither, both, Follows, finished, after, narrow, loosely, _next_, _past_, _before_, _then_, either, admitted, taking
 }
 
 -- both texts are read by one reader, and what is read is the same

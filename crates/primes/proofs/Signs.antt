@@ -1,26 +1,24 @@
 -- The sign that negates, read at once from the text as given, under the flag, and from the straight text without it. Assumes nothing.
-use Prim.Native.Nat.{ℕ, zero, suc, _+_, _≤_, _<_}
-use mathlib.Core.Path.{_≡_, refl, sym, ap, subst, _∙_}
+use Prim.Native.Nat.{ℕ, zero, suc, _+_, _<_}
+use mathlib.Core.Path.{_≡_, refl, sym, ap, _∙_}
 use mathlib.Core.Bool.{Bool, true, false, _||_}
 use mathlib.Core.List.{List, [], _∷_}
 use native.Mathlib.Omega.{arith}
 use borrow.Author.Tests.{eqb-true, eqb-false, ne-eqb}
-use lib.Dec.{eqb, ltb}
-use lib.IntN.{ℤ, pos, negℤ}
+use lib.Dec.{eqb}
 use lib.ListN.{length, drop}
 use lib.Seq.{drop-drop}
-use Rattle.notation.specs.Basics.{pick, oneOf}
+use Rattle.notation.specs.Basics.{oneOf}
 use Rattle.notation.specs.Chars.{curlyPrimes, classify, isPrime}
-use Rattle.notation.specs.Utf8.{byteAt, charWidth, codePoint, utf8, widthIf}
-use Rattle.notation.specs.Grammar.{Reading, rejected, read, Reader, done, orElse, when, just, character, prime, multiplier, MAX-I32}
+use Rattle.notation.specs.Utf8.{byteAt, charWidth, codePoint, widthIf}
+use Rattle.notation.specs.Grammar.{Reading, rejected, read, orElse, just, character, prime, multiplier, MAX-I32}
 use Rattle.notation.specs.Primes.{straightFrom, straight, given, withoutCurly}
 use Rattle.notation.specs.declared.features.Features.{Features}
 use Rattle.charsets.proofs.Bools.{or-true}
 use Rattle.charsets.proofs.Sets.{prime-is}
-use Rattle.primes.proofs.Plain.{Plain}
 use Rattle.primes.proofs.Firsts.{Point, no-point, one-byte, two-bytes, three-bytes, four-bytes, point, First, nothing, sign, other, Sign, Other, first, plain-ascii}
-use Rattle.primes.proofs.Follows.{Places, Left, Meets, neither, both, Follows, finished, loosely, _then_, either}
-use Rattle.primes.proofs.Readers.{Alike, uint-alike}
+use Rattle.primes.proofs.Follows.{Meets, neither, both, Follows, finished, loosely, _then_, either}
+use Rattle.primes.proofs.Readers.{uint-alike}
 use Rattle.primes.proofs.Parts.{At, at-onward, within}
 
 -- behind a sign

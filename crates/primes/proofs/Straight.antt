@@ -8,16 +8,16 @@ use native.Mathlib.Omega.{arith}
 use lib.Dec.{leb}
 use lib.ListN.{length}
 use Rattle.notation.specs.Utf8.{utf8}
-use Rattle.notation.specs.Tree.{Step, NodeList, Tree}
-use Rattle.notation.specs.Grammar.{Reading, read, atEnd, notationBy, notation, nodeList}
+use Rattle.notation.specs.Tree.{Tree}
+use Rattle.notation.specs.Grammar.{Reading, read, atEnd, notationBy, notation}
 use Rattle.notation.specs.Meaning.{unspanned}
 use Rattle.notation.specs.Refusals.{Outcome, refusal, result, _>>=_, _>>_, unless, orRefuse, TOO-LONG, NOT-UTF8, TOO-NESTED, NOT-NOTATION}
-use Rattle.notation.specs.Entries.{MAX-TEXT, textOk, nestingOk, treeIn}
+use Rattle.notation.specs.Entries.{MAX-TEXT, nestingOk, treeIn}
 use Rattle.notation.specs.Primes.{withoutCurly, straightFrom, straight, treeGiven, straightTreeIn, ReadAsStraight}
 use Rattle.notation.specs.declared.features.Features.{Features}
 use Rattle.primes.proofs.Plain.{straight-length}
-use Rattle.primes.proofs.Follows.{Left, Meets, neither, both}
-use Rattle.primes.proofs.Parts.{At, at-start, within}
+use Rattle.primes.proofs.Follows.{Meets, neither, both}
+use Rattle.primes.proofs.Parts.{at-start, within}
 use Rattle.primes.proofs.Nodes.{Trees, list-follows}
 
 -- both texts are rejected, or both are read to trees that belong together

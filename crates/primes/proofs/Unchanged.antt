@@ -6,7 +6,7 @@ use mathlib.Core.List.{List, _∷_}
 use lib.Dec.{eqb}
 use Rattle.notation.specs.Basics.{pick, between, oneOf}
 use Rattle.notation.specs.Chars.{classify, isFamilyClass, isFamilyChar, isPrime, isLatinLetter, isGreekLetter, uppercaseGreek, tallLowercaseGreek, shortLowercaseGreek, curlyPrimes}
-use Rattle.notation.specs.Grammar.{Reading, rejected, read, Reader, orElse, when, just, character, prime, notationBy, notation}
+use Rattle.notation.specs.Grammar.{Reading, rejected, read, Reader, orElse, when, just, character, prime, notationBy}
 use Rattle.notation.specs.Primes.{Unchanged}
 use Rattle.notation.specs.declared.features.Features.{Features}
 use Rattle.notation.specs.declared.charsets.CharSet.the-variants.{LowercaseLatin, UppercaseLatin, UppercaseGreek, TallLowercaseGreek, ShortLowercaseGreek, Underscore, Prime}
