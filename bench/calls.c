@@ -1,6 +1,7 @@
 /* One call of one C function on a text from standard input, for callgrind to count: calls OPERATION. What is counted is the function `measured`
  * (--toggle-collect=measured); reading the tree and lending the buffer are outside. Operations as in main.rs, and `check`: all that a call does
- * before it looks at anything but text and tree (the family of a record that is not there); `seek K`: place K.
+ * before it looks at anything but text and tree (the family of a record that is not there); `seek K`: place K; `read curly`: reading with
+ * curly primes admitted, where the header has them.
  * calls OPERATION CALLS times as many calls, twelve times, and prints the least: nanoseconds of a call. PAD bytes of code stand before the library's,
  * which so lies elsewhere (placements.py). */
 #define _POSIX_C_SOURCE 199309L
@@ -41,11 +42,16 @@ static function *writer(const struct call *c) {
     return NULL;
 }
 
-enum which { READ, CHECK, COUNT, SEEK, RANGES, WRITE };
+#ifndef HYPUZ_CURLY_PRIMES
+#define HYPUZ_CURLY_PRIMES 0u
+#endif
+
+enum which { READ, READ_CURLY, CHECK, COUNT, SEEK, RANGES, WRITE };
 
 __attribute__((noinline)) uint64_t measured(enum which which, function *write, const struct call *c) {
     switch (which) {
     case READ: return hypuz_parse_notation(c->text, c->text_size, HYPUZ_MAXIMAL, c->out, c->out_size);
+    case READ_CURLY: return hypuz_parse_notation(c->text, c->text_size, HYPUZ_MAXIMAL | HYPUZ_CURLY_PRIMES, c->out, c->out_size);
     case CHECK: return hypuz_refusal(hypuz_family(c->text, c->text_size, c->tree, c->tree_size, UINT64_MAX)) != 12;
     case COUNT: return hypuz_count_steps(c->text, c->text_size, c->tree, c->tree_size);
     case SEEK: return hypuz_seek_step(c->text, c->text_size, c->tree, c->tree_size, c->place, c->out, c->out_size);
@@ -84,7 +90,7 @@ int main(int argc, char **argv) {
     static uint8_t text[LONGEST + 1], tree[LONGEST * HYPUZ_RECORD];
     struct call c = {.operation = argv[1], .text = text, .tree = tree};
     c.text_size = fread(text, 1, sizeof text, stdin);
-    uint64_t a = hypuz_parse_notation(text, c.text_size, HYPUZ_MAXIMAL, tree, sizeof tree);
+    uint64_t a = hypuz_parse_notation(text, c.text_size, HYPUZ_MAXIMAL | (is(&c, "read curly") ? HYPUZ_CURLY_PRIMES : 0u), tree, sizeof tree);
     if (hypuz_refusal(a)) return 3;
     c.tree_size = (size_t)hypuz_value(a);
     uint64_t n = hypuz_count_steps(text, c.text_size, tree, c.tree_size);
@@ -96,7 +102,7 @@ int main(int argc, char **argv) {
     c.out_size = is(&c, "display") ? 2 * c.text_size + 64 : list > c.tree_size ? list : c.tree_size;
     c.out = calloc(c.out_size, 1);
     function *write = writer(&c);
-    enum which which = is(&c, "read") ? READ : is(&c, "check") ? CHECK : is(&c, "count") ? COUNT : is(&c, "ranges") ? RANGES : write ? WRITE : SEEK;
+    enum which which = is(&c, "read") ? READ : is(&c, "read curly") ? READ_CURLY : is(&c, "check") ? CHECK : is(&c, "count") ? COUNT : is(&c, "ranges") ? RANGES : write ? WRITE : SEEK;
     a = measured(which, write, &c);
     if (hypuz_refusal(a) || (which == CHECK && a)) return 5;
     if (argc == 3) printf("%.1f\n", timed(which, write, &c, atoi(argv[2])));

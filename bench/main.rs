@@ -1,6 +1,6 @@
 //! Times the C functions of the archive against the Rust's own on the same texts in one run, and prints tables in Markdown.
 //!
-//! `bench` prints the tables; `bench growth` how seeking and counting grow alone; `bench scale` how the time a byte of ours holds from 64 KB up to the longest text, and
+//! `bench` prints the tables; `bench curly` that of texts with curly primes alone; `bench growth` how seeking and counting grow; `bench scale` how the time a byte of ours holds from 64 KB up to the longest text, and
 //! fails where it does not (scale.rs); `bench loop OPERATION KIND SIZE SECONDS` calls one of ours again and again, for a profiler;
 //! `bench plain` prints the times of ours alone, a line each with tabs between, to be put beside those of another archive (turns.py); `bench text KIND SIZE` a text (instructions.py).
 mod ours;
@@ -207,7 +207,7 @@ fn our_call<'a>(c: &'a Case, operation: &str) -> Option<Box<dyn FnMut() + 'a>> {
         _ => tree.len().max(4_000),
     }];
     Some(match operation {
-        "read" => Box::new(move || assert!(black_box(ours::parse(black_box(text), &mut out)).is_ok())),
+        "read" => Box::new(move || assert!(black_box(ours::parse(black_box(text), ours::MAXIMAL, &mut out)).is_ok())),
         "display" => Box::new(move || assert!(black_box(ours::display(black_box(text), tree, &mut out)).is_ok())),
         "inv" => Box::new(move || assert!(black_box(ours::inv(black_box(text), tree, &mut out)).is_ok())),
         "inv_deep" => Box::new(move || assert!(black_box(ours::inv_deep(black_box(text), tree, &mut out)).is_ok())),
@@ -292,6 +292,39 @@ fn rows(operation: &str, against: &str) {
     println!();
 }
 
+/// A text as a word processor writes it: one sign and the other in turns for the apostrophes.
+fn curly(text: &str) -> String {
+    let mut signs = ["\u{2019}", "\u{2032}"].into_iter().cycle();
+    text.split('\'').map(str::to_owned).reduce(|a, b| a + signs.next().unwrap() + &b).unwrap()
+}
+
+/// Reading texts with curly primes under their flag, against what one would write with the Rust: apostrophes put in their place, then the plain reader.
+fn curly_rows() {
+    println!("| read with curly primes |{}", SIZES.map(|n| format!(" {n} bytes with apostrophes: ours | replaced, plain reader | × |")).join(""));
+    println!("|---|{}", "---:|---:|---:|".repeat(SIZES.len()));
+    for kind in KINDS.into_iter().filter(|kind| text(kind, 1_000).contains('\'')) {
+        print!("| {kind} |");
+        for size in SIZES {
+            let text = curly(&text(kind, size));
+            let replaced = || reader::read(black_box(&text).replace(['\u{2019}', '\u{2032}'], "'").as_bytes());
+            let mut out = vec![1; RECORD * text.len()];
+            let mut call = || ours::parse(black_box(text.as_bytes()), ours::MAXIMAL | ours::CURLY_PRIMES, &mut out);
+            let used = call().expect("the archive takes every text") as usize;
+            let (mut ours, mut rust) = (f64::MAX, f64::MAX);
+            for _ in 0..ROUNDS {
+                ours = ours.min(best(|| assert!(black_box(call()).is_ok())));
+                rust = rust.min(best_apart(|| (), |()| replaced()));
+            }
+            print!(" {} | {} | {:.2} |", shown(ours), shown(rust), ours / rust);
+            let (mut printed, tree) = (vec![0; 2 * text.len() + 64], &out[..used]);
+            let n = ours::display(text.as_bytes(), tree, &mut printed).unwrap() as usize;
+            assert_eq!(std::str::from_utf8(&printed[..n]).unwrap(), replaced().unwrap().to_string());
+        }
+        println!();
+    }
+    println!();
+}
+
 fn utf8_time(c: &Case) -> f64 {
     best(|| {
         black_box(std::str::from_utf8(black_box(c.text.as_bytes()))).unwrap();
@@ -301,7 +334,7 @@ fn utf8_time(c: &Case) -> f64 {
 /// A text read, with as many bytes for its tree as it can need.
 fn read(text: &str) -> Vec<u8> {
     let mut tree = vec![0; RECORD * text.len()];
-    let used = ours::parse(text.as_bytes(), &mut tree).expect("the archive takes every text") as usize;
+    let used = ours::parse(text.as_bytes(), ours::MAXIMAL, &mut tree).expect("the archive takes every text") as usize;
     tree.truncate(used);
     tree
 }
@@ -405,6 +438,9 @@ fn main() {
     if args.first().is_some_and(|a| a == "text") {
         return print!("{}", any_text(&args[1], args[2].parse().expect("a size")));
     }
+    if args.first().is_some_and(|a| a == "curly") {
+        return curly_rows();
+    }
     if args.first().is_some_and(|a| a == "scale") {
         std::process::exit(if scale::run() { 0 } else { 1 });
     }
@@ -415,6 +451,7 @@ fn main() {
     println!("Microseconds of a call, best of {} samples of 2 ms or one call; × is ours divided by the other.\n", ROUNDS * SAMPLES);
     rows("read", "plain reader");
     rows("read", "from_utf8");
+    curly_rows();
     for operation in &OPERATIONS[1..] {
         rows(operation, match *operation {
             "display" => "Display",
