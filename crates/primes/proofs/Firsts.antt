@@ -1,24 +1,24 @@
 -- The character at the start of a text, in the text as given and in the straight text. Assumes nothing.
-use Prim.Native.Nat.{ℕ, zero, suc, _+_, _*_, _%_, _≤_, _<_}
+use Prim.Native.Nat.{ℕ, zero, suc, _+_, _≤_, _<_}
 use Prim.Native.Char.{code}
 use mathlib.Core.Path.{_≡_, refl, sym, ap, _∙_}
-use mathlib.Core.Logic.{_⊎_, inl, inr, ⊎-elim}
-use mathlib.Core.Bool.{Bool, true, false, _&&_, _||_}
+use mathlib.Core.Bool.{Bool, true, false, _||_}
 use mathlib.Core.List.{List, [], _∷_, _++_}
 use native.Mathlib.Omega.{arith}
 use native.Mathlib.Nat.{suc-add}
-use borrow.Author.Tests.{eqb-true, eqb-false, leb-true, leb-false, le-leb}
-use lib.Dec.{eqb, leb}
+use borrow.Author.Tests.{eqb-true, le-leb}
+use lib.Dec.{eqb}
 use lib.ListN.{length, take, drop, take-append-drop}
-use Rattle.notation.specs.Basics.{pick, between, oneOf}
+use Rattle.notation.specs.Basics.{pick, oneOf}
 use Rattle.notation.specs.Chars.{curlyPrimes}
 use Rattle.notation.specs.Utf8.{byteAt, continuation, charWidth, codePoint, utf8, widthIf}
 use Rattle.notation.specs.Primes.{curlyWidth, straightFrom, straight, givenFrom, given}
 use Rattle.charsets.proofs.Widths.{width-length}
 use Rattle.charsets.proofs.Runs.{utf8-step, utf8-stop}
-use Rattle.laws.proofs.Bools.{false-true, and-left, and-right}
+use Rattle.laws.proofs.Bools.{false-true}
 use Rattle.laws.proofs.Runs.{width-cut}
 use Rattle.laws.proofs.PlainBytes.{width-tail}
+use Rattle.primes.proofs.Points.{Point, no-point, one-byte, two-bytes, three-bytes, four-bytes, point}
 use Rattle.primes.proofs.Plain.{Plain, kept-byte, kept-place, no-start, kept-tail}
 
 contra : {X : Type 0} → false ≡ true → X
@@ -36,111 +36,6 @@ unfolding givenFrom
 given-from zero s i h = omega arith
 given-from (suc k) [] i h = absurd (omega arith)
 given-from (suc k) (b ∷ s) i h = ap suc (given-from k s i (omega arith)) ∙ sym (suc-add k (given (drop k s) i))
-
--- How many bytes a code point takes.
-pub data Point (a c : ℕ) : ℕ → Type 0 where
-  no-point : Point a c 0
-  one-byte : a ≤ 0x7f → c ≡ a → Point a c 1
-  two-bytes : 0x7f < a → 0x7f < c → c ≤ 0x7ff → Point a c 2
-  three-bytes : 0x7f < a → 0x7ff < c → Point a c 3
-  four-bytes : 0x7f < a → 0xffff < c → Point a c 4
-
--- a second byte between bounds that depend on the first: after x it is at least m
-second-low : (a x m b : ℕ) (t u : Bool) (n : ℕ) → eqb a x ≡ t → x ≤ a → between (pick t m 0x80) (pick u n 0xbf) b ≡ true → ((a ≡ x) × (m ≤ b)) ⊎ (x < a)
-second-low a x m b true u n e h g = inl (eqb-true a x e, leb-true m b (and-left _ (leb b (pick u n 0xbf)) g))
-second-low a x m b false u n e h g = inr (more (leb a x) refl)
-  where
-    more : (u : Bool) → leb a x ≡ u → x < a
-    more true i = let j = leb-true a x i in absurd (eqb-false a x e (omega arith))
-    more false i = leb-false a x i
-
-second-high : (t u : Bool) (m n b : ℕ) → n ≤ 0xbf → between (pick t m 0x80) (pick u n 0xbf) b ≡ true → b ≤ 0xbf
-second-high t u m n b h e = omega (arith, most u, leb-true b (pick u n 0xbf) (and-right (leb (pick t m 0x80) b) _ e))
-  where
-    most : (u : Bool) → pick u n 0xbf ≤ 0xbf
-    most true = h
-    most false = omega arith
-
-module _ (a b c d : ℕ) where
-  abbrev starts-three : Bool
-  starts-three = between 0xe0 0xef a && between (pick (eqb a 0xe0) 0xa0 0x80) (pick (eqb a 0xed) 0x9f 0xbf) b
-
-  abbrev starts-four : Bool
-  starts-four = between 0xf0 0xf4 a && between (pick (eqb a 0xf0) 0x90 0x80) (pick (eqb a 0xf4) 0x8f 0xbf) b
-
-  point₂ : leb a 0x7f ≡ false → (between 0xc2 0xdf a && continuation b) ≡ true → (l₂ : Bool) → leb a 0xdf ≡ l₂ → (z : ℕ) → Point a (pick l₂ (a % 32 * 64 + b % 64) z) 2
-  point₂ e g true f z =
-      let i = leb-true 0xc2 a (and-left _ (leb a 0xdf) (and-left (between 0xc2 0xdf a) (continuation b) g)) in
-      let j = leb-true a 0xdf f in
-      two-bytes (leb-false a 0x7f e) (omega arith) (omega arith)
-  point₂ e g false f z =
-      let i = leb-true a 0xdf (and-right (leb 0xc2 a) _ (and-left (between 0xc2 0xdf a) (continuation b) g)) in
-      let j = leb-false a 0xdf f in
-      absurd (omega arith)
-
-  point₃ : leb a 0x7f ≡ false → starts-three ≡ true → (l₂ l₃ : Bool) → leb a 0xdf ≡ l₂ → leb a 0xef ≡ l₃ → (y z : ℕ) →
-      Point a (pick l₂ y (pick l₃ (a % 16 * 4096 + b % 64 * 64 + c % 64) z)) 3
-  point₃ e g l₂ l₃ f₂ f₃ y z = go l₂ l₃ f₂ f₃
-    where
-      low : 0xe0 ≤ a
-      low = leb-true 0xe0 a (and-left _ (leb a 0xef) (and-left (between 0xe0 0xef a) _ g))
-      high : a ≤ 0xef
-      high = leb-true a 0xef (and-right (leb 0xe0 a) _ (and-left (between 0xe0 0xef a) _ g))
-      h : between (pick (eqb a 0xe0) 0xa0 0x80) (pick (eqb a 0xed) 0x9f 0xbf) b ≡ true
-      h = and-right (between 0xe0 0xef a) _ g
-      top : b ≤ 0xbf
-      top = second-high (eqb a 0xe0) (eqb a 0xed) 0xa0 0x9f b (omega arith) h
-      many : (((a ≡ 0xe0) × (0xa0 ≤ b)) ⊎ (0xe0 < a)) → 0x7ff < a % 16 * 4096 + b % 64 * 64 + c % 64
-      many = ⊎-elim (λ i. omega (arith, i .0, i .1, top)) (λ i. omega (arith, i, high))
-      go : (l₂ l₃ : Bool) → leb a 0xdf ≡ l₂ → leb a 0xef ≡ l₃ → Point a (pick l₂ y (pick l₃ (a % 16 * 4096 + b % 64 * 64 + c % 64) z)) 3
-      go true l₃ f₂ f₃ = let i = leb-true a 0xdf f₂ in absurd (omega (arith, low))
-      go false false f₂ f₃ = let i = leb-false a 0xef f₃ in absurd (omega (arith, high))
-      go false true f₂ f₃ =
-          three-bytes (leb-false a 0x7f e)
-          (many (second-low a 0xe0 0xa0 b (eqb a 0xe0) (eqb a 0xed) 0x9f refl low h))
-
-  point₄ : leb a 0x7f ≡ false → starts-four ≡ true → (l₂ l₃ : Bool) → leb a 0xdf ≡ l₂ → leb a 0xef ≡ l₃ → (y z : ℕ) →
-      Point a (pick l₂ y (pick l₃ z (a % 8 * 262144 + b % 64 * 4096 + c % 64 * 64 + d % 64))) 4
-  point₄ e g l₂ l₃ f₂ f₃ y z = go l₂ l₃ f₂ f₃
-    where
-      low : 0xf0 ≤ a
-      low = leb-true 0xf0 a (and-left _ (leb a 0xf4) (and-left (between 0xf0 0xf4 a) _ g))
-      high : a ≤ 0xf4
-      high = leb-true a 0xf4 (and-right (leb 0xf0 a) _ (and-left (between 0xf0 0xf4 a) _ g))
-      h : between (pick (eqb a 0xf0) 0x90 0x80) (pick (eqb a 0xf4) 0x8f 0xbf) b ≡ true
-      h = and-right (between 0xf0 0xf4 a) _ g
-      top : b ≤ 0xbf
-      top = second-high (eqb a 0xf0) (eqb a 0xf4) 0x90 0x8f b (omega arith) h
-      many : (((a ≡ 0xf0) × (0x90 ≤ b)) ⊎ (0xf0 < a)) → 0xffff < a % 8 * 262144 + b % 64 * 4096 + c % 64 * 64 + d % 64
-      many = ⊎-elim (λ i. omega (arith, i .0, i .1, top)) (λ i. omega (arith, i, high))
-      go : (l₂ l₃ : Bool) → leb a 0xdf ≡ l₂ → leb a 0xef ≡ l₃ → Point a (pick l₂ y (pick l₃ z (a % 8 * 262144 + b % 64 * 4096 + c % 64 * 64 + d % 64))) 4
-      go true l₃ f₂ f₃ = let i = leb-true a 0xdf f₂ in absurd (omega (arith, low))
-      go false true f₂ f₃ = let i = leb-true a 0xef f₃ in absurd (omega (arith, low))
-      go false false f₂ f₃ =
-          four-bytes (leb-false a 0x7f e)
-          (many (second-low a 0xf0 0x90 b (eqb a 0xf0) (eqb a 0xf4) 0x8f refl low h))
-
-  by-rows : (t₁ l₂ l₃ t₂ t₃ t₄ : Bool) → leb a 0x7f ≡ t₁ → leb a 0xdf ≡ l₂ → leb a 0xef ≡ l₃ →
-      (between 0xc2 0xdf a && continuation b) ≡ t₂ → (starts-three && continuation c) ≡ t₃ → (starts-four && continuation c && continuation d) ≡ t₄ →
-      Point a
-      (pick t₁ a (pick l₂ (a % 32 * 64 + b % 64) (pick l₃ (a % 16 * 4096 + b % 64 * 64 + c % 64) (a % 8 * 262144 + b % 64 * 4096 + c % 64 * 64 + d % 64))))
-      (pick t₁ 1 (pick t₂ 2 (pick t₃ 3 (pick t₄ 4 0))))
-  by-rows true l₂ l₃ t₂ t₃ t₄ e₁ f₂ f₃ e₂ e₃ e₄ = one-byte (leb-true a 0x7f e₁) refl
-  by-rows false l₂ l₃ true t₃ t₄ e₁ f₂ f₃ e₂ e₃ e₄ = point₂ e₁ e₂ l₂ f₂ _
-  by-rows false l₂ l₃ false true t₄ e₁ f₂ f₃ e₂ e₃ e₄ = point₃ e₁ (and-left starts-three (continuation c) e₃) l₂ l₃ f₂ f₃ _ _
-  by-rows false l₂ l₃ false false true e₁ f₂ f₃ e₂ e₃ e₄ =
-      point₄ e₁ (and-left starts-four (continuation c) (and-left (starts-four && continuation c) (continuation d) e₄)) l₂ l₃ f₂ f₃ _ _
-  by-rows false l₂ l₃ false false false e₁ f₂ f₃ e₂ e₃ e₄ = no-point
-
-pub point : (s : List ℕ) → Point (byteAt s 0) (codePoint s) (charWidth s)
-unfolding charWidth codePoint
-point s =
-    let a = byteAt s 0 in
-    let b = byteAt s 1 in
-    let c = byteAt s 2 in
-    let d = byteAt s 3 in
-    by-rows a b c d (leb a 0x7f) (leb a 0xdf) (leb a 0xef) (between 0xc2 0xdf a && continuation b) (starts-three a b c d && continuation c)
-    (starts-four a b c d && continuation c && continuation d) refl refl refl refl refl refl
 
 -- Both signs have three bytes.
 bounded : (c : ℕ) → oneOf curlyPrimes c ≡ true → (0x2019 ≤ c) × (c ≤ 0x2032)

@@ -16,7 +16,8 @@ use Rattle.notation.specs.Primes.{straightFrom, straight, given, withoutCurly}
 use Rattle.notation.specs.declared.features.Features.{Features}
 use Rattle.charsets.proofs.Bools.{or-true}
 use Rattle.charsets.proofs.Sets.{prime-is}
-use Rattle.primes.proofs.Firsts.{Point, no-point, one-byte, two-bytes, three-bytes, four-bytes, point, First, nothing, sign, other, Sign, Other, first, plain-ascii}
+use Rattle.primes.proofs.Points.{Point, no-point, one-byte, two-bytes, three-bytes, four-bytes, point}
+use Rattle.primes.proofs.Firsts.{First, nothing, sign, other, Sign, Other, first, plain-ascii}
 use Rattle.primes.proofs.Follows.{Meets, neither, both, Follows, finished, loosely, _then_, either}
 use Rattle.primes.proofs.Readers.{uint-alike}
 use Rattle.primes.proofs.Parts.{At, at-onward, within}
