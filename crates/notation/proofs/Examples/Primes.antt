@@ -1,16 +1,17 @@
--- Curly primes: where they negate, where they are rejected, and what offsets come to.
+-- Curly primes: where they negate, where they are rejected, what offsets come to, and that no part of a tree holds one.
 use Prim.Native.Nat.{ℕ, zero, suc}
 use Prim.Native.String.{String}
 use mathlib.Core.Path.{_≡_, refl}
-use mathlib.Core.Bool.{true, false}
+use mathlib.Core.Bool.{Bool, true, false}
 use mathlib.Core.List.{List, [], _∷_, _++_, map}
 use mathlib.Core.Option.{none, some}
 use lib.IntN.{pos, negsuc}
 use lib.ListN.{replicate}
 use Rattle.notation.specs.Features.{MINIMAL, WCA, MAXIMAL, ofBits}
-use Rattle.notation.specs.Tree.{span, leaf, block, group, nil, cons, rotation, move, noLayers, layerSet}
-use Rattle.notation.specs.Packed.{nowhere}
+use Rattle.notation.specs.Tree.{span, Leaf, leaf, block, group, nil, cons, rotation, move, noLayers, layerSet}
+use Rattle.notation.specs.Packed.{nowhere, leafRecord}
 use Rattle.notation.specs.Refusals.{result, _>>=_}
+use Rattle.notation.specs.WellFormed.{wellFormed}
 use Rattle.notation.specs.Entries.{treeIn, refusalNumber}
 use Rattle.notation.specs.Primes.{straight, given, treeGiven, straightTreeIn, withoutCurly}
 use Rattle.notation.specs.declared.features.Features.{Features}
@@ -94,3 +95,16 @@ spans = refl
 sameSpans : (do t ← straightTreeIn all (bytes parts); result (treeGiven (bytes parts) t)) ≡ treeIn all (bytes parts)
 unfolding opened bytes
 sameSpans = refl
+
+-- refusal 6: no part of a tree may hold a prime, whatever the setting under which its text was read. A move's family, constraints and layer set,
+-- each next to the same part with a sign or an apostrophe in it, and a family that begins or ends inside a sign.
+abbrev ok : String → Leaf → Bool
+ok text x = wellFormed (bytes text) (leafRecord x)
+
+noParts : (map (λ p. ok "R’ U'" (move false noLayers p none (negsuc 0))) (span 0 1 ∷ span 5 1 ∷ span 0 4 ∷ span 0 2 ∷ span 1 3 ∷ span 3 1 ∷ span 5 2 ∷ span 6 1 ∷ [])
+      ≡ true ∷ true ∷ replicate 6 false)
+    × (map (λ c. ok "R{A}{A’}{A'}" (move false noLayers (span 0 1) (some c) (pos 1))) (span 1 3 ∷ span 4 6 ∷ span 10 4 ∷ []) ≡ true ∷ false ∷ false ∷ [])
+    × (map (λ l. ok "R{1}{1’}{1'}" (move false (layerSet l) (span 0 1) none (pos 1))) (span 1 3 ∷ span 4 6 ∷ span 10 4 ∷ []) ≡ true ∷ false ∷ false ∷ [])
+    × (map (λ p. ok "@′" (rotation p none (negsuc 0))) (nowhere ∷ span 1 3 ∷ []) ≡ true ∷ false ∷ [])
+unfolding opened bytes
+noParts = (refl, refl, refl, refl)
