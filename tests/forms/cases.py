@@ -16,7 +16,8 @@ FAMILIES = ["R", "U", "Rw", "\u03a9\u03c9", "x_y", "IR"]
 SETS = ["", "", "{}", "{a->b}", "{ R<>U , F }", "{R->}", "{a,b", "{R -> F,L<>B}"]
 TIMES = ["", "2", "'", "3'", "0", "007", "2147483647'", "2147483648", "\u2019", "2\u2032", "\u2032'", "0\u2019", "\u2018"]
 CURLY = n.MAXIMAL | {"curly_primes"}
-SETTINGS = [(n.MAXIMAL, "maximal()"), (n.WCA, "wca()"), (CURLY, "from_bits(255)")]
+# the last two have every bit of a number, or all but that of the curly primes: those above it say nothing
+SETTINGS = [(n.MAXIMAL, "maximal()"), (n.WCA, "wca()"), (CURLY, "from_bits(255)"), (CURLY, "from_bits(4294967295)"), (n.MAXIMAL, "from_bits(4294967167)")]
 LEAVES = [".", "/", "(1, -2)", "( -2147483648 , 0 )", "(1,2", "R++", "D--", "@", "@R", "(R U)", "[R, U]", ")", "-", "^(R)"]
 SPACES = ["", " ", "\n\t", "\u00a0", "\u3000 "]
 
@@ -48,15 +49,15 @@ def leaf(r):
     return f"{b[0]} {n.unpack(b)['number'] % 2**32} {found.family[0]} {found.family[1]} {r.offset[r.i]} "
 
 
-def walked(text, features):
+def walked(text, setting):
     """White space, a leaf, a constraint set, a multiplier, and whether that was all."""
+    features, name = setting
     r = n.Reader(text, features)
     r.spaces()
     line = leaf(r)
     found = r.braces(r.constraint)
     line += "none " if found is None else f"{r.offset[r.i]} "
     line += f"{r.multiplier() % 2**32} " + ("end" if r.i == len(r.s) else "")
-    name = next(name for setting, name in SETTINGS if setting == features)
     return f"walked({literal(text)}, features::{name});", line
 
 
@@ -85,12 +86,12 @@ def cases(r):
         r.shuffle(moves)
         yield ranges_of(" ".join(moves).encode(), r.randint(0, 4), r.choice([0, 1, 2, 5, 9, 9, 9, 32767, 32768]), r.random() < 0.6)
     for text in ["  Rw2'", " ({a->b, c}3'", "@ ", "", "Rw2\u2019", " {a->b, c}3\u2032", "R\u2032{a}\u2019", "R\u2019\u2032"]:
-        for features, _ in SETTINGS:
-            yield walked(text.encode(), features)
+        for setting in SETTINGS:
+            yield walked(text.encode(), setting)
     for _ in range(250):
         start = r.choice(LEAVES) if r.random() < 0.4 else r.choice(["", "~", "@"]) + r.choice(LAYERS) + r.choice(FAMILIES) + r.choice(SETS)
         text = r.choice(SPACES) + start + r.choice(TIMES) + r.choice(["", "", " "]) + r.choice(SETS) + r.choice(TIMES) + r.choice(["", "", " "])
-        yield walked(text.encode(), r.choice([n.MAXIMAL, n.WCA, CURLY]))
+        yield walked(text.encode(), r.choice(SETTINGS))
 
 
 def main():

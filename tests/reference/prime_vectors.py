@@ -73,6 +73,10 @@ def signs():
         yield rejected(ON, text.replace("'", n.CURLY[k % 2]))
         if k % 4 == 0:
             yield rejected(MAX, text.replace("'", n.CURLY[k // 4 % 2]))
+    # what takes no multiplier takes no sign
+    for leaf in ("(1,0)", "/", ".", "R++", "R--", "D++", "D--"):
+        for sign in n.CURLY:
+            yield rejected(ON, leaf + sign + " U")
     # of two primes the second is never read
     for a in "'" + n.CURLY:
         for b in "'" + n.CURLY:
