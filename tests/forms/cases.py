@@ -14,7 +14,10 @@ KEPT = "7 77 "
 LAYERS = ["", "2", "7", "3-5", "9-2", "{1,3..5,-2}", "{-1..4}", "{2,-4..-2,8}", "{1-3,7}", "{1,3,5,7}", "{}", "{ 4 , 4 }", "{-9..-7,9}", "32767", "{32767,-32767}"]
 FAMILIES = ["R", "U", "Rw", "\u03a9\u03c9", "x_y", "IR"]
 SETS = ["", "", "{}", "{a->b}", "{ R<>U , F }", "{R->}", "{a,b", "{R -> F,L<>B}"]
-TIMES = ["", "2", "'", "3'", "0", "007", "2147483647'", "2147483648"]
+TIMES = ["", "2", "'", "3'", "0", "007", "2147483647'", "2147483648", "\u2019", "2\u2032", "\u2032'", "0\u2019", "\u2018"]
+CURLY = n.MAXIMAL | {"curly_primes"}
+# the last two have every bit of a number, or all but that of the curly primes: those above it say nothing
+SETTINGS = [(n.MAXIMAL, "maximal()"), (n.WCA, "wca()"), (CURLY, "from_bits(255)"), (CURLY, "from_bits(4294967295)"), (n.MAXIMAL, "from_bits(4294967167)")]
 LEAVES = [".", "/", "(1, -2)", "( -2147483648 , 0 )", "(1,2", "R++", "D--", "@", "@R", "(R U)", "[R, U]", ")", "-", "^(R)"]
 SPACES = ["", " ", "\n\t", "\u00a0", "\u3000 "]
 
@@ -46,16 +49,16 @@ def leaf(r):
     return f"{b[0]} {n.unpack(b)['number'] % 2**32} {found.family[0]} {found.family[1]} {r.offset[r.i]} "
 
 
-def walked(text, features):
+def walked(text, setting):
     """White space, a leaf, a constraint set, a multiplier, and whether that was all."""
+    features, name = setting
     r = n.Reader(text, features)
     r.spaces()
     line = leaf(r)
     found = r.braces(r.constraint)
     line += "none " if found is None else f"{r.offset[r.i]} "
     line += f"{r.multiplier() % 2**32} " + ("end" if r.i == len(r.s) else "")
-    name = "maximal" if features == n.MAXIMAL else "wca"
-    return f"walked({literal(text)}, features::{name}());", line
+    return f"walked({literal(text)}, features::{name});", line
 
 
 def first(text):
@@ -82,12 +85,13 @@ def cases(r):
         moves = [r.choice(["", "~"]) + r.choice(LAYERS) + r.choice(FAMILIES) for _ in range(r.randint(1, 3))] + r.choice([[], ["(R)2"], ["@"]])
         r.shuffle(moves)
         yield ranges_of(" ".join(moves).encode(), r.randint(0, 4), r.choice([0, 1, 2, 5, 9, 9, 9, 32767, 32768]), r.random() < 0.6)
-    for text in ["  Rw2'", " ({a->b, c}3'", "@ ", ""]:
-        yield walked(text.encode(), n.MAXIMAL)
+    for text in ["  Rw2'", " ({a->b, c}3'", "@ ", "", "Rw2\u2019", " {a->b, c}3\u2032", "R\u2032{a}\u2019", "R\u2019\u2032"]:
+        for setting in SETTINGS:
+            yield walked(text.encode(), setting)
     for _ in range(250):
         start = r.choice(LEAVES) if r.random() < 0.4 else r.choice(["", "~", "@"]) + r.choice(LAYERS) + r.choice(FAMILIES) + r.choice(SETS)
         text = r.choice(SPACES) + start + r.choice(TIMES) + r.choice(["", "", " "]) + r.choice(SETS) + r.choice(TIMES) + r.choice(["", "", " "])
-        yield walked(text.encode(), r.choice([n.MAXIMAL, n.WCA]))
+        yield walked(text.encode(), r.choice(SETTINGS))
 
 
 def main():

@@ -87,7 +87,7 @@ fn walked(text: &[u8], features: Features) {
             io::write_all(STDOUT_FILENO, b"none ");
         }
     }
-    number(r.multiplier() as u64);
+    number(r.multiplier(features) as u64);
     if r.at_end() {
         io::write_all(STDOUT_FILENO, b"end");
     }

@@ -23,7 +23,7 @@ static void demand(int holds, const char *what) {
 __attribute__((section("__libfuzzer_extra_counters"))) static uint8_t seen[16 * 16 + 256 + 64 + 64];
 
 /* The same answers counted over the whole run, printed at its end. */
-static const char *const functions[] = {"parse_notation", "display", "inv", "inv_deep", "count_steps", "flatten", "seek_step", "simplify", "family"};
+static const char *const functions[] = {"parse_notation", "display", "inv", "inv_deep", "count_steps", "flatten", "seek_step", "simplify", "family", "parse_notation of signs"};
 static uint64_t totals[16][16];
 
 static void print_totals(void) {
@@ -220,11 +220,79 @@ static void every(const struct input *i, size_t room) {
     together(i, n, list);
 }
 
+/* Whether a curly prime, U+2019 or U+2032, begins here. */
+static int is_sign(const uint8_t *text, size_t left) { return left > 2 && text[0] == 0xe2 && text[1] == 0x80 && (text[2] == 0x99 || text[2] == 0xb2); }
+
+/* The text in which an apostrophe replaces each curly prime, and for each of its offsets the one in the text as given. */
+struct straight {
+    uint8_t text[2 * MOST + 1];
+    size_t size, given[2 * MOST + 1];
+};
+
+static int straighten(struct straight *s, const uint8_t *text, size_t size) {
+    int signs = 0;
+    s->size = 0;
+    for (size_t k = 0; k < size; s->size++) {
+        int sign = is_sign(text + k, size - k);
+        s->text[s->size] = sign ? '\'' : text[k];
+        s->given[s->size] = k;
+        k += sign ? 3 : 1;
+        signs += sign;
+    }
+    s->given[s->size] = size;
+    return signs;
+}
+
+static void store_part(uint8_t *at, size_t n) { at[0] = (uint8_t)(n >> 16), at[1] = (uint8_t)(n >> 8), at[2] = (uint8_t)n; }
+
+/* A tree of the straight text with every part where the text as given has it: behind the first 15 bytes of a record stand three offsets, each with a length. */
+static void to_given(const struct straight *s, uint8_t *tree, size_t size) {
+    for (uint8_t *r = tree; r < tree + size; r += HYPUZ_RECORD)
+        for (uint8_t *part = r + 15; part < r + 33; part += 6) {
+            size_t from = field(part, 3), to = from + field(part + 3, 3);
+            demand(to <= s->size, "parts inside the straight text");
+            store_part(part, s->given[from]);
+            store_part(part + 3, s->given[to] - s->given[from]);
+        }
+}
+
+/* What is printed has apostrophes alone, is read without the flag, and is printed the same again. */
+static void reads_back(const struct input *i, const uint8_t *tree, size_t size) {
+    static uint8_t shown[4 * MOST], again[4 * MOST], back[1 << 17];
+    uint64_t n = hypuz_display(i->text, i->text_size, tree, size, shown, sizeof shown);
+    demand(!hypuz_refusal(n), "printing what was read");
+    for (size_t k = 0; k < n; k++) demand(!is_sign(shown + k, n - k), "printing keeps the apostrophe");
+    uint64_t read = hypuz_parse_notation(shown, n, i->features & ~HYPUZ_CURLY_PRIMES, back, sizeof back);
+    demand(read == size, "what is printed is read back");
+    demand(hypuz_display(shown, n, back, size, again, sizeof again) == n && memcmp(shown, again, n) == 0, "and printed the same");
+}
+
+/* Request 6 by its own words: with the flag a text is read as, without it, the straight text, refusals and all offsets being those of the text as given. */
+static void as_straight(const struct input *i) {
+    static struct straight s;
+    static uint8_t curly[1 << 17], plain[1 << 17];
+    int signs = straighten(&s, i->text, i->text_size);
+    uint64_t a = hypuz_parse_notation(i->text, i->text_size, i->features | HYPUZ_CURLY_PRIMES, curly, sizeof curly);
+    uint64_t b = hypuz_parse_notation(s.text, s.size, i->features & ~HYPUZ_CURLY_PRIMES, plain, sizeof plain);
+    demand(a == b, "a text with signs is read as the straight text");
+    uint64_t off = hypuz_parse_notation(i->text, i->text_size, i->features & ~HYPUZ_CURLY_PRIMES, plain, 0);
+    if (signs) totals[9][hypuz_refusal(a)]++, note(16 * 9 + hypuz_refusal(a));
+    if (hypuz_refusal(a)) return;
+    demand(hypuz_refusal(off) == (signs ? 4 : a ? 5 : 0), "without the flag signs are refused, and nothing else");
+    to_given(&s, plain, b);
+    demand(memcmp(curly, plain, a) == 0, "the same tree, with the offsets of the text as given");
+    reads_back(i, curly, a);
+}
+
 /* Most changes that libFuzzer makes break UTF-8, and such a text is refused before anything else runs. Unless raw bytes are asked for, a byte
- * that is not part of a two-byte letter from U+0380 to U+03FF loses its top bit. */
+ * that is not part of a two-byte letter from U+0380 to U+03FF or of a curly prime loses its top bit. */
 static void mend(uint8_t *text, size_t n) {
     for (size_t k = 0; k < n; k++) {
         if (text[k] < 0x80) continue;
+        if (is_sign(text + k, n - k)) {
+            k += 2;
+            continue;
+        }
         if ((text[k] == 0xce || text[k] == 0xcf) && k + 1 < n && (text[k + 1] & 0xc0) == 0x80) k++;
         else text[k] &= 0x7f;
     }
@@ -261,7 +329,7 @@ static void pick(struct speller *s, const char *const *words, unsigned n) { put(
     } while (0)
 
 static void multiplier(struct speller *s) {
-    PICK(s, "", "", "", "'", "2", "2'", "3", "0", "0'", "1", "007'", "65536", "2147483647", "2147483647'");
+    PICK(s, "", "", "", "'", "2", "2'", "3", "0", "0'", "1", "007'", "65536", "2147483647", "2147483647'", "\xe2\x80\x99", "\xe2\x80\xb2", "2\xe2\x80\x99", "0\xe2\x80\xb2", "2147483647\xe2\x80\xb2");
 }
 
 static void family(struct speller *s) { PICK(s, "R", "U", "Fw", "_", "\xce\xb2", "\xce\xa9\xcf\x89", "IR", "x"); }
@@ -322,7 +390,7 @@ int LLVMFuzzerTestOneInput(const uint8_t *data, size_t size) {
     if (!texts.base) atexit(print_totals), texts = region(2 * MOST), trees = region(1 << 17), outs = region(OUTS);
     if (size < 16) return 0;
     struct input i = {0};
-    i.features = data[0] & 128 ? HYPUZ_MAXIMAL : data[0];
+    i.features = (data[0] & 128 ? HYPUZ_MAXIMAL : data[0]) | (data[2] & 32 ? HYPUZ_CURLY_PRIMES : 0);
     /* 1 to 16 layers, most of the time. */
     i.layers = data[2] & 64 ? (uint32_t)data[1] << (data[2] & 15) : 1 + data[1] % 16u;
     i.negatives = data[2] >> 7;
@@ -359,7 +427,7 @@ int LLVMFuzzerTestOneInput(const uint8_t *data, size_t size) {
         memcpy(tree, data + written, i.tree_size);
     } else {
         /* The tree of the text, with a byte changed or bytes cut if so told. */
-        uint64_t a = hypuz_parse_notation(text, i.text_size, HYPUZ_MAXIMAL, trees.base, trees.size);
+        uint64_t a = hypuz_parse_notation(text, i.text_size, HYPUZ_MAXIMAL | HYPUZ_CURLY_PRIMES, trees.base, trees.size);
         i.tree_size = hypuz_refusal(a) ? 0 : (size_t)hypuz_value(a);
         tree = ending(trees, i.tree_size);
         memmove(tree, trees.base, i.tree_size);
@@ -380,5 +448,6 @@ int LLVMFuzzerTestOneInput(const uint8_t *data, size_t size) {
     for (size_t k = 0; k + HYPUZ_RECORD <= i.tree_size; k += HYPUZ_RECORD) note(256 + tree[k]);
     note(512 + bits(i.tree_size / HYPUZ_RECORD));
     every(&i, room);
+    as_straight(&i);
     return 0;
 }

@@ -9,6 +9,9 @@ enum { ROOM = 4096, GUARD = 32, FILL = 0xa5, COUNT = 5, LIMIT = 16777215 }; /* a
 
 static int checks, failures;
 
+/* The setting that texts are read with. */
+static uint32_t features = HYPUZ_MAXIMAL;
+
 static void expect(int holds, const char *what, const char *text) {
     checks++;
     if (!holds) {
@@ -38,7 +41,7 @@ static const uint8_t *bytes(const char *s) { return (const uint8_t *)s; }
 
 /* Reads a text, which is to be accepted, into `tree`; answers its size. */
 static size_t read_text(const char *text, uint8_t *tree) {
-    uint64_t a = hypuz_parse_notation(bytes(text), strlen(text), HYPUZ_MAXIMAL, tree, ROOM);
+    uint64_t a = hypuz_parse_notation(bytes(text), strlen(text), features, tree, ROOM);
     expect(hypuz_refusal(a) == 0, "reading", text);
     return (size_t)hypuz_value(a);
 }
@@ -75,10 +78,10 @@ static void item(const char *text, const char *shown, const char *inverse, const
     uint8_t tree[ROOM], other[ROOM];
     size_t size = read_text(text, tree);
     uint8_t *out = lend();
-    expect(hypuz_parse_notation(bytes(text), strlen(text), HYPUZ_MAXIMAL, out, size) == size && memcmp(out, tree, size) == 0 && untouched(size), "reading in an exact fit", text);
+    expect(hypuz_parse_notation(bytes(text), strlen(text), features, out, size) == size && memcmp(out, tree, size) == 0 && untouched(size), "reading in an exact fit", text);
     if (size > 0) {
         out = lend();
-        expect(hypuz_parse_notation(bytes(text), strlen(text), HYPUZ_MAXIMAL, out, size - 1) == refused(5) && untouched(0), "reading in a short buffer", text);
+        expect(hypuz_parse_notation(bytes(text), strlen(text), features, out, size - 1) == refused(5) && untouched(0), "reading in a short buffer", text);
     }
     prints(text, tree, size, shown);
     out = lend();
@@ -201,7 +204,7 @@ static void refusals(void) {
     expect(hypuz_parse_notation(bytes(deep), 65, HYPUZ_WCA, out, ROOM) == refused(3) && untouched(0), "refusal 3", "65 parentheses");
     expect(hypuz_parse_notation(bytes("R)"), 2, HYPUZ_WCA, out, ROOM) == refused(4) && untouched(0), "refusal 4", "R)");
     expect(hypuz_parse_notation(bytes("@R"), 2, HYPUZ_WCA, out, ROOM) == refused(4) && untouched(0), "a feature that is off", "@R");
-    expect(hypuz_parse_notation(bytes("@R"), 2, HYPUZ_GENERALIZED_ROTATIONS | 0xffffff80u, out, ROOM) == HYPUZ_RECORD, "higher bits of features", "@R");
+    expect(hypuz_parse_notation(bytes("@R"), 2, HYPUZ_GENERALIZED_ROTATIONS | 0xffffff00u, out, ROOM) == HYPUZ_RECORD, "higher bits of features", "@R");
     out = lend();
     memset(tree, 0, sizeof tree);
     tree[0] = 0xf0;
@@ -230,6 +233,46 @@ static void refusals(void) {
     expect(hypuz_family(bytes(". R"), 3, tree, size, 1) == (2 << 24) + 1, "family", ". R");
 }
 
+#define RIGHT "\xe2\x80\x99"
+#define PRIME "\xe2\x80\xb2"
+
+/* A text that is refused with some number in a setting, and nothing written. */
+static void not_read(const char *text, uint32_t setting, uint64_t number, const char *what) {
+    uint8_t *out = lend();
+    expect(hypuz_parse_notation(bytes(text), strlen(text), setting, out, ROOM) == refused(number) && untouched(0), what, text);
+}
+
+/* Curly primes, which only a flag of their own admits. */
+static void curly_primes(void) {
+    static const uint32_t without[] = {0, HYPUZ_WCA, HYPUZ_MAXIMAL, ~HYPUZ_CURLY_PRIMES}, with[] = {HYPUZ_CURLY_PRIMES, HYPUZ_WCA | HYPUZ_CURLY_PRIMES, HYPUZ_MAXIMAL | HYPUZ_CURLY_PRIMES, UINT32_MAX};
+    static const char *const turns[] = {"R" RIGHT, "R" PRIME}, *const cuts[] = {"R\xe2", "R\xe2\x80", "R\x80\x99", "R\xb2", "R\xe2\x80'"},
+                      *const wrong[] = {RIGHT, "R" RIGHT PRIME, "R'" PRIME, "R" RIGHT "'", "R" RIGHT "2", "(1,0)" PRIME, "R++" RIGHT, "R" PRIME "U", "R{A" RIGHT "}", "R\xe2\x80\x98", "R\xe2\x80\xb3"};
+    uint8_t straight[HYPUZ_RECORD];
+    hypuz_parse_notation(bytes("R'"), 2, HYPUZ_MAXIMAL, straight, sizeof straight);
+    for (size_t t = 0; t < 2; t++) {
+        for (size_t k = 0; k < sizeof without / sizeof *without; k++) not_read(turns[t], without[k], 4, "a curly prime without the flag");
+        for (size_t k = 0; k < sizeof with / sizeof *with; k++) {
+            uint8_t *out = lend();
+            expect(hypuz_parse_notation(bytes(turns[t]), 4, with[k], out, HYPUZ_RECORD) == HYPUZ_RECORD && memcmp(out, straight, sizeof straight) == 0 && untouched(HYPUZ_RECORD),
+                   "a curly prime with the flag", turns[t]);
+        }
+    }
+    for (size_t k = 0; k < sizeof cuts / sizeof *cuts; k++) not_read(cuts[k], UINT32_MAX, 2, "a cut sign");
+    for (size_t k = 0; k < sizeof wrong / sizeof *wrong; k++) not_read(wrong[k], UINT32_MAX, 4, "a sign that no multiplier takes");
+    features = HYPUZ_MAXIMAL | HYPUZ_CURLY_PRIMES;
+    item("R U" RIGHT, "R U'", "U R'", "U R'", 0, "R U'", 2);
+    item("[R, U]" PRIME, "[R, U]'", "[R, U]", "[U, R]'", 0, "U R U' R'", 4);
+    item("[R" RIGHT ": U2" PRIME " F]'", "[R': U2' F]'", "[R': U2' F]", "[R': F' U2]'", 0, "R' F' U2 R", 4);
+    item("(R U'  F0" PRIME ")2" RIGHT, "(R U' F0)2'", "(R U' F0)2", "(F0 U R')2'", 0, "F0 U R' F0 U R'", 6);
+    item("~{1-3,-2}R{a->b}3" RIGHT " @{}" PRIME " {2}U{c}", "~{1..3,-2}R{a->b}3' @{}' {2}U{c}", "{2}U{c}' @{} ~{1..3,-2}R{a->b}3", "{2}U{c}' @{} ~{1..3,-2}R{a->b}3", 0, "~{1..3,-2}R{a->b}3' @{}' {2}U{c}", 3);
+    uint8_t tree[ROOM];
+    const char *text = "R" RIGHT " (U" PRIME ")" RIGHT " \xce\xb2";
+    size_t size = read_text(text, tree);
+    expect(hypuz_family(bytes(text), strlen(text), tree, size, 2) == (6 << 24) + 1, "a family behind a sign", text);
+    expect(hypuz_family(bytes(text), strlen(text), tree, size, 3) == (15 << 24) + 2, "a family behind three signs", text);
+    features = HYPUZ_MAXIMAL;
+}
+
 int main(void) {
     item("", "", "", "", 0, "", 0);
     item("R U'", "R U'", "U R'", "U R'", 0, "R U'", 2);
@@ -246,6 +289,7 @@ int main(void) {
     ranges("R", 3, 0, "1-1");
     refusals();
     every_count();
+    curly_primes();
     printf("%d checks, %d failed\n", checks, failures);
     return failures != 0;
 }

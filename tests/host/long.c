@@ -143,6 +143,65 @@ static void group(const char *middle, const char *end, uint64_t n, uint64_t plac
     expect(hypuz_inv_deep(text, LIMIT, tree, size, back, room) == size && hypuz_inv_deep(text, LIMIT, back, size, out, room) == size && memcmp(out, tree, size) == 0, "deeply inverted twice");
 }
 
+#define RIGHT "\xe2\x80\x99"
+#define PRIME "\xe2\x80\xb2"
+enum { SIGNS = LIMIT / 5 }; /* `R` with a curly prime and a space takes five bytes, and the limit is a multiple of them */
+
+static uint64_t reads_curly(const uint8_t *from, size_t size, uint8_t *to) { return hypuz_parse_notation(from, size, HYPUZ_MAXIMAL | HYPUZ_CURLY_PRIMES, to, room); }
+
+/* Curly primes are three bytes long, and the limit is one on the text as given: at the limit, and past it where the text with apostrophes is far from it. */
+static void signs(void) {
+    size_t size = (size_t)SIGNS * HYPUZ_RECORD, printed = 3 * (size_t)SIGNS - 1;
+    fill(text, LIMIT, "R" PRIME " ");
+    expect(reads_curly(text, LIMIT, tree) == size, "signs up to the limit are read");
+    expect(reads(text, LIMIT, out) == refused(4), "and refused 4 without the flag");
+    expect(hypuz_family(text, LIMIT, tree, size, SIGNS - 1) == ((uint64_t)(LIMIT - 5) << 24 | 1), "the last family, behind three million signs");
+    expect(hypuz_count_steps(text, LIMIT, tree, size) == SIGNS, "as many steps");
+    expect(hypuz_display(text, LIMIT, tree, size, other, LIMIT) == printed, "printed with apostrophes");
+    fill(back, printed, "R' ");
+    memcpy(back + printed - 2, "R'", 2);
+    expect(memcmp(other, back, printed) == 0, "all of them");
+    expect(reads(other, printed, out) == size, "and read back without the flag");
+    expect(hypuz_inv(text, LIMIT, tree, size, back, room) == size && hypuz_display(text, LIMIT, back, size, other, LIMIT) == 2 * (size_t)SIGNS - 1, "the inverse");
+    text[LIMIT] = ' ';
+    expect(reads_curly(text, LIMIT + 1, out) == refused(1) && reads(text, LIMIT + 1, out) == refused(1), "a byte more is refused 1, with the flag and without");
+    all_refuse(LIMIT + 1, 0, 1, "refusal 1 of a text with signs");
+    all_refuse(LIMIT + 1, SIGNS, 1, "refusal 1 of a text with signs and its tree");
+    fill(text, LIMIT - 2, "R' ");
+    memcpy(text + LIMIT - 2, "R'", 2);
+    expect(reads_curly(text, LIMIT, tree) == reads(text, LIMIT, out) && !hypuz_refusal(reads(text, LIMIT, out)), "with apostrophes the flag changes nothing");
+    text[LIMIT - 1] = 0xe2, text[LIMIT] = 0x80;
+    expect(reads_curly(text, LIMIT, out) == refused(2) && reads_curly(text, LIMIT + 1, out) == refused(1), "a sign that is cut at the limit, and past it");
+}
+
+/* Parts behind millions of signs, near the limit, and one sign that is the text's last character. */
+static void behind_signs(void) {
+    static const char word[] = "~{2,4..5}Rw{A,B}" RIGHT;
+    size_t n = strlen(word), before = LIMIT - n, records = before / 5 + 1, size = records * HYPUZ_RECORD;
+    fill(text, before, "U" RIGHT " ");
+    put(text + before, word);
+    expect(reads_curly(text, LIMIT, tree) == size, "parts behind signs, at the limit");
+    const uint8_t *last = tree + size - HYPUZ_RECORD;
+    expect(hypuz_family(text, LIMIT, tree, size, records - 1) == ((uint64_t)(before + 9) << 24 | 2), "the family");
+    expect(hypuz_display(text, LIMIT, last, HYPUZ_RECORD, out, 17) == 17 && memcmp(out, "~{2,4..5}Rw{A,B}'", 17) == 0, "all its parts");
+    expect(hypuz_simplify(text, LIMIT, tree, size, records - 1, 9, 0, out, 8) == 2 && memcmp(out, "\0\2\0\2\0\4\0\5", 8) == 0, "the layers of its set");
+    expect(hypuz_seek_step(text, LIMIT, tree, size, records - 1, out, HYPUZ_RECORD) == HYPUZ_RECORD && memcmp(out, last, HYPUZ_RECORD) == 0, "and the step");
+    expect(hypuz_display(text, LIMIT, tree + (records / 2) * HYPUZ_RECORD, HYPUZ_RECORD, out, 2) == 2 && memcmp(out, "U'", 2) == 0, "and one in the middle");
+}
+
+/* 64 groups with a sign after each around three million signs; with one more bracket it is refused 3. */
+static void deep_signs(const char *open, const char *close, size_t levels, const char *what) {
+    size_t at = 0, moves = 3000000;
+    memset(text, ' ', LIMIT);
+    for (size_t k = 0; k < levels; k++) at += put(text + at, open);
+    at += 5 * fill(text + at, 5 * moves, "R" RIGHT " ");
+    for (size_t k = 0; k < levels; k++) at += put(text + at, close);
+    uint64_t a = reads_curly(text, LIMIT, tree), size = (moves + levels) * HYPUZ_RECORD;
+    expect(a == (levels > 64 ? refused(3) : size), what);
+    expect(levels > 64 || hypuz_family(text, LIMIT, tree, size, levels) == ((uint64_t)(levels * strlen(open)) << 24 | 1), what);
+    expect(levels > 64 || *open == '[' || hypuz_count_steps(text, LIMIT, tree, size) == moves, what);
+}
+
 /* Parts as long as the text, and parts at its end. */
 static void parts(void) {
     memset(text, 'R', LIMIT);
@@ -175,6 +234,12 @@ int main(void) {
     group(",", "]'", 10000000, 7500000, "R'");
     group(":", "]3'", 22500000, 7500000 + 4999999, "U'");
     parts();
+    signs();
+    behind_signs();
+    deep_signs("(", ")" PRIME, 64, "64 groups with signs");
+    deep_signs("(", ")" PRIME, 65, "65 groups with signs");
+    deep_signs("[", ",]0" RIGHT, 64, "64 commutators with signs");
+    deep_signs("[", ",]0" RIGHT, 65, "65 commutators with signs");
     printf("%d checks at the limit, %d failed\n", checks, failures);
     return failures != 0;
 }

@@ -1,6 +1,6 @@
 #!/usr/bin/env bash
-# Holds `classify`, `is_family_char` and `is_whitespace` of the crate `charsets` against the Rust over every code point: its charsets.rs as it is
-# published, and `char::is_whitespace`. No C function of the library answers these, so a small crate of its own hands them out, below target/characters.
+# Holds `classify`, `is_family_char`, `is_prime` and `is_whitespace` of the crate `charsets` against the Rust over every code point: its charsets.rs as it is
+# published, and `char::is_whitespace`. The Rust has no class of primes (document 02, request 6); characters.rs names them. No C function of the library answers these, so a small crate of its own hands them out, below target/characters.
 # Usage: characters.sh SRC, the folder that holds crates/hypuz_notation/src
 set -euo pipefail
 here=$(cd "$(dirname "$0")" && pwd)
@@ -17,11 +17,12 @@ cat >"$out/crates/classes/src/lib.rt" <<'CRATE'
 // The character tests of `charsets`, for a host.
 use charsets::classify;
 use charsets::is_family_char;
+use charsets::is_prime;
 use charsets::is_whitespace;
 use notation::charsets::CharSet;
 use notation::charsets::Class;
 
-// 0 outside, else 1 and on in the order of the Rust's enum.
+// 0 outside, else 1 and on in the order of the Rust's enum, and 7 for the primes.
 #[no_mangle]
 pub extern "C" fn class_of(c: u32) -> u32 {
     match classify(c) {
@@ -32,6 +33,7 @@ pub extern "C" fn class_of(c: u32) -> u32 {
             CharSet::TallLowercaseGreek => 4,
             CharSet::ShortLowercaseGreek => 5,
             CharSet::Underscore => 6,
+            CharSet::Prime => 7,
         },
         Class::Outside => 0,
     }
@@ -40,6 +42,11 @@ pub extern "C" fn class_of(c: u32) -> u32 {
 #[no_mangle]
 pub extern "C" fn family_char(c: u32) -> u32 {
     is_family_char(c) as u32
+}
+
+#[no_mangle]
+pub extern "C" fn prime(c: u32) -> u32 {
+    is_prime(c) as u32
 }
 
 #[no_mangle]

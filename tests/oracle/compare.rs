@@ -20,8 +20,8 @@ mod places;
 use generate::Random;
 use hypuz_notation::*;
 use long::WIDE;
-use ours::RECORD;
-use places::Place;
+use ours::{CURLY_PRIMES, MAXIMAL, RECORD};
+use places::{Fields, Place};
 use std::collections::{BTreeMap, HashMap};
 
 /// How much is asked of a tree.
@@ -334,8 +334,8 @@ impl Read<'_> {
     }
 }
 
-fn read<'a>(text: &'a str, records: usize) -> Answer<Read<'a>> {
-    lent(records * RECORD, |b| ours::parse(text.as_bytes(), b), 1).map(|tree| Read { text: text.as_bytes(), tree })
+fn read<'a>(text: &'a str, features: u32, records: usize) -> Answer<Read<'a>> {
+    lent(records * RECORD, |b| ours::parse(text.as_bytes(), features, b), 1).map(|tree| Read { text: text.as_bytes(), tree })
 }
 
 /// Every comparison of one tree.
@@ -346,13 +346,15 @@ fn compare(r: &mut Random, l: &NodeList, report: &mut Report) {
     }
     let nodes = places::expected(l, text.len());
     report.notice(&text, &nodes);
-    let ours = read(&text, nodes.len());
+    let ours = read(&text, MAXIMAL, nodes.len());
     report.same("reading: records", &text, &Ok(nodes.len() * RECORD), &ours.as_ref().map(|o| o.tree.len()).map_err(|e| *e));
     let Ok(ours) = ours else { return };
     report.same("reading: lists and places", &text, &Ok(nodes.iter().map(|n| n.fields).collect()), &Ok(places::stored(&ours.tree)));
     report.same("reading: counts", &text, &Ok(stored(l)), &Ok(counts(&ours.tree)));
     report.same("display", &text, &Ok(text.clone()), &ours.printed(&ours.tree, text.len()));
     spelling(r, l, &text, nodes.len(), report);
+    // with numbers of its own, so that a seed gives the trees that it gave before request 6
+    curly(&mut Random(r.0 ^ text.len() as u64), l, &text, &nodes, report);
     inverse(["inv", "inv: counts"], ours::inv, l.clone().inv(), &ours, &text, report);
     inverse(["inv_deep", "inv_deep: counts"], ours::inv_deep, l.clone().inv_deep(), &ours, &text, report);
     steps(r, l, &ours, &text, report);
@@ -389,8 +391,48 @@ fn spelling(r: &mut Random, l: &NodeList, text: &str, records: usize, report: &m
     if spelled.len() > ours::MOST_TEXT {
         return;
     }
-    let ours = read(&spelled, records).and_then(|o| o.printed(&o.tree, text.len()));
+    let ours = read(&spelled, MAXIMAL, records).and_then(|o| o.printed(&o.tree, text.len()));
     report.same("display of another spelling", &spelled, &Ok(text.to_string()), &ours);
+    let curled = generate::curled(&mut Random(r.0), &spelled);
+    if generate::is_curly(&curled) && curled.len() <= ours::MOST_TEXT {
+        let ours = read(&curled, MAXIMAL | CURLY_PRIMES, records).and_then(|o| o.printed(&o.tree, text.len()));
+        report.same("curly primes: display of another spelling", &curled, &Ok(text.to_string()), &ours);
+    }
+}
+
+/// The Rust's text with some apostrophes as curly primes: refused without the flag; with it the same tree, whose parts stand where this text has them.
+fn curly(r: &mut Random, l: &NodeList, text: &str, nodes: &[Place], report: &mut Report) {
+    let curled = generate::curled(r, text);
+    if !generate::is_curly(&curled) || curled.len() > ours::MOST_TEXT {
+        return;
+    }
+    report.same("curly primes: without the flag", &curled, &Err(4), &read(&curled, MAXIMAL, nodes.len()).map(|o| o.tree));
+    let ours = read(&curled, MAXIMAL | CURLY_PRIMES, nodes.len());
+    report.same("curly primes: records", &curled, &Ok(nodes.len() * RECORD), &ours.as_ref().map(|o| o.tree.len()).map_err(|e| *e));
+    let Ok(ours) = ours else { return };
+    let given = given_offsets(&curled);
+    let places = nodes.iter().map(|n| moved(n.fields, &given)).collect();
+    report.same("curly primes: lists and places", &curled, &Ok(places), &Ok(places::stored(&ours.tree)));
+    report.same("curly primes: counts", &curled, &Ok(stored(l)), &Ok(counts(&ours.tree)));
+    report.same("curly primes: display", &curled, &Ok(text.to_string()), &ours.printed(&ours.tree, text.len()));
+    inverse(["curly primes: inv", "curly primes: inv: counts"], ours::inv, l.clone().inv(), &ours, &curled, report);
+    inverse(["curly primes: inv_deep", "curly primes: inv_deep: counts"], ours::inv_deep, l.clone().inv_deep(), &ours, &curled, report);
+}
+
+/// For each offset of the text with apostrophes the one in the curly text. A byte inside another character is never asked for.
+fn given_offsets(curled: &str) -> Vec<usize> {
+    let mut given = vec![];
+    for (at, c) in curled.char_indices() {
+        let bytes = if generate::is_curly(c.encode_utf8(&mut [0; 4])) { 1 } else { c.len_utf8() };
+        given.extend(at..at + bytes);
+    }
+    given.push(curled.len());
+    given
+}
+
+/// The fields of a record with its parts at their places in the curly text.
+fn moved(fields: Fields, given: &[usize]) -> Fields {
+    Fields { parts: fields.parts.map(|(at, size)| (given[at], given[at + size] - given[at])), ..fields }
 }
 
 type Inverse = fn(&[u8], &[u8], &mut [u8]) -> ours::Answer;
@@ -536,12 +578,22 @@ fn sample(seed: u64) {
 }
 
 /// The comparisons of the long mode, and which refusals of them have to be met; 0 stands for an answer that is not refused.
-const TO_MAKE: [(&str, &[u8]); 28] = [
+const TO_MAKE: [(&str, &[u8]); 38] = [
     ("reading: records", &[0]),
     ("reading: lists and places", &[0]),
     ("reading: counts", &[0]),
     ("display", &[0]),
     ("display of another spelling", &[0]),
+    ("curly primes: display of another spelling", &[0]),
+    ("curly primes: without the flag", &[4]),
+    ("curly primes: records", &[0]),
+    ("curly primes: lists and places", &[0]),
+    ("curly primes: counts", &[0]),
+    ("curly primes: display", &[0]),
+    ("curly primes: inv", &[0, 8]),
+    ("curly primes: inv: counts", &[0, 8]),
+    ("curly primes: inv_deep", &[0, 7, 8]),
+    ("curly primes: inv_deep: counts", &[0, 7, 8]),
     ("inv", &[0, 8]),
     ("inv: counts", &[0, 8]),
     ("inv_deep", &[0, 7, 8]),

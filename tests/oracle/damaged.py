@@ -3,7 +3,8 @@
 
 damaged.py [CASES] [SEED]. The archive is loaded as a shared library. A case is a text and a tree over it, damaged or not; every function is
 called on it with a buffer of some size between two guards, and its answer and every byte of the buffer must be what the reference says.
-Nearly every change of a group makes a stored count wrong, so that refusal 6 would hide all others: most damaged trees get right counts again, and of
+Texts and trees over texts with curly primes (document 02, request 6) are among them; where the flag is on, the reference's reading is also held against the
+request's own sentence. Nearly every change of a group makes a stored count wrong, so that refusal 6 would hide all others: most damaged trees get right counts again, and of
 some a count is changed afterwards, in any record. Prints how often each refusal was answered."""
 import collections
 import ctypes
@@ -16,13 +17,16 @@ HERE = os.path.dirname(os.path.abspath(__file__))
 ROOT = os.path.join(HERE, "..", "..")
 sys.path.insert(0, os.path.join(HERE, "..", "reference"))
 import notation as n
+import straight
 import trees
 
 GUARD = 32
+CURLY = n.MAXIMAL | {"curly_primes"}
 MOST_STEPS = 3000
 TEXTS = ["", "R", "R U'", "[R, U]", "[R, U]'", "[R: U2 F]'", "(R U')2'", "(^(R))0", "^(R)0", "R++ D-- (1,-2) / .", "(-2147483648,0)", "((R)65536)65536",
          "((R)65535)65537", "~{1-3,-2}R{a->b}3' @{}", "{1,3,2,-1}R", "{2..9}R {5..9}U", "@ @R{A<>B, c} @{}2'", "([R, (U)2]' [!(F), &(L)3])2",
          "(((R (1,2))0 U)2' .)", "Ωω_a{β->θ}2", "( )", "[,]", "[:]'", "1-1R 3-2U 7F", "{ }R { 1 , 2 }U",
+         "R\u2019", "R2\u2032 {1,-2}U{A}\u2019 @\u2032", "[R\u2019: U2\u2032 F]\u2019 {3..4}Fw{A->B}", "((R U\u2032)2\u2019 @\u03a9{A<>B}\u2032)3' 2-3L{c}", "^(R\u2019)0\u2032 [\u03b2\u2019, (1,-2)]\u2032 /",
          "^((-2147483648,0))", "((-2147483648,0))'", "[(-2147483648,0): R]", "(R)4294967 (U)2147483647", "{32767,-32767}R 32767-1U R2147483647'"]
 
 
@@ -143,8 +147,11 @@ class Case:
 
 
 def reading(run, text):
-    bits = random.choice((127, 127, random.randrange(128), random.randrange(128), random.randrange(2**32)))
-    refusal, data = attempt(lambda: n.pack(n.read(text, n.features_of(bits))))
+    bits = random.choice((127, 255, 255, random.randrange(256), random.randrange(256), random.randrange(2**32)))
+    features = n.features_of(bits)
+    refusal, data = attempt(lambda: n.pack(n.read(text, features)))
+    if "curly_primes" in features and len(text) < 100000:
+        straight.read_both(text, features)
     room = rooms(n.RECORD if data is None else len(data))
     if data is not None and len(data) > room:
         refusal, data = 5, None
@@ -227,7 +234,8 @@ def damaged_text(text):
         return text[:random.randrange(len(text) + 1)]
     if k == 3:
         at = random.randrange(len(text) + 1)
-        return text[:at] + random.choice((b" ", b"(", b")", b"'", b"0", b"-", b"{", b"}", "\u2003".encode(), "β".encode(), b"\xff", b"R")) + text[at:]
+        return text[:at] + random.choice((b" ", b"(", b")", b"'", b"0", b"-", b"{", b"}", "\u2003".encode(), "β".encode(), b"\xff", b"R",
+                                          "\u2019".encode(), "\u2032".encode(), "\u2018".encode(), b"\xe2\x80", b"\x80\x99")) + text[at:]
     if k == 4 and random.random() < 0.02:
         return text + b" " * (random.choice((65535, 65536, 70000, 140000, n.MOST_TEXT + 1)) - len(text))
     if k == 5 and random.random() < 0.1:
@@ -238,10 +246,12 @@ def damaged_text(text):
 def bases():
     with open(os.path.join(HERE, "sample.tsv"), encoding="utf-8", newline="\n") as f:
         sample = [line.split("\t")[0] for line in f.read().split("\n") if line and not line.startswith("#")]
+    # a third of the sample with curly primes for its apostrophes
+    sample = [text.replace("'", n.CURLY[k // 3 % 2]) if k % 3 == 0 else text for k, text in enumerate(sample)]
     found = []
     for text in TEXTS + sample:
         text = text.encode()
-        found.append((text, n.pack(n.read(text, n.MAXIMAL))))
+        found.append((text, n.pack(n.read(text, CURLY))))
     return found
 
 

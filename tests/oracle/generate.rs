@@ -219,6 +219,16 @@ pub fn spelled(r: &mut Random, l: &NodeList) -> String {
     out
 }
 
+/// A text with some of its apostrophes as the signs that word processors write for them. Apostrophes stand in multipliers alone.
+pub fn curled(r: &mut Random, text: &str) -> String {
+    text.chars().map(|c| if c == '\'' { r.pick(&['\'', '\u{2019}', '\u{2019}', '\u{2032}', '\u{2032}']) } else { c }).collect()
+}
+
+/// Whether one of the signs stands in a text.
+pub fn is_curly(text: &str) -> bool {
+    text.contains(['\u{2019}', '\u{2032}'])
+}
+
 fn pad(r: &mut Random, out: &mut String) {
     if r.one_in(3) {
         space(r, out);

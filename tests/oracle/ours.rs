@@ -18,6 +18,8 @@ mod c {
 /// Bytes of a record, as the archive's header has them: build.rs hands them over.
 pub const RECORD: usize = number(env!("HYPUZ_RECORD"));
 pub const MAXIMAL: u32 = 127;
+/// U+2019 and U+2032 as apostrophes, which the Rust does not know.
+pub const CURLY_PRIMES: u32 = 128;
 /// Bits of an offset or a length in a text; the longest text has as many bytes as they hold.
 const PLACE: u32 = 24;
 pub const MOST_TEXT: usize = (1 << PLACE) - 1;
@@ -40,8 +42,8 @@ fn split(a: u64) -> Answer {
     }
 }
 
-pub fn parse(text: &[u8], tree: &mut [u8]) -> Answer {
-    split(unsafe { c::hypuz_parse_notation(text.as_ptr(), text.len(), MAXIMAL, tree.as_mut_ptr(), tree.len()) })
+pub fn parse(text: &[u8], features: u32, tree: &mut [u8]) -> Answer {
+    split(unsafe { c::hypuz_parse_notation(text.as_ptr(), text.len(), features, tree.as_mut_ptr(), tree.len()) })
 }
 
 pub fn count_steps(text: &[u8], tree: &[u8]) -> Answer {

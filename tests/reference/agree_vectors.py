@@ -190,12 +190,19 @@ def cases():
         yield case(text, random.randrange(total_of(text, bits) + 1), bits)
 
 
+def line_of(call):
+    """A call with its answer, and whether demand 3 speaks of it."""
+    text, place, bits, room, step_room = call
+    features = n.features_of(bits)
+    found = Agreement(text, features, place, room, step_room)
+    return f"a{bits:02x}{room:06x}{place:016x}{step_room:02x}{spelled(text)}", found.line(), demand(text, features, place)
+
+
 def lines():
     """Each case with its answer. Demand 3 speaks of most of them."""
     held = 0
-    for text, place, bits, room, step_room in cases():
-        features = n.features_of(bits)
-        held += demand(text, features, place)
-        found = Agreement(text, features, place, room, step_room)
-        yield f"a{bits:02x}{room:06x}{place:016x}{step_room:02x}{spelled(text)}", found.line()
+    for call in cases():
+        line, said, spoken_of = line_of(call)
+        held += spoken_of
+        yield line, said
     assert held > 200, held

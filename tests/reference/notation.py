@@ -1,5 +1,5 @@
 """Document 01 once more, in plain Python: a reader, packed trees, inverses, printing, unrolling and layer ranges; of document 02 request 2, the
-counts that records store, and request 10, the longer texts.
+counts that records store, request 10, the longer texts, and request 6, the curly primes.
 
 Written from the papers alone, as ordinary recursive descent over decoded characters, to make the expected output of the stored vectors.
 Nothing in it is shared with the Rattle code or with the definitions in crates/notation/specs.
@@ -7,13 +7,14 @@ Nothing in it is shared with the Rattle code or with the definitions in crates/n
 
 import functools
 
-FLAGS = ("inverted_layers", "layer_sets", "hsc1_layer_ranges", "generalized_rotations", "transform_constraints", "megaminx", "sq1")
+FLAGS = ("inverted_layers", "layer_sets", "hsc1_layer_ranges", "generalized_rotations", "transform_constraints", "megaminx", "sq1", "curly_primes")
 WCA = {"megaminx", "sq1"}
-MAXIMAL = set(FLAGS)
+MAXIMAL = set(FLAGS) - {"curly_primes"}
 SIMPLE, MACRO, SIMULTANEOUS, NISS, COMMUTATOR, CONJUGATE, ROTATION, MOVE, PAUSE, PAIR, SLASH, RPP, RMM, DPP, DMM = range(15)
 MEGAMINX = {"R++": RPP, "R--": RMM, "D++": DPP, "D--": DMM}
 GREEK = {0x300 + n for n in (0x93, 0x94, 0x98, 0x9B, 0x9E, 0xA0, 0xA3, 0xA6, 0xA8, 0xA9, 0xB2, 0xB4, 0xB5, 0xB6, 0xB7, 0xB8, 0xBA, 0xBB, 0xBC,
                              0xBE, 0xC0, 0xC4, 0xC6, 0xC8, 0xC9)}
+CURLY = "\u2019\u2032"  # what word processors write for an apostrophe
 WHITE = set([*range(0x9, 0xE), 0x20, 0x85, 0xA0, 0x1680, *range(0x2000, 0x200B), 0x2028, 0x2029, 0x202F, 0x205F, 0x3000])
 LEAST = -2147483648
 MOST_TEXT = 16777215  # a longer text is refused 1
@@ -129,7 +130,8 @@ class Reader:
     def multiplier(self):
         n = self.digits(0, 2147483647)
         n = 1 if n is None else n
-        return -n if self.take("'") else n
+        signs = "'" + CURLY if self.on("curly_primes") else "'"
+        return -n if any(map(self.take, signs)) else n
 
     def braces(self, element):
         """The elements between braces, or None with the place unchanged."""
@@ -292,14 +294,19 @@ def check_text(text):
         raise Refused(2) from None
 
 
-def read(text, features):
-    """The nodes of a text; raises Refused 1 to 4."""
-    check_text(text)
+def check_nesting(text):
+    """Refusal 3."""
     level = 0
     for b in text:
         level += (b in b"([") - (b in b")]")
         if level > 64:
             raise Refused(3)
+
+
+def read(text, features):
+    """The nodes of a text; raises Refused 1 to 4."""
+    check_text(text)
+    check_nesting(text)
     r = Reader(text, features)
     nodes = r.list()
     if r.i < len(r.s):
