@@ -6,3 +6,5 @@ pub mod Spaces
 pub mod Texts
 pub mod Widths
 pub mod Runs
+pub mod Points
+pub mod Signs

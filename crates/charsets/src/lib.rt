@@ -12,7 +12,7 @@ pub use charsets::is_whitespace;
 pub use utf8::char_width;
 pub use utf8::code_point;
 pub use utf8::family_end;
+pub use utf8::has_curly_prime;
 pub use utf8::is_utf8;
-pub use utf8::prime_width;
 pub use utf8::whitespace_end;
 pub use utf8::whitespace_width;

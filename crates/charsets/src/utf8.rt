@@ -4,15 +4,15 @@ use crate::charsets::between;
 use crate::charsets::is_ascii_family_char;
 use crate::charsets::is_ascii_whitespace;
 use crate::charsets::is_family_char;
-use crate::charsets::is_prime;
 use crate::charsets::is_whitespace;
 ghost use mathlib.Core.Path.{_≡_};
 ghost use mathlib.Core.Bool.{true, _&&_};
+ghost use mathlib.Core.List.{[], _∷_};
 ghost use Prim.Native.Nat.{_+_, _%_, _<_, _≤_};
 ghost use lib.Dec.{eqb};
 ghost use lib.ListN.{length, drop};
-ghost use Rattle.notation.specs.Basics.{between, pick};
-ghost use Rattle.notation.specs.Chars.{isFamilyChar, isPrime, whiteSpace};
+ghost use Rattle.notation.specs.Basics.{between, oneOf, pick};
+ghost use Rattle.notation.specs.Chars.{curlyPrimes, isFamilyChar, whiteSpace};
 ghost use Rattle.notation.specs.Utf8.{byteAt, charWidth, codePoint, continuation, run, utf8, widthIf};
 
 // The byte at i; past the end 256, which is no byte.
@@ -173,15 +173,31 @@ pub fn whitespace_width(s: &[u8], at: usize) -> usize
     width(s, at, true)
 }
 
-// How many bytes the prime at `at` takes, 0 where none stands there.
-pub fn prime_width(s: &[u8], at: usize) -> usize
-    ensures { λ r. ⌜ r ≡ widthIf isPrime (drop at (now (s .entry))) ⌝ }
+// The bytes of U+2019 and of U+2032.
+fn are_curly_prime(a: u8, b: u8, c: u8) -> bool
+    ensures { λ r. ⌜ r ≡ (eqb a 0xe2 && eqb b 0x80 && oneOf (0x99 ∷ 0xb2 ∷ []) c) ⌝ }
 {
-    let width = char_width(s, at);
-    if width == 0 {
-        return 0;
+    if a != 0xe2 {
+        return false;
     }
-    width_if(is_prime(code_point(s, at)), width)
+    if b != 0x80 {
+        return false;
+    }
+    match c {
+        0x99 | 0xb2 => true,
+        _ => false,
+    }
+}
+
+// Whether a prime past the table stands at `at`. By its bytes, without decoding them: reading asks after every multiplier.
+pub fn has_curly_prime(s: &[u8], at: usize) -> bool
+    requires { ⌜ at ≤ length (now s) ⌝ }
+    ensures { λ r. ⌜ pick r 3 0 ≡ widthIf (oneOf curlyPrimes) (drop at (now (s .entry))) ⌝ }
+{
+    if s.len() - at < 3 {
+        return false;
+    }
+    are_curly_prime(s[at], s[at + 1], s[at + 2])
 }
 
 // Whether eight bytes stand from `at` on, all of them ASCII. They are joined and tested once, so that no test stands between

@@ -1,5 +1,4 @@
 -- Straight texts: their characters, and the runs of them that readers take.
-pub mod Points
 pub mod Plain
 pub mod Firsts
 pub mod Fronts
