@@ -1,6 +1,6 @@
 -- The primes by their bytes. Assumes nothing.
 use Prim.Native.Nat.{ℕ, zero, suc, _+_, _≤_, _<_}
-use mathlib.Core.Path.{_≡_, refl, sym, ap, _∙_}
+use mathlib.Core.Path.{_≡_, refl, sym, _∙_}
 use mathlib.Core.Logic.{_⊎_, inl, inr, ⊎-elim}
 use mathlib.Core.Bool.{Bool, true, false, _&&_, _||_}
 use mathlib.Core.List.{List, [], _∷_}
@@ -14,7 +14,7 @@ use Rattle.notation.specs.Utf8.{byteAt, charWidth, codePoint, widthIf}
 use Rattle.charsets.proofs.Bools.{contra, and-left, and-right}
 use Rattle.notation.proofs.Bools.{and-both}
 use Rattle.charsets.proofs.Texts.{in-text, is-byte, byte-drop, first-byte}
-use Rattle.charsets.proofs.Points.{Three, Point, no-point, one-byte, two-bytes, three-bytes, four-bytes, point}
+use Rattle.charsets.proofs.Points.{Point, no-point, one-byte, two-bytes, three-bytes, four-bytes, point}
 use Rattle.charsets.proofs.Sets.{prime-is}
 
 -- one of two

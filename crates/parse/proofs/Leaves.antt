@@ -7,12 +7,13 @@ use mathlib.Core.Bool.{Bool, true, false, _&&_, _||_}
 use mathlib.Core.List.{List, [], _∷_}
 use mathlib.Core.Option.{Option, none, some}
 use native.Mathlib.Omega.{arith}
-use borrow.Author.Tests.{le-leb, lt-ltb}
+use borrow.Author.Tests.{le-leb, eq-eqb, eqb-false, ne-eqb}
 use lib.Dec.{eqb}
 use lib.ListN.{drop}
 use lib.Seq.{drop-drop}
 use lib.IntN.{ℤ, pos, negℤ}
-use Rattle.notation.specs.Chars.{isFamilyChar, whiteSpace}
+use Rattle.notation.specs.Basics.{pick, oneOf}
+use Rattle.notation.specs.Chars.{curlyPrimes, isFamilyChar, isPrime, whiteSpace}
 use Rattle.notation.specs.Utf8.{widthIf, run, byteAt}
 use Rattle.notation.specs.Tree as tree
 use Rattle.notation.specs.Tree.{Span, span, Layers}
@@ -31,7 +32,6 @@ use Rattle.notation.specs.Grammar.{
   uint,
   i32,
   padded,
-  character,
   prime,
   multiplier,
   constraintSet,
@@ -45,28 +45,47 @@ use Rattle.notation.specs.Grammar.{
 }
 use Rattle.notation.specs.declared.features.Features.{Features}
 use Rattle.notation.specs.declared.common.MegaminxScrambleMove.the-variants.{Rpp, Rmm, Dpp, Dmm}
+use Rattle.charsets.proofs.Texts.{first-byte}
+use Rattle.charsets.proofs.Signs.{other-prime}
 use Rattle.charsets.proofs.Bools.{contra, and-left, and-right, and-false}
 use Rattle.parse.specs.declared.parts.Element.the-variants.{Constraint}
-use Rattle.parse.specs.Meaning.{forget, elementOf, signed, repeated, leafRead, scrambleRead, pairAfter, scrambleOrMove, twice, scrambleAt, scrambleKind}
+use Rattle.parse.specs.Meaning.{forget, elementOf, number, primeReading, repeated, leafRead, scrambleRead, pairAfter, scrambleOrMove, twice, scrambleAt, scrambleKind}
 use Rattle.parse.proofs.Bytes.{other, just-is, just-not, word-not}
 use Rattle.parse.proofs.Readings.{took, gone, or-none}
 use Rattle.parse.proofs.InBraces.{no-brace, constraint-set-ends}
 
--- Multipliers.
-module _ (f : Features) (at : ℕ) (s : List ℕ) where
-  pub no-number : rejected ≡ uint 0 2147483647 at s → signed (prime f) 1 at s ≡ multiplier f at s
+-- Multipliers: the number, the prime, and both.
+module _ (text : List ℕ) (at : ℕ) where
+  pub no-number : rejected ≡ uint 0 2147483647 at (drop at text) → read 1 at (drop at text) ≡ number at (drop at text)
   no-number e = rw (← e)
 
-  pub a-number : (n next : ℕ) (rest : List ℕ) → read n next rest ≡ uint 0 2147483647 at s → signed (prime f) n next rest ≡ multiplier f at s
-  a-number n next rest e = rw (← e)
+  pub a-number : (n next : ℕ) → read n next (drop next text) ≡ uint 0 2147483647 at (drop at text) → read n next (drop next text) ≡ number at (drop at text)
+  a-number n next e = rw (← e)
 
--- the sign that negates, one character of a class
-module _ (p : ℕ → Bool) (text : List ℕ) (at w n : ℕ) (e : w ≡ widthIf p (drop at text)) where
-  pub no-sign : w ≡ 0 → read (pos n) at (drop at text) ≡ signed (character p) n at (drop at text)
-  no-sign z = rw (← e, z)
+module _ (f : Features) (text : List ℕ) (at : ℕ) where
+  pub an-apostrophe : eqb (byteAt text at) 39 ≡ true → primeReading text at (at + 1) ≡ prime f at (drop at text)
+  an-apostrophe e = rw (just-is "'" text at (omega arith) e, ne-eqb (at + 1) at (λ i. omega arith))
 
-  pub a-sign : (w ≡ 0 → ⊥) → read (negℤ (pos n)) (at + w) (drop (at + w) text) ≡ signed (character p) n at (drop at text)
-  a-sign h = rw (← e, lt-ltb 0 w (omega arith), drop-drop w at text)
+  module _ (e : eqb (byteAt text at) 39 ≡ false) where
+    pub no-apostrophe : f .«curly_primes» ≡ false → primeReading text at at ≡ prime f at (drop at text)
+    no-apostrophe off = rw (just-not "'" text at e, off, eq-eqb at at refl)
+
+    -- the width of another prime
+    other-width : (r : Bool) → pick r 3 0 ≡ widthIf (oneOf curlyPrimes) (drop at text) → widthIf isPrime (drop at text) ≡ pick r 3 0
+    other-width r w = other-prime (drop at text) (λ i. eqb-false (byteAt text at) 39 e (sym (first-byte text at) ∙ i)) ∙ sym w
+
+    pub no-curly : f .«curly_primes» ≡ true → 0 ≡ widthIf (oneOf curlyPrimes) (drop at text) → primeReading text at at ≡ prime f at (drop at text)
+    no-curly on w = rw (just-not "'" text at e, on, other-width false w, eq-eqb at at refl)
+
+    pub a-curly : f .«curly_primes» ≡ true → 3 ≡ widthIf (oneOf curlyPrimes) (drop at text) → primeReading text at (at + 3) ≡ prime f at (drop at text)
+    a-curly on w = rw (just-not "'" text at e, on, other-width true w, ne-eqb (at + 3) at (λ i. omega arith), drop-drop 3 at text)
+
+  module _ (n next end : ℕ) (times : read n next (drop next text) ≡ number at (drop at text)) (sign : primeReading text next end ≡ prime f next (drop next text)) where
+    pub positive : end ≡ next → read (pos n) next (drop next text) ≡ multiplier f at (drop at text)
+    positive e = rw (← times, ← sign, eq-eqb end next e)
+
+    pub negative : (end ≡ next → ⊥) → read (negℤ (pos n)) end (drop end text) ≡ multiplier f at (drop at text)
+    negative h = rw (← times, ← sign, ne-eqb end next h)
 
 -- Constraints after a family.
 module _ (f : Features) (text : List ℕ) (at : ℕ) where

@@ -6,8 +6,9 @@ use mathlib.Core.Bool.{Bool, true, false, _&&_, _||_}
 use mathlib.Core.List.{List, [], _∷_}
 use mathlib.Core.Option.{Option}
 use lib.Dec.{eqb}
-use lib.IntN.{ℤ, pos, negℤ}
+use lib.IntN.{ℤ, pos}
 use lib.ListN.{drop}
+use Rattle.notation.specs.Basics.{pick}
 use Rattle.notation.specs.Numbers.{fromBits}
 use Rattle.notation.specs.Utf8.{byteAt}
 use Rattle.notation.specs.Layers.{single, range}
@@ -15,7 +16,7 @@ use Rattle.notation.specs.Layers as rules
 use Rattle.notation.specs.Tree as tree
 use Rattle.notation.specs.Tree.{layerRange, singleLayer, noLayers, Node, leaf, block, Leaf}
 use Rattle.notation.specs.Packed.{bodyHead, leafFields, headFields}
-use Rattle.notation.specs.Grammar.{Reading, rejected, read, Reader, done, andThen, _or_, when, just, word, whitespace, padded, layer, signedLayer, i32, multiplier, moreOf, constraint, layerSetElement, moveNode, megaminxScrambleMove, _>>=_, _>>_}
+use Rattle.notation.specs.Grammar.{Reading, rejected, read, Reader, done, andThen, _or_, when, just, word, whitespace, padded, uint, MAX-I32, layer, signedLayer, i32, multiplier, moreOf, constraint, layerSetElement, moveNode, megaminxScrambleMove, _>>=_, _>>_}
 use Rattle.notation.specs.declared.features.Features.{Features}
 use Rattle.notation.specs.declared.common.GroupKind.{GroupKind}
 use Rattle.notation.specs.declared.common.MegaminxScrambleMove.{MegaminxScrambleMove}
@@ -103,9 +104,16 @@ constraintsReading text r = read (spanOption (r .part)) (r .next) (drop (r .next
 abbrev pub multiplierReading : List ℕ → Multiplied → Reading ℤ
 multiplierReading text r = read (fromBits 32 (r .bits)) (r .next) (drop (r .next) text)
 
--- a number and the sign that negates it, or none
-abbrev pub signed : Reader (Unit {0}) → ℕ → Reader ℤ
-signed sign n = (do sign; done (negℤ (pos n))) or done (pos n)
+-- its number, 1 where none is written
+abbrev pub number : Reader ℕ
+number = uint 0 MAX-I32 or done 1
+
+abbrev pub numberReading : List ℕ → Multiplied → Reading ℕ
+numberReading text r = read (r .bits) (r .next) (drop (r .next) text)
+
+-- a prime that ends at r; none where r is where it would begin
+abbrev pub primeReading : List ℕ → ℕ → ℕ → Reading (Unit {0})
+primeReading text at r = pick (eqb r at) rejected (read tt r (drop r text))
 
 abbrev pub groupReading : List ℕ → Group → Reading GroupKind
 groupReading text r = read (r .kind) (r .next) (drop (r .next) text)

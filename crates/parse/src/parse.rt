@@ -19,7 +19,7 @@ use crate::sets::constraint_set;
 use crate::sets::layer_after_hyphen;
 use crate::sets::layer_set;
 use charsets::family_end;
-use charsets::prime_width;
+use charsets::has_curly_prime;
 use notation::common::GroupKind;
 use notation::features::Features;
 use numbers::decimal::Unsigned;
@@ -37,7 +37,6 @@ ghost use mathlib.Core.Bool.{true};
 ghost use Prim.Native.Nat.{_≤_, _<_};
 ghost use lib.Dec.{eqb};
 ghost use lib.ListN.{length, drop};
-ghost use Rattle.notation.specs.Chars.{isPrime};
 ghost use Rattle.notation.specs.Utf8.{byteAt};
 ghost use Rattle.notation.specs.Entries.{MAX-TEXT};
 ghost use Rattle.notation.specs.Grammar as rule;
@@ -141,47 +140,49 @@ fn constraints(text: &[u8], at: usize, features: Features) -> Constraints
     }
 }
 
-// The number `n`, or its opposite where a prime follows.
-fn with_any_prime(text: &[u8], at: usize, n: u32) -> Multiplied
-    requires { ⌜ (at ≤ length (now text)) × (n ≤ 2147483647) ⌝ }
-    ensures { λ r. ⌜ means.multiplierReading (now (text .entry)) r ≡ means.signed (rule.character isPrime) n at (drop at (now (text .entry))) ⌝ }
+// The number of a multiplier: 1 where none is written.
+fn number(text: &[u8], at: usize) -> Multiplied
+    requires { ⌜ at ≤ length (now text) ⌝ }
+    ensures { λ r. ⌜ means.numberReading (now (text .entry)) r ≡ means.number at (drop at (now (text .entry))) ⌝ }
+    ensures { λ r. ⌜ (r .bits ≤ 2147483647) × (r .next ≤ length (now (text .entry))) ⌝ }
 {
-    let width = prime_width(text, at);
-    if width == 0 {
-        return Multiplied { bits: n, next: at };
-    }
-    Multiplied {
-        bits: negate(n),
-        next: at + width,
-    }
+    let Unsigned::Took(n, end) = uint(text, at, 0, MAX) else {
+        return Multiplied { bits: 1, next: at };
+    };
+    Multiplied { bits: n, next: end }
 }
 
-// The same of the primes that are admitted. The apostrophe is the usual one and has a test of its own.
-fn with_prime(text: &[u8], at: usize, features: Features, n: u32) -> Multiplied
-    requires { ⌜ (at ≤ length (now text)) × (n ≤ 2147483647) ⌝ }
-    ensures { λ r. ⌜ means.multiplierReading (now (text .entry)) r ≡ means.signed (rule.prime features) n at (drop at (now (text .entry))) ⌝ }
+// Where the prime at `at` ends, of those that are admitted; `at` where none stands there.
+fn prime_end(text: &[u8], at: usize, features: Features) -> usize
+    requires { ⌜ at ≤ length (now text) ⌝ }
+    ensures { λ r. ⌜ means.primeReading (now (text .entry)) at r ≡ rule.prime features at (drop at (now (text .entry))) ⌝ }
 {
     if has(text, at, b'\'') {
-        return Multiplied {
-            bits: negate(n),
-            next: at + 1,
-        };
+        return at + 1;
     }
     if features.curly_primes {
-        return with_any_prime(text, at, n);
+        if has_curly_prime(text, at) {
+            return at + 3;
+        }
+        return at;
     }
-    Multiplied { bits: n, next: at }
+    at
 }
 
-// How often a node is repeated: 1 where no number is written.
+// How often a node is repeated: a number or none, and a prime that negates it or none.
 pub fn multiplier(text: &[u8], at: usize, features: Features) -> Multiplied
     requires { ⌜ at ≤ length (now text) ⌝ }
     ensures { λ r. ⌜ means.multiplierReading (now (text .entry)) r ≡ rule.multiplier features at (drop at (now (text .entry))) ⌝ }
 {
-    let Unsigned::Took(n, end) = uint(text, at, 0, MAX) else {
-        return with_prime(text, at, features, 1);
-    };
-    with_prime(text, end, features, n)
+    let times = number(text, at);
+    let next = prime_end(text, times.next, features);
+    if next == times.next {
+        return times;
+    }
+    Multiplied {
+        bits: negate(times.bits),
+        next,
+    }
 }
 
 // What stands before the `(` of a group.

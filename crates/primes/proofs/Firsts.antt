@@ -2,11 +2,11 @@
 use Prim.Native.Nat.{ℕ, zero, suc, _+_, _≤_, _<_}
 use Prim.Native.Char.{code}
 use mathlib.Core.Path.{_≡_, refl, sym, ap, _∙_}
-use mathlib.Core.Bool.{Bool, true, false, _||_}
+use mathlib.Core.Bool.{Bool, true, false}
 use mathlib.Core.List.{List, [], _∷_, _++_}
 use native.Mathlib.Omega.{arith}
 use native.Mathlib.Nat.{suc-add}
-use borrow.Author.Tests.{eqb-true, le-leb}
+use borrow.Author.Tests.{le-leb}
 use lib.Dec.{eqb}
 use lib.ListN.{length, take, drop, take-append-drop}
 use Rattle.notation.specs.Basics.{pick, oneOf}
@@ -18,7 +18,8 @@ use Rattle.charsets.proofs.Runs.{utf8-step, utf8-stop}
 use Rattle.laws.proofs.Bools.{false-true}
 use Rattle.laws.proofs.Runs.{width-cut}
 use Rattle.laws.proofs.PlainBytes.{width-tail}
-use Rattle.primes.proofs.Points.{Point, no-point, one-byte, two-bytes, three-bytes, four-bytes, point}
+use Rattle.charsets.proofs.Points.{point}
+use Rattle.charsets.proofs.Signs.{sign as written}
 use Rattle.primes.proofs.Plain.{Plain, kept-byte, kept-place, no-start, kept-tail}
 
 contra : {X : Type 0} → false ≡ true → X
@@ -36,23 +37,6 @@ unfolding givenFrom
 given-from zero s i h = omega arith
 given-from (suc k) [] i h = absurd (omega arith)
 given-from (suc k) (b ∷ s) i h = ap suc (given-from k s i (omega arith)) ∙ sym (suc-add k (given (drop k s) i))
-
--- Both signs have three bytes.
-bounded : (c : ℕ) → oneOf curlyPrimes c ≡ true → (0x2019 ≤ c) × (c ≤ 0x2032)
-unfolding oneOf
-bounded c e = go (eqb 0x2019 c) (eqb 0x2032 c) refl refl e
-  where
-    go : (t u : Bool) → eqb 0x2019 c ≡ t → eqb 0x2032 c ≡ u → (t || (u || false)) ≡ true → (0x2019 ≤ c) × (c ≤ 0x2032)
-    go true u f g h = let i = eqb-true 0x2019 c f in (omega arith, omega arith)
-    go false true f g h = let i = eqb-true 0x2032 c g in (omega arith, omega arith)
-    go false false f g h = contra h
-
-sign-width : {a c w : ℕ} → Point a c w → 0 < w → oneOf curlyPrimes c ≡ true → (w ≡ 3) × (0x7f < a)
-sign-width no-point h e = absurd (omega arith)
-sign-width {c = c} (one-byte l i) h e = absurd (omega (arith, bounded c e .0))
-sign-width {c = c} (two-bytes l i j) h e = absurd (omega (arith, bounded c e .0))
-sign-width (three-bytes l i) h e = (refl, l)
-sign-width {c = c} (four-bytes l i) h e = absurd (omega (arith, bounded c e .1))
 
 -- What follows a character is no continuation, in either text.
 no-tail : (r : List ℕ) → utf8 r ≡ true → (continuation (byteAt r 0) ≡ false) × (continuation (byteAt (straight r) 0) ≡ false)
@@ -99,13 +83,13 @@ first (b ∷ s) e = go (charWidth (b ∷ s)) refl (oneOf curlyPrimes (codePoint 
 
     a-sign : (k : ℕ) → charWidth (b ∷ s) ≡ suc k → oneOf curlyPrimes (codePoint (b ∷ s)) ≡ true → Sign (b ∷ s)
     a-sign k w c =
-        let wide = sign-width (point (b ∷ s)) (omega (arith, w)) c in
-        let three : charWidth (b ∷ s) ≡ 3 = wide .0 in
+        let x = written (point (b ∷ s)) (omega (arith, w)) c in
+        let three : charWidth (b ∷ s) ≡ 3 = x .width in
         let curlies : curlyWidth (b ∷ s) ≡ 3 = rw c three in
         record {
           curly = c;
           width = three;
-          high = wide .1;
+          high = omega (arith, x .first);
           first = rw curlies (ap (λ (l : List ℕ). 0x27 ∷ l) (straight-from 2 s));
           moves = λ j. rw curlies (ap suc (given-from 2 s j (omega (arith, inside, three))) ∙ sym (suc-add 2 (given (drop 2 s) j)));
           well = sym (utf8-step (b ∷ s) 3 (sym three) (omega arith)) ∙ e

@@ -1,7 +1,7 @@
 -- The sign that negates, read at once from the text as given, under the flag, and from the straight text without it. Assumes nothing.
-use Prim.Native.Nat.{ℕ, zero, suc, _+_, _<_}
+use Prim.Native.Nat.{ℕ, zero, suc, _+_}
 use mathlib.Core.Path.{_≡_, refl, sym, ap, _∙_}
-use mathlib.Core.Bool.{Bool, true, false, _||_}
+use mathlib.Core.Bool.{Bool, true, false}
 use mathlib.Core.List.{List, [], _∷_}
 use native.Mathlib.Omega.{arith}
 use borrow.Author.Tests.{eqb-true, eqb-false, ne-eqb}
@@ -9,14 +9,12 @@ use lib.Dec.{eqb}
 use lib.ListN.{length, drop}
 use lib.Seq.{drop-drop}
 use Rattle.notation.specs.Basics.{oneOf}
-use Rattle.notation.specs.Chars.{curlyPrimes, classify, isPrime}
+use Rattle.notation.specs.Chars.{classify, isPrime}
 use Rattle.notation.specs.Utf8.{byteAt, charWidth, codePoint, widthIf}
 use Rattle.notation.specs.Grammar.{Reading, rejected, read, orElse, just, character, prime, multiplier, MAX-I32}
 use Rattle.notation.specs.Primes.{straightFrom, straight, given, withoutCurly}
 use Rattle.notation.specs.declared.features.Features.{Features}
-use Rattle.charsets.proofs.Bools.{or-true}
-use Rattle.charsets.proofs.Sets.{prime-is}
-use Rattle.primes.proofs.Points.{Point, no-point, one-byte, two-bytes, three-bytes, four-bytes, point}
+use Rattle.charsets.proofs.Signs.{other-prime}
 use Rattle.primes.proofs.Firsts.{First, nothing, sign, other, Sign, Other, first, plain-ascii}
 use Rattle.primes.proofs.Follows.{Meets, neither, both, Follows, finished, loosely, _then_, either}
 use Rattle.primes.proofs.Readers.{uint-alike}
@@ -34,23 +32,6 @@ at-sign text at s at′ h g =
         ap (given text) e ∙ omega (arith, h .offsets (suc j), g .moves j)
     }
 
--- only the byte 27 (hex) writes an apostrophe
-apostrophe : {a c w : ℕ} → Point a c w → 0 < w → c ≡ 0x27 → a ≡ 0x27
-apostrophe no-point h e = absurd (omega arith)
-apostrophe (one-byte l i) h e = sym i ∙ e
-apostrophe (two-bytes l i j) h e = absurd (omega arith)
-apostrophe (three-bytes l i) h e = absurd (omega arith)
-apostrophe (four-bytes l i) h e = absurd (omega arith)
-
--- which characters are primes
-curly-prime : (c : ℕ) → oneOf curlyPrimes c ≡ true → isPrime c ≡ true
-unfolding oneOf
-curly-prime c e = sym (prime-is c) ∙ ap (λ (t : Bool). eqb 0x27 c || t) e ∙ or-true (eqb 0x27 c)
-
-no-prime : (c : ℕ) → (c ≡ 0x27 → ⊥) → oneOf curlyPrimes c ≡ false → isPrime c ≡ false
-unfolding oneOf
-no-prime c n e = sym (prime-is c) ∙ ap (λ (t : Bool). t || oneOf curlyPrimes c) (ne-eqb 0x27 c (λ i. n (sym i))) ∙ e
-
 -- no apostrophe
 no-just : (at : ℕ) (s : List ℕ) → (byteAt s 0 ≡ 0x27 → ⊥) → just "'" at s ≡ rejected
 unfolding just
@@ -64,8 +45,9 @@ module _ (text : List ℕ) where
   curly : (at : ℕ) (s : List ℕ) (at′ : ℕ) → At text at s at′ → Sign s → Signed at s at′
   unfolding just
   curly at s at′ h g =
-      let three : widthIf isPrime s ≡ 3 = rw (curly-prime (codePoint s) (g .curly)) (g .width) in
-      rw (no-just at s (λ i. omega (arith, g .high)), three, g .first)
+      let none : byteAt s 0 ≡ 0x27 → ⊥ = λ i. omega (arith, g .high) in
+      let three : widthIf isPrime s ≡ 3 = other-prime s none ∙ rw (g .curly) (g .width) in
+      rw (no-just at s none, three, g .first)
       (both (record { there = at-sign text at s at′ h g; rest = refl; fewer = omega arith }) refl)
 
   plainly : (at b : ℕ) (s : List ℕ) (at′ w : ℕ) → At text at (b ∷ s) at′ → Other (b ∷ s) w → (t : Bool) → eqb b 0x27 ≡ t → Signed at (b ∷ s) at′
@@ -76,7 +58,7 @@ module _ (text : List ℕ) where
       let one = plain-ascii b s (omega arith) (h .well) in
       rw (one .same, e) (both (record { there = at-onward text at (b ∷ s) at′ 1 h one; rest = refl; fewer = omega arith }) refl)
   plainly at b s at′ (suc k) h o false e =
-      let none : widthIf isPrime (b ∷ s) ≡ 0 = rw (no-prime (codePoint (b ∷ s)) (λ i. eqb-false b 0x27 e (apostrophe (point (b ∷ s)) (omega (arith, o .width)) i)) (o .usual)) in
+      let none : widthIf isPrime (b ∷ s) ≡ 0 = other-prime (b ∷ s) (eqb-false b 0x27 e) ∙ rw (o .usual) in
       rw (o .plain .same, e, none) neither
 
   signed : (at : ℕ) (s : List ℕ) (at′ : ℕ) → At text at s at′ → First s → Signed at s at′

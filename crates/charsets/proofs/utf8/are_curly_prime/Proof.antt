@@ -1,6 +1,5 @@
 -- `charsets::utf8::are_curly_prime` meets its contract: byte by byte.
 use mathlib.Core.List.{[], _∷_}
-use mathlib.Core.Path.{sym}
 use borrow.Author.Tests.{eq-eqb, ne-eqb}
 use Rattle.notation.proofs.Bools.{and-false}
 use Rattle.charsets.proofs.Among.{among, not-among}
