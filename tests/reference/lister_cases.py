@@ -39,10 +39,6 @@ def fixed():
               "ΓΔΘΛΞΠΣΦΨΩβδζθλξεηκμπτφψω2 Ω{β->γ} Ω{β->δ}", "R++ D-- (R-- D++)'", "@ @U' @{A}2", "{1-3,5}R", "{ 1 , 2 }R{ A -> B }", "00007R007", "R0 (U0)2", "3-3R", "[,] [:]0"):
         yield WORD + t.encode()
         yield b"w\n" + t.encode()
-    # neither `w` nor `m` has the curly primes (document 02, request 6)
-    for t in ("R\u2019", "R\u2032", "[R: U2 F]\u2019", "(R U\u2032)2'", "R'\u2019", "\u2032", "R' U2' F"):
-        yield WORD + t.encode()
-        yield b"w\n" + t.encode()
     for t in made.damaged():
         yield WORD + t
     # lengths and nesting
@@ -54,6 +50,10 @@ def fixed():
     yield b"w\n" + b"R " * 2000
     for _, data in heavy():
         yield data
+    # neither `w` nor `m` has the curly primes (document 02, request 6)
+    for t in ("R\u2019", "R\u2032", "[R: U2 F]\u2019", "(R U\u2032)2'", "R'\u2019", "\u2032", "R' U2' F"):
+        yield WORD + t.encode()
+        yield b"w\n" + t.encode()
 
 
 def inputs():
