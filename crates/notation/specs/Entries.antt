@@ -13,7 +13,7 @@ use Rattle.notation.specs.Refusals.{
   Outcome, refusal, result, _>>=_, _>>_, unless, orRefuse,
   TOO-LONG, NOT-UTF8, TOO-NESTED, NOT-NOTATION, NO-ROOM, NOT-WELL-FORMED, TOO-MANY-STEPS, NO-SUCH-PLACE, NO-SUCH-LAYER-COUNT, NO-SUCH-RECORD
 }
-use Rattle.notation.specs.Layers.{Range, MAX-LAYER, clampToLayerCount, setRanges, keep, others, simplified}
+use Rattle.notation.specs.Layers.{Range, MAX-LAYER, clampToLayerCount, setRanges, keep, lit, simplified}
 use Rattle.notation.specs.Tree.{Span, partOf, Layers, noLayers, singleLayer, layerRange, layerSet, Leaf, rotation, move, pause, pair, slash, megaminx, Tree}
 use Rattle.notation.specs.Packed.{RECORD, Head, leafHead, groupHead, binaryHead, headAt, leafRecord, pack, unpack, bit}
 use Rattle.notation.specs.Grammar.{notation}
@@ -176,10 +176,6 @@ rangesIn text n neg (singleLayer i) = keep (clampToLayerCount n (record { low = 
 rangesIn text n neg (layerRange i j) = keep (clampToLayerCount n (record { low = i; high = j })) []
 rangesIn text n neg (layerSet p) = setRanges n neg (orEmpty (layerSetIn (partOf text p)))
 
--- document 02, request 3: with a tilde the layers from 1 to n that the same prefix without it does not give
-abbrev pub prefixRanges : List ℕ → ℕ → Bool → (tilde : Bool) → Layers Span → List Range
-prefixRanges text n neg tilde l = pick tilde (others n (rangesIn text n neg l)) (rangesIn text n neg l)
-
 -- refusals 1, 2, 6, 11, 12
 unfoldable pub layerRanges : List ℕ → List ℕ → ℕ → ℕ → Bool → Outcome (List Range)
 layerRanges text tree k n neg = do
@@ -187,7 +183,7 @@ layerRanges text tree k n neg = do
   unless NO-SUCH-LAYER-COUNT (between 1 MAX-LAYER n)
   h ← recordAt tree k
   p ← prefixOf h
-  result (simplified (prefixRanges text n neg (p .0) (p .1)))
+  result (simplified (lit n (p .0) (rangesIn text n neg (p .1))))
 
 abbrev pub simplify : List ℕ → List ℕ → ℕ → ℕ → Bool → List Range → Lent Range
 simplify text tree k n neg buffer = lend (layerRanges text tree k n neg) buffer

@@ -125,3 +125,7 @@ others n l = othersFrom 1 n l
 
 abbrev pub complement : ℕ → List Range → List Range
 complement n l = simplified (others n l)
+
+-- document 02, request 3: with a tilde the layers that the same prefix without it does not give
+abbrev pub lit : ℕ → (tilde : Bool) → List Range → List Range
+lit n tilde l = pick tilde (others n l) l
