@@ -81,8 +81,10 @@ uint64_t hypuz_display(const uint8_t *text, size_t text_size, const uint8_t *tre
 /* The unrolled list, a record for each step: bytes used. Refusals 1, 2, 6, 7 or 8, 9, 5. */
 uint64_t hypuz_flatten(const uint8_t *text, size_t text_size, const uint8_t *tree, size_t tree_size, uint8_t *out, size_t out_size);
 
-/* The layers that the move at a record turns, on an axis of max_layer layers: how many ranges, each written as low and high, 16 bits
- * big-endian. Negative layers are allowed unless allow_negatives is 0. Refusals 1, 2, 6, 11, 12, 5. */
+/* The layers that the move at a record turns, on an axis of max_layer layers: how many ranges, by depth and none touching, each written as low
+ * and high, 16 bits big-endian. With a tilde these are the layers from 1 to max_layer that the same prefix without it does not give: 1-1 and 3-5
+ * for ~2R on five layers, none for ~R on one. There are at most 16,384 ranges. Negative layers are allowed unless allow_negatives is 0.
+ * Refusals 1, 2, 6, 11, 12, 5. */
 uint64_t hypuz_simplify(const uint8_t *text, size_t text_size, const uint8_t *tree, size_t tree_size, uint64_t record, uint32_t max_layer,
                         uint32_t allow_negatives, uint8_t *out, size_t out_size);
 

@@ -73,8 +73,8 @@ fn count(answer: Answer) -> usize
     }
 }
 
-// The layers that the move at a record turns, on an axis of `max_layer` layers: the number of ranges, written over the front of `ranges`.
-// Refusals 1, 2, 6, 11, 12, 5. What is refused writes none.
+// The layers that the move at a record turns, on an axis of `max_layer` layers, with a tilde those that its prefix without it does not give: the number
+// of ranges, written over the front of `ranges`. Refusals 1, 2, 6, 11, 12, 5. What is refused writes none.
 pub fn simplify(
     text: &[u8],
     tree: &[u8],
