@@ -26,8 +26,8 @@ pub enum PartAnswer {
     Refused(u8),
 }
 
-// The layers that the move at a record turns, on an axis of `max_layer` layers: the number of ranges, each written as low and high,
-// 16 bits big-endian. Refusals 1, 2, 6, 11, 12, 5.
+// The layers that the move at a record turns, on an axis of `max_layer` layers, with a tilde those that its prefix without it does not give: the
+// number of ranges, each written as low and high, 16 bits big-endian. Refusals 1, 2, 6, 11, 12, 5.
 pub fn simplify(
     text: &[u8],
     tree: &[u8],
@@ -56,8 +56,9 @@ pub fn simplify(
     if fields::kind(found) != kinds::MOVE {
         return Answer::Refused(NO_SUCH_RECORD);
     }
+    let inverted = fields::tilde(found);
     let layers = layers(found);
-    simplify::simplify(text, layers, max_layer as u16, allow_negatives, out)
+    simplify::simplify(text, inverted, layers, max_layer as u16, allow_negatives, out)
 }
 
 // A refusal that `check` answers, as the refusal of a part.

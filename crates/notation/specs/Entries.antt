@@ -13,7 +13,7 @@ use Rattle.notation.specs.Refusals.{
   Outcome, refusal, result, _>>=_, _>>_, unless, orRefuse,
   TOO-LONG, NOT-UTF8, TOO-NESTED, NOT-NOTATION, NO-ROOM, NOT-WELL-FORMED, TOO-MANY-STEPS, NO-SUCH-PLACE, NO-SUCH-LAYER-COUNT, NO-SUCH-RECORD
 }
-use Rattle.notation.specs.Layers.{Range, MAX-LAYER, clampToLayerCount, setRanges, keep, simplified}
+use Rattle.notation.specs.Layers.{Range, MAX-LAYER, clampToLayerCount, setRanges, keep, lit, simplified}
 use Rattle.notation.specs.Tree.{Span, partOf, Layers, noLayers, singleLayer, layerRange, layerSet, Leaf, rotation, move, pause, pair, slash, megaminx, Tree}
 use Rattle.notation.specs.Packed.{RECORD, Head, leafHead, groupHead, binaryHead, headAt, leafRecord, pack, unpack, bit}
 use Rattle.notation.specs.Grammar.{notation}
@@ -158,17 +158,18 @@ recordAt tree k = do
   unless NO-SUCH-RECORD (ltb k (length tree / RECORD))
   result (headAt (drop (RECORD * k) tree))
 
-abbrev pub layersOf : Head → Outcome (Layers Span)
-layersOf (leafHead (move t l f c m)) = result l
-layersOf (leafHead (rotation f c m)) = refusal NO-SUCH-RECORD
-layersOf (leafHead pause) = refusal NO-SUCH-RECORD
-layersOf (leafHead (pair u d)) = refusal NO-SUCH-RECORD
-layersOf (leafHead slash) = refusal NO-SUCH-RECORD
-layersOf (leafHead (megaminx k)) = refusal NO-SUCH-RECORD
-layersOf (groupHead k n m c) = refusal NO-SUCH-RECORD
-layersOf (binaryHead k n n′ m c) = refusal NO-SUCH-RECORD
+-- a move's prefix: whether it has a tilde, and its contents
+abbrev pub prefixOf : Head → Outcome (Bool × Layers Span)
+prefixOf (leafHead (move t l f c m)) = result (t, l)
+prefixOf (leafHead (rotation f c m)) = refusal NO-SUCH-RECORD
+prefixOf (leafHead pause) = refusal NO-SUCH-RECORD
+prefixOf (leafHead (pair u d)) = refusal NO-SUCH-RECORD
+prefixOf (leafHead slash) = refusal NO-SUCH-RECORD
+prefixOf (leafHead (megaminx k)) = refusal NO-SUCH-RECORD
+prefixOf (groupHead k n m c) = refusal NO-SUCH-RECORD
+prefixOf (binaryHead k n n′ m c) = refusal NO-SUCH-RECORD
 
--- no contents: layer 1; the tilde changes nothing
+-- no contents: layer 1
 abbrev pub rangesIn : List ℕ → ℕ → Bool → Layers Span → List Range
 rangesIn text n neg noLayers = keep (clampToLayerCount n (record { low = 1; high = 1 })) []
 rangesIn text n neg (singleLayer i) = keep (clampToLayerCount n (record { low = i; high = i })) []
@@ -181,8 +182,8 @@ layerRanges text tree k n neg = do
   checked text tree
   unless NO-SUCH-LAYER-COUNT (between 1 MAX-LAYER n)
   h ← recordAt tree k
-  l ← layersOf h
-  result (simplified (rangesIn text n neg l))
+  p ← prefixOf h
+  result (simplified (lit n (p .0) (rangesIn text n neg (p .1))))
 
 abbrev pub simplify : List ℕ → List ℕ → ℕ → ℕ → Bool → List Range → Lent Range
 simplify text tree k n neg buffer = lend (layerRanges text tree k n neg) buffer

@@ -1,11 +1,11 @@
 -- Layer ranges (layer/ and `LayerPrefixContents::simplify`). A layer is a number from 1, the shallowest, to 32,767.
-use Prim.Native.Nat.{ℕ, suc, _+_, _-_, min, max}
+use Prim.Native.Nat.{ℕ, zero, suc, _+_, _-_, min, max}
 use mathlib.Core.Bool.{Bool, true, false, _&&_, _||_}
 use mathlib.Core.List.{List, [], _∷_}
 use mathlib.Core.Option.{Option, none, some}
 use lib.Dec.{leb, ltb, eqb}
 use lib.IntN.{ℤ, pos, negsuc}
-use Rattle.notation.specs.Basics.{pick, choose}
+use Rattle.notation.specs.Basics.{pick, choose, between}
 
 -- from `low` to `high`, both included; `low` is not above `high`
 pub record Range : Type 0 where
@@ -108,3 +108,24 @@ join (a ∷ l) = joinFrom a l
 
 abbrev pub simplified : List Range → List Range
 simplified l = join (sort l)
+
+-- whether layer i is in one of the ranges
+unfoldable pub contains : List Range → ℕ → Bool
+contains [] i = false
+contains (r ∷ l) i = between (r .low) (r .high) i || contains l i
+
+-- of the m layers from i on those that the ranges do not give, each alone
+unfoldable pub othersFrom : (i m : ℕ) → List Range → List Range
+othersFrom i zero l = []
+othersFrom i (suc m) l = keep (pick (contains l i) none (alone (some i))) (othersFrom (suc i) m l)
+
+-- the same of the layers from 1 to n
+abbrev pub others : ℕ → List Range → List Range
+others n l = othersFrom 1 n l
+
+abbrev pub complement : ℕ → List Range → List Range
+complement n l = simplified (others n l)
+
+-- document 02, request 3: with a tilde the layers that the same prefix without it does not give
+abbrev pub lit : ℕ → (tilde : Bool) → List Range → List Range
+lit n tilde l = pick tilde (others n l) l

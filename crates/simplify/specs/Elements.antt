@@ -5,7 +5,8 @@ use mathlib.Core.Bool.{Bool}
 use mathlib.Core.List.{List}
 use mathlib.Core.Option.{Option, none, some}
 use lib.IntN.{natAbs}
-use Rattle.notation.specs.Layers.{Range, LayerSetElement, single, range, elementRange, setRanges, simplified}
+use Rattle.notation.specs.Layers.{Range, LayerSetElement, single, range, elementRange, setRanges, lit, simplified}
+use Rattle.notation.specs.Meaning.{layerSetIn, orEmpty}
 use Rattle.notation.specs.Refusals.{result}
 use Rattle.notation.specs.Entries.{lent, lend, inEntries, rangeBytes}
 use Rattle.notation.specs.declared.answer.Answer.{Answer}
@@ -28,6 +29,10 @@ markedElement n neg e reach = markedIf (elementRange n neg e) reach
 -- the table with those of a set
 abbrev pub markedSet : ℕ → Bool → List LayerSetElement → List ℕ → List ℕ
 markedSet n neg es reach = markedAll (setRanges n neg es) reach
+
+-- the ranges of a set, braces and all, or with a tilde the layers that they do not give
+abbrev pub litSet : ℕ → Bool → (inverted : Bool) → List ℕ → List Range
+litSet n neg inverted part = lit n inverted (setRanges n neg (orEmpty (layerSetIn part)))
 
 -- the answer for some ranges: simplified, and lent as entries of four bytes
 abbrev pub Gives : List Range → Answer → List ℕ → List ℕ → Type 0

@@ -1,11 +1,12 @@
 -- The table that the ranges of a set are gathered in: entry i is how far the ranges reach that begin at layer i, 0 where none does.
-use Prim.Native.Nat.{ℕ, suc, _+_, _≤_, _<_, max}
+use Prim.Native.Nat.{ℕ, suc, _+_, _*_, _≤_, _<_, max}
 use mathlib.Core.Path.{_≡_}
-use mathlib.Core.List.{List, [], _∷_}
-use lib.Dec.{eqb}
-use lib.ListN.{length, drop, getD, set}
+use mathlib.Core.List.{List, [], _∷_, _++_}
+use lib.Dec.{eqb, leb}
+use lib.ListN.{length, take, drop, getD, set}
 use Rattle.notation.specs.Basics.{pick}
-use Rattle.notation.specs.Layers.{Range, join}
+use Rattle.notation.specs.Layers.{Range, join, simplified}
+use Rattle.notation.specs.Entries.{rangeBytes}
 
 abbrev pub rangeFrom : ℕ → ℕ → Range
 rangeFrom low high = record { low = low; high = high }
@@ -42,3 +43,22 @@ pub record IsNextStart (reach : List ℕ) (at next : ℕ) : Type 0 where
 pub record IsRun (reach : List ℕ) (low high : ℕ) : Type 0 where
   pub ordered : low ≤ high
   pub run : runsFrom reach low ≡ rangeFrom low high ∷ runsFrom reach (high + 2)
+
+-- the table of a list of ranges on an axis of n layers: what the code asks of it, and what it gives
+pub record Gathered (n : ℕ) (l : List Range) (reach : List ℕ) : Type 0 where
+  pub reaches : Reaches reach
+  pub size : length reach ≡ n + 1
+  pub runs : runsFrom reach 0 ≡ simplified l
+
+-- The table turned over: each layer that no range has is a range of its own. Its first entry is that of layer i, and the ranges that begin before reach to `far`.
+unfoldable pub turnedOver : (far i : ℕ) → List ℕ → List ℕ
+turnedOver far i [] = []
+turnedOver far i (high ∷ reach) = pick (leb i (max far high)) 0 i ∷ turnedOver (max far high) (suc i) reach
+
+-- the layers from `low` to `high`, if there are such layers
+abbrev pub someFrom : ℕ → ℕ → List Range
+someFrom low high = pick (leb low high) (rangeFrom low high ∷ []) []
+
+-- the bytes with these ranges written from `at` on
+abbrev pub written : List ℕ → ℕ → List Range → List ℕ
+written out at l = take at out ++ (rangeBytes l ++ drop (at + 4 * length l) out)

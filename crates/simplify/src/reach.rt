@@ -24,6 +24,23 @@ pub fn mark(reach: &mut [u16], range: LayerRange)
     }
 }
 
+// Turns the table over: each layer that no range has becomes a range of its own, and no other layer begins one.
+pub fn invert(reach: &mut [u16])
+    requires { ⌜ length (now reach) ≤ 65536 ⌝ }
+    ensures { λ _. ⌜ now (reach .exit) ≡ table.turnedOver 0 0 (now (reach .entry)) ⌝ }
+{
+    // How far the ranges reach that begin at layer i or before it.
+    let mut far: u16 = 0;
+    let mut i: usize = 0;
+    while i < reach.len() {
+        if far < reach[i] {
+            far = reach[i];
+        }
+        reach[i] = if (far as usize) < i { i as u16 } else { 0 };
+        i += 1;
+    }
+}
+
 // The first layer from `at` on where a range begins, or one beyond the table.
 fn next_start(reach: &[u16], at: usize) -> usize
     ensures { λ r. ⌜ table.IsNextStart (now (reach .entry)) at r ⌝ }

@@ -1,4 +1,5 @@
-// The layers that a move turns, as ranges: `LayerPrefixContents::to_ranges` and `simplify` of the Rust's unspanned.rs.
+// The layers that a move turns, as ranges: `LayerPrefixContents::to_ranges` and `simplify` of the Rust's unspanned.rs, and behind a tilde the other
+// layers of the axis, as the Rust's `LayerPrefix::to_layer_mask` inverts its mask.
 ghost use mathlib.Core.Path.{_≡_};
 ghost use mathlib.Core.Bool.{true};
 ghost use mathlib.Core.List.{[]};
@@ -17,7 +18,9 @@ ghost use Rattle.record.specs.Meaning as record′;
 ghost use Rattle.parse.specs.Meaning.{layerSetElementOf, told};
 ghost use Rattle.simplify.specs.Reach as table;
 ghost use Rattle.simplify.specs.Elements as elements;
+use crate::around::simplify_around;
 use crate::reach::count_runs;
+use crate::reach::invert;
 use crate::reach::mark;
 use crate::reach::write_range;
 use crate::reach::write_runs;
@@ -118,14 +121,27 @@ fn mark_set(part: &[u8], axis: AxisLayersInfo, reach: &mut [u16])
     }
 }
 
-// The ranges of a layer set, over an empty table of the axis.
-fn simplify_set(part: &[u8], axis: AxisLayersInfo, reach: &mut [u16], out: &mut [u8]) -> Answer
+// Gathers the ranges of a layer set in an empty table of the axis, or with a tilde the layers that they do not give.
+fn mark_prefix(part: &[u8], axis: AxisLayersInfo, inverted: bool, reach: &mut [u16])
     requires { ⌜ meaning.IsLayer (axis .«max_layer») ⌝ }
     requires { ⌜ now reach ≡ replicate (axis .«max_layer» + 1) 0 ⌝ }
     requires { ⌜ isSome (layerSetIn (now part)) ≡ true ⌝ }
-    ensures { λ r. ⌜ elements.Gives (rule.setRanges (axis .«max_layer») (axis .«allow_negatives») (orEmpty (layerSetIn (now (part .entry))))) r (now (out .exit)) (now (out .entry)) ⌝ }
+    ensures { λ _. ⌜ table.Gathered (axis .«max_layer») (elements.litSet (axis .«max_layer») (axis .«allow_negatives») inverted (now (part .entry))) (now (reach .exit)) ⌝ }
 {
     mark_set(part, axis, reach);
+    if inverted {
+        invert(reach);
+    }
+}
+
+// The ranges of a layer set, over an empty table of the axis.
+fn simplify_set(part: &[u8], axis: AxisLayersInfo, inverted: bool, reach: &mut [u16], out: &mut [u8]) -> Answer
+    requires { ⌜ meaning.IsLayer (axis .«max_layer») ⌝ }
+    requires { ⌜ now reach ≡ replicate (axis .«max_layer» + 1) 0 ⌝ }
+    requires { ⌜ isSome (layerSetIn (now part)) ≡ true ⌝ }
+    ensures { λ r. ⌜ elements.Gives (elements.litSet (axis .«max_layer») (axis .«allow_negatives») inverted (now (part .entry))) r (now (out .exit)) (now (out .entry)) ⌝ }
+{
+    mark_prefix(part, axis, inverted, reach);
     let runs = count_runs(reach);
     if out.len() / 4 < runs {
         return Answer::Refused(NO_ROOM);
@@ -135,25 +151,25 @@ fn simplify_set(part: &[u8], axis: AxisLayersInfo, reach: &mut [u16], out: &mut 
 }
 
 // On an axis with few layers. The large table is in a function of its own, so that this one's stack stays small.
-fn simplify_set_of_few(part: &[u8], axis: AxisLayersInfo, out: &mut [u8]) -> Answer
+fn simplify_set_of_few(part: &[u8], axis: AxisLayersInfo, inverted: bool, out: &mut [u8]) -> Answer
     requires { ⌜ (1 ≤ axis .«max_layer») × (axis .«max_layer» < 128) ⌝ }
     requires { ⌜ isSome (layerSetIn (now part)) ≡ true ⌝ }
-    ensures { λ r. ⌜ elements.Gives (rule.setRanges (axis .«max_layer») (axis .«allow_negatives») (orEmpty (layerSetIn (now (part .entry))))) r (now (out .exit)) (now (out .entry)) ⌝ }
+    ensures { λ r. ⌜ elements.Gives (elements.litSet (axis .«max_layer») (axis .«allow_negatives») inverted (now (part .entry))) r (now (out .exit)) (now (out .entry)) ⌝ }
 {
     let mut reach = [0u16; 128];
     let layers = axis.max_layer as usize + 1;
-    simplify_set(part, axis, &mut reach[..layers], out)
+    simplify_set(part, axis, inverted, &mut reach[..layers], out)
 }
 
 // On an axis with any number of layers.
-fn simplify_set_of_many(part: &[u8], axis: AxisLayersInfo, out: &mut [u8]) -> Answer
+fn simplify_set_of_many(part: &[u8], axis: AxisLayersInfo, inverted: bool, out: &mut [u8]) -> Answer
     requires { ⌜ meaning.IsLayer (axis .«max_layer») ⌝ }
     requires { ⌜ isSome (layerSetIn (now part)) ≡ true ⌝ }
-    ensures { λ r. ⌜ elements.Gives (rule.setRanges (axis .«max_layer») (axis .«allow_negatives») (orEmpty (layerSetIn (now (part .entry))))) r (now (out .exit)) (now (out .entry)) ⌝ }
+    ensures { λ r. ⌜ elements.Gives (elements.litSet (axis .«max_layer») (axis .«allow_negatives») inverted (now (part .entry))) r (now (out .exit)) (now (out .entry)) ⌝ }
 {
     let mut reach = [0u16; 32768];
     let layers = axis.max_layer as usize + 1;
-    simplify_set(part, axis, &mut reach[..layers], out)
+    simplify_set(part, axis, inverted, &mut reach[..layers], out)
 }
 
 // The ranges of a prefix that is no set: the layers from `low` to `high` as far as the axis has them.
@@ -175,9 +191,24 @@ fn simplify_range(low: u16, high: u16, max_layer: u16, out: &mut [u8]) -> Answer
     Answer::Value(1)
 }
 
-// The layers that a move turns on an axis with `max_layer` layers: ranges that neither overlap nor touch, by depth.
+// The same with a tilde before it, or without one.
+fn simplify_prefix(low: u16, high: u16, inverted: bool, max_layer: u16, out: &mut [u8]) -> Answer
+    requires { ⌜ meaning.IsRange (table.rangeFrom low high) ⌝ }
+    requires { ⌜ meaning.IsLayer «max_layer» ⌝ }
+    ensures { λ r. ⌜ elements.Gives (rule.lit «max_layer» inverted (rule.keep (rule.clampToLayerCount «max_layer» (table.rangeFrom low high)) [])) r (now (out .exit)) (now (out .entry)) ⌝ }
+{
+    if inverted {
+        simplify_around(low, high, max_layer, out)
+    } else {
+        simplify_range(low, high, max_layer, out)
+    }
+}
+
+// The layers that a move turns on an axis with `max_layer` layers: ranges that neither overlap nor touch, by depth. With a tilde (`inverted`)
+// these are the layers that the same prefix without it does not give.
 pub fn simplify(
     text: &[u8],
+    inverted: bool,
     layers: LayerPrefixContents,
     max_layer: u16,
     allow_negatives: bool,
@@ -186,12 +217,12 @@ pub fn simplify(
     requires { ⌜ meaning.IsLayer «max_layer» ⌝ }
     requires { ⌜ length (now text) ≤ MAX-TEXT ⌝ }
     requires { ⌜ layersOk (now text) (record′.layers layers) ≡ true ⌝ }
-    ensures { λ r. ⌜ elements.Gives (rangesIn (now (text .entry)) «max_layer» «allow_negatives» (record′.layers layers)) r (now (out .exit)) (now (out .entry)) ⌝ }
+    ensures { λ r. ⌜ elements.Gives (rule.lit «max_layer» inverted (rangesIn (now (text .entry)) «max_layer» «allow_negatives» (record′.layers layers))) r (now (out .exit)) (now (out .entry)) ⌝ }
 {
     match layers {
-        LayerPrefixContents::None => simplify_range(1, 1, max_layer, out),
-        LayerPrefixContents::Single(i) => simplify_range(i, i, max_layer, out),
-        LayerPrefixContents::Range(i, j) => simplify_range(i, j, max_layer, out),
+        LayerPrefixContents::None => simplify_prefix(1, 1, inverted, max_layer, out),
+        LayerPrefixContents::Single(i) => simplify_prefix(i, i, inverted, max_layer, out),
+        LayerPrefixContents::Range(i, j) => simplify_prefix(i, j, inverted, max_layer, out),
         LayerPrefixContents::Set(span) => {
             let from = span.offset as usize;
             let to = from + span.size as usize;
@@ -201,9 +232,9 @@ pub fn simplify(
                 allow_negatives,
             };
             if max_layer < FEW_LAYERS {
-                simplify_set_of_few(part, axis, out)
+                simplify_set_of_few(part, axis, inverted, out)
             } else {
-                simplify_set_of_many(part, axis, out)
+                simplify_set_of_many(part, axis, inverted, out)
             }
         }
     }

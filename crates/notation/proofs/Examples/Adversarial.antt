@@ -92,7 +92,7 @@ abbrev rangesAt : ℕ → ℕ → Bool → String → Outcome (List Range)
 rangesAt k n neg s = do tree ← reading MAXIMAL (ascii s); layerRanges (ascii s) tree k n neg
 
 layerLimits : (map (rangesAt 0 32767 true) ("{-32767..32767}R" ∷ "{-1,1}R" ∷ "32767R" ∷ []) ≡ map result ((from 1 32767 ∷ []) ∷ (from 1 1 ∷ from 32767 32767 ∷ []) ∷ (from 32767 32767 ∷ []) ∷ []))
-    × (map (rangesAt 0 1 true) ("R" ∷ "{-1}R" ∷ "{-2}R" ∷ "{2}R" ∷ "{-2..2}R" ∷ "{2..3}R" ∷ "{-3..-2}R" ∷ "{-2..1}R" ∷ "{1-2}R" ∷ "1-2R" ∷ "2-3R" ∷ "~2R" ∷ []) ≡ map result ((from 1 1 ∷ []) ∷ (from 1 1 ∷ []) ∷ [] ∷ [] ∷ (from 1 1 ∷ []) ∷ [] ∷ [] ∷ (from 1 1 ∷ []) ∷ (from 1 1 ∷ []) ∷ (from 1 1 ∷ []) ∷ [] ∷ [] ∷ []))
+    × (map (rangesAt 0 1 true) ("R" ∷ "{-1}R" ∷ "{-2}R" ∷ "{2}R" ∷ "{-2..2}R" ∷ "{2..3}R" ∷ "{-3..-2}R" ∷ "{-2..1}R" ∷ "{1-2}R" ∷ "1-2R" ∷ "2-3R" ∷ "~2R" ∷ []) ≡ map result ((from 1 1 ∷ []) ∷ (from 1 1 ∷ []) ∷ [] ∷ [] ∷ (from 1 1 ∷ []) ∷ [] ∷ [] ∷ (from 1 1 ∷ []) ∷ (from 1 1 ∷ []) ∷ (from 1 1 ∷ []) ∷ [] ∷ (from 1 1 ∷ []) ∷ []))
     × (map (rangesAt 0 5 false) ("{-9..9}R" ∷ "{-1..-1}R" ∷ "{9..9}R" ∷ "{3..3}R" ∷ "{4..2,5}R" ∷ []) ≡ map result ([] ∷ [] ∷ [] ∷ (from 3 3 ∷ []) ∷ (from 2 5 ∷ []) ∷ []))
 unfolding opened
 layerLimits = (refl, refl, refl)

@@ -55,3 +55,11 @@ ranges : (simplifyBytes (ascii "{1,3..300}R") (treeOf "{1,3..300}R") 0 400 true 
     × (simplifyBytes (ascii "{1,3..300}R") (treeOf "{1,3..300}R") 0 400 true (replicate 7 7) ≡ lent (refusal 5) (replicate 7 7))
 unfolding opened
 ranges = (refl, refl)
+
+-- with a tilde the room is that of the answer: three ranges where the set has two, none where it has one
+tildes : (simplifyBytes (ascii "~{2,4..300}R") (treeOf "~{2,4..300}R") 0 400 true (replicate 13 7) ≡ lent (result 3) (0 ∷ 1 ∷ 0 ∷ 1 ∷ 0 ∷ 3 ∷ 0 ∷ 3 ∷ 1 ∷ 45 ∷ 1 ∷ 144 ∷ 7 ∷ []))
+    × (simplifyBytes (ascii "~{2,4..300}R") (treeOf "~{2,4..300}R") 0 400 true (replicate 11 7) ≡ lent (refusal 5) (replicate 11 7))
+    × (simplifyBytes (ascii "~{1..9}R") (treeOf "~{1..9}R") 0 9 true [] ≡ lent (result 0) [])
+    × (simplifyBytes (ascii "~2R") (treeOf "~2R") 0 9 true (replicate 7 7) ≡ lent (refusal 5) (replicate 7 7))
+unfolding opened
+tildes = (refl, refl, refl, refl)
