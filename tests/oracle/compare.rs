@@ -49,6 +49,8 @@ const MOST_STEPS: u128 = u32::MAX as u128;
 /// What a record stores for every count above MOST_STEPS; the field is the last of a record, 5 bytes, most significant first.
 const HELD: u128 = MOST_STEPS + 1;
 const COUNT: usize = 5;
+/// A move's tilde, in the first byte of its record.
+const TILDE: u8 = 8;
 const FILL: u8 = 0xa5;
 const GUARD: usize = 8;
 /// Bytes that are shown of a text over 65,535 bytes where it differs; a shorter one is shown whole.
@@ -309,6 +311,13 @@ struct Read<'a> {
 }
 
 impl Read<'_> {
+    /// The tree with the tilde of one move put in or taken away.
+    fn turned(&self, record: usize) -> Self {
+        let mut tree = self.tree.clone();
+        tree[record * RECORD] ^= TILDE;
+        Self { text: self.text, tree }
+    }
+
     /// Some records printed; `size` is what the Rust's text takes. Also into a buffer so large that printing need not measure first.
     fn printed(&self, records: &[u8], size: usize) -> Answer<String> {
         let roomy = size + self.text.len() + 50 * (records.len() / RECORD);
@@ -354,6 +363,10 @@ fn compare(r: &mut Random, l: &NodeList, report: &mut Report) {
             let long = n.fields.parts[2].1 > WIDE;
             let which = if long { 2 } else { usize::from(i > WIDE) };
             ranges(which, r, &mv.layers, i as u64, large && !long, &ours, &text, report);
+            if long {
+                // few trees have one: each is asked with the tilde and without
+                ranges(which, r, &LayerPrefix { invert: !mv.layers.invert, ..mv.layers.clone() }, i as u64, false, &ours.turned(i), &text, report);
+            }
         }
     }
 }
