@@ -21,6 +21,7 @@ pub mod Print
 pub mod Unroll
 pub mod Reached
 pub mod Entries
+pub mod Tilde
 pub mod Primes
 pub mod Lister
 pub mod Demands

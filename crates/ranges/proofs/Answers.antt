@@ -16,7 +16,8 @@ use Rattle.layer.specs.declared.range.LayerRange.{LayerRange}
 use Rattle.laws.proofs.Bools.{no-refusal}
 use Rattle.laws.proofs.Outcomes.{same-result}
 use Rattle.simplify.proofs.Few.{few}
-use Rattle.simplify.proofs.Answers.{length-rangeBytes, answered}
+use Rattle.simplify.proofs.Sweep.{length-rangeBytes}
+use Rattle.simplify.proofs.Answers.{answered}
 use Rattle.ranges.specs.Lent.{rangesFrom, Resolved}
 use Rattle.ranges.proofs.Reading.{read-back}
 

@@ -10,30 +10,27 @@ use lib.Dec.{leb}
 use lib.ListN.{length, take, drop, replicate, length-replicate}
 use lib.Seq.{sets}
 use borrow.Author.Tests.{leb-true, le-leb, lt-leb}
-use Rattle.notation.specs.Numbers.{bigEndian, digits}
-use Rattle.notation.specs.Layers.{Range, MAX-LAYER, insert, sort, joinFrom, join, simplified, setRanges, keep}
+use Rattle.notation.specs.Numbers.{bigEndian}
+use Rattle.notation.specs.Layers.{Range, MAX-LAYER, insert, sort, joinFrom, join, simplified, setRanges, others, keep}
 use Rattle.notation.specs.Tree.{Layers, Span, partOf, singleLayer, layerRange, layerSet}
 use Rattle.notation.specs.Meaning.{layerSetIn, orEmpty}
 use Rattle.notation.specs.WellFormed.{isSome, inside, layersOk}
 use Rattle.notation.specs.Refusals.{result}
 use Rattle.notation.specs.Entries.{lent, lend, inEntries, rangeBytes}
 use Rattle.notation.specs.declared.answer.Answer.the-variants.{Value, Refused}
-use Rattle.layer.specs.Meaning.{IsLayer, IsRange}
+use Rattle.layer.specs.Meaning.{IsLayer, IsRange, RangeUpTo}
+use Rattle.complement.proofs.Sorted.{All}
+use Rattle.complement.proofs.Complement.{others-on-axis}
 use Rattle.laws.proofs.Bools.{false-true, and-left, and-right}
-use Rattle.simplify.specs.Reach.{rangeFrom}
+use Rattle.simplify.specs.Reach.{rangeFrom, markedAll, turnedOver, Gathered}
 use Rattle.simplify.specs.Elements.{markedSet}
-use Rattle.simplify.proofs.Table.{Gathered, gathers}
-use Rattle.simplify.proofs.Sweep.{none-written, all-written, one-written}
+use Rattle.simplify.proofs.Table.{gathers}
+use Rattle.simplify.proofs.Over.{turned-over}
+use Rattle.simplify.proofs.Sweep.{length-rangeBytes, all-written, write-one}
 use Rattle.simplify.proofs.ElementRanges.{set-ranges}
 use Rattle.simplify.proofs.Few.{set-read}
 
 -- ── a buffer with room, and one without ──
-
--- four bytes for each range
-pub length-rangeBytes : (l : List Range) → length (rangeBytes l) ≡ 4 * length l
-unfolding rangeBytes digits
-length-rangeBytes [] = refl
-length-rangeBytes (r ∷ l) = omega (arith, length-rangeBytes l)
 
 module _ (l found : List Range) (same : found ≡ l) (out : List ℕ) where
   pub answered : (n : ℕ) (out′ : List ℕ) → n ≡ length found → 4 * length found ≤ length out → out′ ≡ rangeBytes found ++ drop (4 * length found) out →
@@ -60,7 +57,7 @@ nothing-written out = refl
 
 pub range-written : (out out′ : List ℕ) (r : Range) → 4 ≤ length out → out′ ≡ sets out 0 (bigEndian 2 (r .low) ++ bigEndian 2 (r .high)) →
     out′ ≡ rangeBytes (r ∷ []) ++ drop 4 out
-range-written out out′ r room e = sym (none-written out′ 4) ∙ one-written out 0 r [] out′ room e ∙ all-written out (r ∷ [])
+range-written out out′ r room e = e ∙ write-one out 0 r room ∙ all-written out (r ∷ [])
 
 -- ── the table of a set ──
 
@@ -72,11 +69,24 @@ take-zeros (suc k) (suc m) h = ap (_∷_ 0) (take-zeros k m (omega arith))
 pub length-zeros : (k m : ℕ) → k ≤ m → k ≡ length {A = ℕ} (take k (replicate m 0))
 length-zeros k m h = sym (ap length (take-zeros k m h) ∙ length-replicate k 0)
 
-pub set-gathered : (n : ℕ) → IsLayer n → (allowed : Bool) (part s₀ s : List ℕ) → isSome (layerSetIn part) ≡ true → s₀ ≡ replicate (n + 1) 0 →
-    s ≡ markedSet n allowed (orEmpty (layerSetIn part)) s₀ → Gathered n (setRanges n allowed (orEmpty (layerSetIn part))) s
-set-gathered n real allowed part s₀ s h e f =
-    gathers n (setRanges n allowed (orEmpty (layerSetIn part)))
-    (set-ranges n allowed (real .low) (orEmpty (layerSetIn part)) (set-read part true h)) s₀ s e f
+module _ (n : ℕ) (real : IsLayer n) (allowed : Bool) (part s₀ s : List ℕ) (h : isSome (layerSetIn part) ≡ true) (e : s₀ ≡ replicate (n + 1) 0)
+  (f : s ≡ markedSet n allowed (orEmpty (layerSetIn part)) s₀)
+  where
+    l : List Range
+    l = setRanges n allowed (orEmpty (layerSetIn part))
+
+    on-axis : All (RangeUpTo n) l
+    unfolding l
+    on-axis = set-ranges n allowed (real .low) (orEmpty (layerSetIn part)) (set-read part true h)
+
+    pub set-gathered : Gathered n (setRanges n allowed (orEmpty (layerSetIn part))) s
+    unfolding l
+    set-gathered = gathers n l on-axis s₀ s e f
+
+    -- with a tilde
+    pub others-gathered : (s′ : List ℕ) → s′ ≡ turnedOver 0 0 s → Gathered n (others n (setRanges n allowed (orEmpty (layerSetIn part)))) s′
+    unfolding l
+    others-gathered s′ g = gathers n (others n l) (others-on-axis n l) s₀ s′ e (g ∙ ap (turnedOver 0 0) (f ∙ ap (markedAll l) e) ∙ turned-over n l on-axis ∙ ap (markedAll (others n l)) (sym e))
 
 -- ── the layers of a move ──
 

@@ -10,19 +10,20 @@ use lib.ListN.{length}
 use borrow.Author.Tests.{leb-true, leb-false}
 use Rattle.notation.specs.Basics.{pick, choose, between, every}
 use Rattle.notation.specs.Refusals.{result, unless, NO-SUCH-LAYER-COUNT}
-use Rattle.notation.specs.Layers.{Range, LayerSetElement, MAX-LAYER, insert, sort, touching, joined, joinFrom, join, simplified, clampToLayerCount, setRanges, keep}
+use Rattle.notation.specs.Layers.{Range, LayerSetElement, MAX-LAYER, insert, sort, touching, joined, joinFrom, join, simplified, clampToLayerCount, setRanges, keep, others, lit}
 use Rattle.notation.specs.Tree.{Layers, noLayers, singleLayer, layerRange, layerSet, Span, partOf}
 use Rattle.notation.specs.Grammar.{layerSetElements}
 use Rattle.notation.specs.Meaning.{layerSetIn, orEmpty}
 use Rattle.notation.specs.WellFormed.{isSome}
-use Rattle.notation.specs.Entries.{checked, recordAt, layersOf, rangesIn, layerRanges}
+use Rattle.notation.specs.Entries.{checked, recordAt, prefixOf, rangesIn, layerRanges}
 use Rattle.layer.specs.Meaning.{RangeUpTo}
 use Rattle.laws.proofs.Bools.{false-true, and-left, and-right}
 use Rattle.laws.proofs.Outcomes.{same-result, after, held}
 use Rattle.laws.proofs.InRange.{elementInRange}
 use Rattle.laws.proofs.Readers.{anywhere}
 use Rattle.laws.proofs.ReadingYields.{yields-element, yields-braces}
-use Rattle.simplify.proofs.Table.{All, nothing, _and_, Deeper, Sorted, empty, first, all-weaken, all-sort, sort-sorted}
+use Rattle.complement.proofs.Sorted.{All, nothing, _and_, Deeper, Sorted, empty, first, all-weaken, all-sort, sort-sorted}
+use Rattle.complement.proofs.Complement.{others-on-axis}
 use Rattle.simplify.proofs.SetElements.{whole}
 use Rattle.simplify.proofs.ElementRanges.{set-ranges}
 
@@ -113,6 +114,10 @@ few-layers text n neg (layerSet p) least most =
     few-ranges n (setRanges n neg (orEmpty (layerSetIn (partOf text p)))) most
     (set-ranges n neg least (orEmpty (layerSetIn (partOf text p))) (set-read (partOf text p) (isSome (layerSetIn (partOf text p))) refl))
 
+few-lit : (text : List ℕ) (n : ℕ) (neg tilde : Bool) (l : Layers Span) → 1 ≤ n → n ≤ MAX-LAYER → Few (simplified (lit n tilde (rangesIn text n neg l)))
+few-lit text n neg false l least most = few-layers text n neg l least most
+few-lit text n neg true l least most = few-ranges n (others n (rangesIn text n neg l)) most (others-on-axis n (rangesIn text n neg l))
+
 -- ── the rule's ranges ──
 
 pub few : (text tree : List ℕ) (k n : ℕ) (neg : Bool) (l : List Range) → layerRanges text tree k n neg ≡ result l → Few l
@@ -121,7 +126,7 @@ few text tree k n neg l e =
     let c = after (checked text tree) e in
     let b = after (unless NO-SUCH-LAYER-COUNT (between 1 MAX-LAYER n)) (c .2) in
     let h = after (recordAt tree k) (b .2) in
-    let ls = after (layersOf (h .0)) (h .2) in
+    let p = after (prefixOf (h .0)) (h .2) in
     let real = held NO-SUCH-LAYER-COUNT (between 1 MAX-LAYER n) (b .1) in
-    subst Few (same-result (ls .2))
-    (few-layers text n neg (ls .0) (leb-true 1 n (and-left _ (leb n MAX-LAYER) real)) (leb-true n MAX-LAYER (and-right (leb 1 n) _ real)))
+    subst Few (same-result (p .2))
+    (few-lit text n neg (p .0 .0) (p .0 .1) (leb-true 1 n (and-left _ (leb n MAX-LAYER) real)) (leb-true n MAX-LAYER (and-right (leb 1 n) _ real)))

@@ -11,10 +11,10 @@ use lib.Seq.{drop-cons, set-getD, sets, sets-eq, take-at, drop-append-add, drop-
 use borrow.Author.Tests.{eqb-true, eqb-false, ne-eqb, le-leb, lt-leb}
 use Rattle.notation.specs.Basics.{pick}
 use Rattle.notation.specs.Layers.{Range, joinFrom, join}
-use Rattle.notation.specs.Numbers.{bigEndian}
+use Rattle.notation.specs.Numbers.{bigEndian, digits}
 use Rattle.notation.specs.Entries.{rangeBytes}
 use Rattle.numbers.proofs.BigEndian.{length-bigEndian, sets-append}
-use Rattle.simplify.specs.Reach.{rangeFrom, ranges, runsFrom, Reaches, IsRun, IsNextStart}
+use Rattle.simplify.specs.Reach.{rangeFrom, ranges, runsFrom, Reaches, IsRun, IsNextStart, written}
 
 -- ── a mark ──
 
@@ -106,9 +106,16 @@ pub two-fields : (out out₁ out₂ : List ℕ) (at a b : ℕ) →
 two-fields out out₁ out₂ at a b p q =
     q ∙ rw p (ap (λ (n : ℕ). sets (sets out at (bigEndian 2 a)) (at + n) (bigEndian 2 b)) (sym (length-bigEndian 2 a)) ∙ sets-append out at (bigEndian 2 a) (bigEndian 2 b))
 
--- the bytes with these ranges written from `at` on
-abbrev pub written : List ℕ → ℕ → List Range → List ℕ
-written out at l = take at out ++ (rangeBytes l ++ drop (at + 4 * length l) out)
+-- four bytes for each range
+pub length-rangeBytes : (l : List Range) → length (rangeBytes l) ≡ 4 * length l
+unfolding rangeBytes digits
+length-rangeBytes [] = refl
+length-rangeBytes (r ∷ l) = omega (arith, length-rangeBytes l)
+
+rangeBytes-append : (a b : List Range) → rangeBytes (a ++ b) ≡ rangeBytes a ++ rangeBytes b
+unfolding rangeBytes
+rangeBytes-append [] b = refl
+rangeBytes-append (r ∷ a) b = rw (rangeBytes-append a b) (simp append-assoc)
 
 module _ (out : List ℕ) where
   pub none-written : (at : ℕ) → written out at [] ≡ out
@@ -118,21 +125,32 @@ module _ (out : List ℕ) where
   pub all-written : (l : List Range) → written out 0 l ≡ rangeBytes l ++ drop (4 * length l) out
   all-written l = let e : 0 + 4 * length l ≡ 4 * length l = omega arith in rw e
 
-  module _ (at : ℕ) (r : Range) (l : List Range) (out′ : List ℕ) (room : at + 4 * suc (length l) ≤ length out) where
-    bytes : List ℕ
-    bytes = bigEndian 2 (r .low) ++ bigEndian 2 (r .high)
+  -- a range is written over four bytes
+  pub write-one : (at : ℕ) (r : Range) → at + 4 ≤ length out → sets out at (bigEndian 2 (r .low) ++ bigEndian 2 (r .high)) ≡ written out at (r ∷ [])
+  unfolding rangeBytes
+  write-one at r room =
+      let bytes = bigEndian 2 (r .low) ++ bigEndian 2 (r .high) in
+      let four : length bytes ≡ 4 = length-append (bigEndian 2 (r .low)) (bigEndian 2 (r .high)) ∙ rw (length-bigEndian 2 (r .low), length-bigEndian 2 (r .high)) in
+      sets-eq bytes out at (omega arith) ∙ rw four (simp append-assoc)
 
-    pub one-written : out′ ≡ sets out at (bigEndian 2 (r .low) ++ bigEndian 2 (r .high)) → written out′ (at + 4) l ≡ written out at (r ∷ l)
-    unfolding rangeBytes bytes
-    one-written e =
-        let four : length bytes ≡ 4 = length-append (bigEndian 2 (r .low)) (bigEndian 2 (r .high)) ∙ rw (length-bigEndian 2 (r .low), length-bigEndian 2 (r .high)) in
-        let f : out′ ≡ (take at out ++ bytes) ++ drop (at + 4) out = e ∙ sets-eq bytes out at (omega arith) ∙ rw four in
-        let front : length (take at out ++ bytes) ≡ at + 4 = length-append (take at out) bytes ∙ rw (four, length-take-le at out (omega arith)) in
-        let sum : at + 4 * suc (length l) ≡ at + 4 + 4 * length l = omega arith in
-        let past : drop (at + 4 + 4 * length l) out′ ≡ drop (at + 4 + 4 * length l) out =
-        ap (λ (n : ℕ). drop (n + 4 * length l) out′) (sym front)
-        ∙ ap (drop (length (take at out ++ bytes) + 4 * length l)) f
-        ∙ drop-append-add (take at out ++ bytes) (drop (at + 4) out) (4 * length l)
-        ∙ drop-drop (4 * length l) (at + 4) out in
-        let kept : take (at + 4) out′ ≡ take at out ++ bytes = ap (take (at + 4)) f ∙ take-at (take at out ++ bytes) (drop (at + 4) out) (at + 4) front in
-        rw (kept, past, sum) (simp append-assoc)
+  -- more ranges behind those that are written
+  pub written-on : (at : ℕ) (a b : List Range) → at + 4 * length a ≤ length out → written (written out at a) (at + 4 * length a) b ≡ written out at (a ++ b)
+  written-on at a b room =
+      let front : length (take at out ++ rangeBytes a) ≡ at + 4 * length a =
+          length-append (take at out) (rangeBytes a) ∙ rw (length-rangeBytes a, length-take-le at out (omega arith)) in
+      let parted : written out at a ≡ (take at out ++ rangeBytes a) ++ drop (at + 4 * length a) out = simp append-assoc in
+      let kept : take (at + 4 * length a) (written out at a) ≡ take at out ++ rangeBytes a =
+          ap (take (at + 4 * length a)) parted ∙ take-at (take at out ++ rangeBytes a) (drop (at + 4 * length a) out) (at + 4 * length a) front in
+      let past : drop (at + 4 * length a + 4 * length b) (written out at a) ≡ drop (at + 4 * length a + 4 * length b) out =
+          ap (λ (n : ℕ). drop (n + 4 * length b) (written out at a)) (sym front)
+          ∙ ap (drop (length (take at out ++ rangeBytes a) + 4 * length b)) parted
+          ∙ drop-append-add (take at out ++ rangeBytes a) (drop (at + 4 * length a) out) (4 * length b)
+          ∙ drop-drop (4 * length b) (at + 4 * length a) out in
+      let sum : at + 4 * length (a ++ b) ≡ at + 4 * length a + 4 * length b = omega (arith, length-append a b) in
+      rw (kept, past, sum, rangeBytes-append a b) (simp append-assoc)
+
+  pub one-written : (at : ℕ) (r : Range) (l : List Range) (out′ : List ℕ) → at + 4 * suc (length l) ≤ length out →
+      out′ ≡ sets out at (bigEndian 2 (r .low) ++ bigEndian 2 (r .high)) → written out′ (at + 4) l ≡ written out at (r ∷ l)
+  one-written at r l out′ room e =
+      let here : out′ ≡ written out at (r ∷ []) = e ∙ write-one at r (omega arith) in
+      rw here (written-on at (r ∷ []) l (omega arith))

@@ -33,8 +33,9 @@ pub fn invert(reach: &mut [u16])
     let mut far: u16 = 0;
     let mut i: usize = 0;
     while i < reach.len() {
-        if far < reach[i] {
-            far = reach[i];
+        let high = reach[i];
+        if far < high {
+            far = high;
         }
         reach[i] = if (far as usize) < i { i as u16 } else { 0 };
         i += 1;

@@ -32,7 +32,7 @@ use Rattle.laws.proofs.ReadingYields.{reading-size}
 use Rattle.laws.proofs.Accepting.{accepted-tree}
 use Rattle.tree.proofs.Bytes.{head-fits}
 use Rattle.simplify.proofs.Few.{few}
-use Rattle.simplify.proofs.Answers.{length-rangeBytes}
+use Rattle.simplify.proofs.Sweep.{length-rangeBytes}
 use Rattle.expand.proofs.Steps.{length-records}
 
 -- What is lent: a result that fits the buffer.

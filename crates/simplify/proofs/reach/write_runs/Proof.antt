@@ -4,8 +4,8 @@ use mathlib.Core.Path.{_≡_, refl, _∙_, sym, ap}
 use native.Mathlib.Omega.{arith}
 use lib.ListN.{length, getD}
 use borrow.Author.Needs.{needs}
-use Rattle.simplify.specs.Reach.{rangeFrom, runsFrom}
-use Rattle.simplify.proofs.Sweep.{written, none-written, all-written, one-written, next-run, no-runs}
+use Rattle.simplify.specs.Reach.{rangeFrom, runsFrom, written}
+use Rattle.simplify.proofs.Sweep.{none-written, all-written, one-written, next-run, no-runs}
 use Rattle.simplify.proofs.reach.write_runs.Statement.{statement}
 use Rattle.simplify.proofs.reach.write_runs.Tie as tie
 

@@ -4,12 +4,12 @@ use Prim.Native.Nat.{ℕ, _+_, _-_}
 use mathlib.Core.Path.{_≡_, sym, ap, _∙_}
 use mathlib.Core.List.{List}
 use lib.ListN.{take, drop}
-use Rattle.notation.specs.Layers.{Range, simplified, setRanges}
+use Rattle.notation.specs.Layers.{Range, lit, simplified}
 use Rattle.notation.specs.Tree.{Layers, Span, noLayers, layerSet}
-use Rattle.notation.specs.Meaning.{layerSetIn, orEmpty}
 use Rattle.notation.specs.Refusals.{result}
 use Rattle.notation.specs.Entries.{Lent, lend, inEntries, rangeBytes, rangesIn}
 use Rattle.record.specs.Meaning.{layers}
+use Rattle.simplify.specs.Elements.{litSet}
 use Rattle.simplify.proofs.Answers.{single-real, range-real, part-inside, part-is, part-read}
 use Rattle.simplify.proofs.unspanned.simplify.Statement.{statement}
 use Rattle.simplify.proofs.unspanned.simplify.Tie as tie
@@ -17,20 +17,20 @@ use Rattle.simplify.proofs.unspanned.simplify.Tie as tie
 enum-told : tie.Need-enum-told
 enum-told c = search needs
 
-simplify-range-requires : tie.Need-simplify-range-requires
-simplify-range-requires c κs = search needs
+simplify-prefix-requires : tie.Need-simplify-prefix-requires
+simplify-prefix-requires c κs = search needs
 
 enum-known-layers : tie.Need-enum-known-layers
 enum-known-layers c = search needs
 
-simplify-range-requires-2 : tie.Need-simplify-range-requires-2
-simplify-range-requires-2 c κs = single-real (c .before .before .before .before .before .before .args .text .now) _ (ap layers (c .before .before .layers .given .1)) (c .before .before .before .before .before .before .pre .1 .1)
+simplify-prefix-requires-2 : tie.Need-simplify-prefix-requires-2
+simplify-prefix-requires-2 c κs = (single-real (c .before .before .before .before .before .before .args .text .now) _ (ap layers (c .before .before .layers .given .1)) (c .before .before .before .before .before .before .pre .1 .1), c .before .before .before .before .before .before .pre .0)
 
 enum-known-layers-2 : tie.Need-enum-known-layers-2
 enum-known-layers-2 c = search needs
 
-simplify-range-requires-3 : tie.Need-simplify-range-requires-3
-simplify-range-requires-3 c κs = range-real (c .before .before .before .before .before .before .args .text .now) _ _ (ap layers (c .before .before .layers2 .given .1)) (c .before .before .before .before .before .before .pre .1 .1)
+simplify-prefix-requires-3 : tie.Need-simplify-prefix-requires-3
+simplify-prefix-requires-3 c κs = (range-real (c .before .before .before .before .before .before .args .text .now) _ _ (ap layers (c .before .before .layers2 .given .1)) (c .before .before .before .before .before .before .pre .1 .1), c .before .before .before .before .before .before .pre .0)
 
 enum-known-layers-3 : tie.Need-enum-known-layers-3
 enum-known-layers-3 c = search needs
@@ -71,35 +71,33 @@ abbrev lent-for : tie.Start → List Range → Lent ℕ
 lent-for s l = inEntries 4 (lend (result (rangeBytes (simplified l))) (s .args .out .now))
 
 abbrev answer : tie.Start → Layers Span → Lent ℕ
-answer s l = lent-for s (rangesIn (s .args .text .now) (s .args .max-layer) (s .args .allow-negatives) l)
+answer s l = lent-for s (lit (s .args .max-layer) (s .args .inverted) (rangesIn (s .args .text .now) (s .args .max-layer) (s .args .allow-negatives) l))
 
 named : (s : tie.Start) {l : Layers Span} → layers (s .args .layers) ≡ l → answer s l ≡ answer s (layers (s .args .layers))
 named s e = ap (answer s) (sym e)
 
 of-set : (s : tie.Start) (p : Span) → layers (s .args .layers) ≡ layerSet p →
-    lent-for s
-    (setRanges (s .args .max-layer) (s .args .allow-negatives)
-    (orEmpty (layerSetIn (take (p .offset + p .size - p .offset) (drop (p .offset) (s .args .text .now))))))
+    lent-for s (litSet (s .args .max-layer) (s .args .allow-negatives) (s .args .inverted) (take (p .offset + p .size - p .offset) (drop (p .offset) (s .args .text .now))))
     ≡ answer s (layers (s .args .layers))
 of-set s p e =
-    ap (λ (part : List ℕ). lent-for s (setRanges (s .args .max-layer) (s .args .allow-negatives) (orEmpty (layerSetIn part))))
+    ap (λ (part : List ℕ). lent-for s (litSet (s .args .max-layer) (s .args .allow-negatives) (s .args .inverted) part))
     (part-is (s .args .text .now) p e (s .pre .1 .1))
     ∙ named s e
 
 returns : tie.Need-returns
-returns c = c .before .before .simplify-range .ensures ∙ named (c .before .before .before .before .before .before .before .before) {l = noLayers} (ap layers (c .before .before .before .before .enum-told .given .1))
+returns c = c .before .before .simplify-prefix .ensures ∙ named (c .before .before .before .before .before .before .before .before) {l = noLayers} (ap layers (c .before .before .before .before .enum-told .given .1))
 
 same-length-2 : tie.Need-same-length-2
 same-length-2 c = search needs
 
 returns-2 : tie.Need-returns-2
-returns-2 c = c .before .before .simplify-range2 .ensures ∙ named (c .before .before .before .before .before .before .before .before .before) (ap layers (c .before .before .before .before .before .layers .given .1))
+returns-2 c = c .before .before .simplify-prefix2 .ensures ∙ named (c .before .before .before .before .before .before .before .before .before) (ap layers (c .before .before .before .before .before .layers .given .1))
 
 same-length-3 : tie.Need-same-length-3
 same-length-3 c = search needs
 
 returns-3 : tie.Need-returns-3
-returns-3 c = c .before .before .simplify-range3 .ensures ∙ named (c .before .before .before .before .before .before .before .before .before) (ap layers (c .before .before .before .before .before .layers2 .given .1))
+returns-3 c = c .before .before .simplify-prefix3 .ensures ∙ named (c .before .before .before .before .before .before .before .before .before) (ap layers (c .before .before .before .before .before .layers2 .given .1))
 
 same-length-4 : tie.Need-same-length-4
 same-length-4 c = search needs
@@ -118,11 +116,11 @@ simplify-spec =
     tie.close
     (tie.spec
     enum-told
-    simplify-range-requires
+    simplify-prefix-requires
     enum-known-layers
-    simplify-range-requires-2
+    simplify-prefix-requires-2
     enum-known-layers-2
-    simplify-range-requires-3
+    simplify-prefix-requires-3
     enum-known-layers-3
     cast-from
     cast-to

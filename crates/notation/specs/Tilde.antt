@@ -1,0 +1,31 @@
+-- Document 02, request 3: what the two answers for one prefix, with a tilde and without, are to each other. The theorem is `lights-others` in crates/tilde/proofs/Tilde.antt.
+use Prim.Native.Nat.{ℕ}
+use mathlib.Core.Path.{_≡_}
+use mathlib.Core.Bool.{Bool, true, false, not}
+use mathlib.Core.List.{List}
+use Rattle.notation.specs.Basics.{between}
+use Rattle.notation.specs.Refusals.{Outcome, result, _>>=_}
+use Rattle.notation.specs.Layers.{Range, contains, complement}
+use Rattle.notation.specs.Tree.{Span, Layers}
+use Rattle.notation.specs.Entries.{recordAt, prefixOf, layerRanges}
+
+-- two answers that share the layers from 1 to n between them
+pub record Opposite (n : ℕ) (a b : List Range) : Type 0 where
+  -- such a layer is in exactly one of them
+  pub one : (i : ℕ) → between 1 n i ≡ true → contains b i ≡ not (contains a i)
+  -- any other number is in neither
+  pub neither : (i : ℕ) → between 1 n i ≡ false → (contains a i ≡ false) × (contains b i ≡ false)
+  -- each is the complement of the other, so that complementing twice gives either back
+  pub there : complement n a ≡ b
+  pub back : complement n b ≡ a
+
+-- the prefix of the move at a record
+abbrev pub prefixAt : List ℕ → ℕ → Outcome (Bool × Layers Span)
+prefixAt tree k = do h ← recordAt tree k; prefixOf h
+
+-- two moves over one text, of the same tree or not, whose prefixes differ in the tilde alone
+abbrev pub LightsOthers : Type 0
+LightsOthers =
+    (text tree tree′ : List ℕ) (k k′ : ℕ) (contents : Layers Span) →
+    prefixAt tree k ≡ result (false, contents) → prefixAt tree′ k′ ≡ result (true, contents) →
+    (n : ℕ) (neg : Bool) (a b : List Range) → layerRanges text tree k n neg ≡ result a → layerRanges text tree′ k′ n neg ≡ result b → Opposite n a b
