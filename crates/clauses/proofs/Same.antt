@@ -9,36 +9,19 @@ use borrow.Author.Tests.{leb-true, le-leb, ltb-true, lt-ltb, eqb-true, eq-eqb}
 use lib.Dec.{ltb, lit<}
 use lib.ListN.{length}
 use Rattle.notation.specs.Basics.{every}
-use Rattle.notation.specs.Tree.{Leaf, Node, leaf, block, Body, group, binaryGroup, nil, cons, Tree}
-use Rattle.notation.specs.Packed.{RECORD, leafHead, bodyHead, packNode, packBody, pack, unpack, size}
+use Rattle.notation.specs.Packed.{RECORD, pack, unpack, size}
 use Rattle.notation.specs.WellFormed.{MAX-NESTING, wellFormed}
 use Rattle.notation.specs.Clauses.{
   Fields, fieldsOf, kindOk, unusedOk, partsInside, groupsDeep, layersInRange, multiplierInRange, familyReads, partsRead, clauseByClause, clauses
 }
-use Rattle.numbers.proofs.Positional.{Below, below-nil, below-cons, below-append, below-tail}
-use Rattle.record.proofs.RoundTrip.{headRecord-below}
+use Rattle.numbers.proofs.Positional.{Below, below-nil, below-cons, below-tail}
 use Rattle.laws.proofs.Bools.{and-left, and-right}
-use Rattle.laws.proofs.Packing.{length-pack}
+use Rattle.laws.proofs.Packing.{length-pack, pack-below}
 use Rattle.tree.specs.Formed.{formed}
 use Rattle.tree.proofs.Formed.{Formed, formed-fact, fact-formed}
 use Rattle.clauses.proofs.Rows.{fields-length}
 use Rattle.clauses.proofs.Written.{_and_}
 use Rattle.clauses.proofs.Lists.{RecordOk, AllOk, ListOk, agree}
-
--- Packing writes bytes.
-mutual
-  unfolding packNode packBody pack
-  node-below : (n : Node Leaf) → Below 256 (packNode n)
-  node-below (leaf x) = headRecord-below (leafHead x)
-  node-below (block b m) = below-append 256 _ (packBody b) (headRecord-below (bodyHead b m)) (body-below b)
-
-  body-below : (b : Body Leaf) → Below 256 (packBody b)
-  body-below (group k a) = pack-below a
-  body-below (binaryGroup k a b) = below-append 256 (pack a) (pack b) (pack-below a) (pack-below b)
-
-  pack-below : (t : Tree) → Below 256 (pack t)
-  pack-below nil = below-nil 256 (lit< tt)
-  pack-below (cons n l) = below-append 256 (packNode n) (pack l) (node-below n) (pack-below l)
 
 bytes-below : (bs : List ℕ) → every (λ b. ltb b 256) bs ≡ true → Below 256 bs
 unfolding every

@@ -1,5 +1,5 @@
 -- What the entries that name a record come to, case by case. Assumes nothing.
-use Prim.Native.Nat.{ℕ, _+_, _-_, _*_, _/_, _≤_, _<_}
+use Prim.Native.Nat.{ℕ, _+_, _-_, _*_, _/_, _%_, _≤_, _<_}
 use mathlib.Core.Path.{_≡_, refl, sym, ap, subst, _∙_}
 use mathlib.Core.Bool.{Bool, true, false, _&&_}
 use mathlib.Core.List.{List, [], _∷_, _++_}
@@ -10,12 +10,12 @@ use lib.ListN.{length, take, drop, length-drop}
 use lib.Seq.{take-all}
 use Rattle.notation.specs.Basics.{pick, between}
 use Rattle.notation.specs.Refusals.{Outcome, refusal, result, _>>=_, _>>_, unless, NO-SUCH-LAYER-COUNT, NO-SUCH-RECORD}
-use Rattle.notation.specs.Layers.{Range, MAX-LAYER, simplified}
+use Rattle.notation.specs.Layers.{Range, MAX-LAYER, lit, simplified}
 use Rattle.notation.specs.Tree.{Span, Layers, partOf}
 use Rattle.notation.specs.Packed.{RECORD, Head, headAt, familyAt}
 use Rattle.notation.specs.WellFormed.{inside, familyOk, layersOk, constraintsOk, multiplierOk, leafOk}
 use Rattle.notation.specs.Entries.{
-  Lent, refusalNumber, recordAt, layersOf, rangesIn, layerRanges, lend, inEntries, rangeBytes, simplifyBytes, familyOf, familySpan, partIn, family, familyRefusal
+  Lent, refusalNumber, recordAt, prefixOf, rangesIn, layerRanges, lend, inEntries, rangeBytes, simplifyBytes, familyOf, familySpan, partIn, family, familyRefusal
 }
 use Rattle.record.specs.Meaning.{field, layersAt, moveAt}
 use Rattle.record.proofs.Packed.{by-kind, headAt-kind}
@@ -23,6 +23,9 @@ use Rattle.laws.proofs.Bools.{and-left, and-right}
 use Rattle.sound.specs.Sound.{Sound}
 use Rattle.sound.proofs.Outcomes.{Checks, refused}
 use Rattle.sound.proofs.Records.{HeadOk, record-ok}
+
+abbrev pub tildeAt : List ℕ → Bool
+tildeAt bs = eqb (field 0 bs / 8 % 2) 1
 
 -- What a record names, by its kind: 6 is a rotation, 7 a move.
 module _ (bs : List ℕ) (k : ℕ) (e : k ≡ field 0 bs / 16) where
@@ -32,9 +35,9 @@ module _ (bs : List ℕ) (k : ℕ) (e : k ≡ field 0 bs / 16) where
       (refl, (refl, (refl, (refl, (refl, (refl, (refl, (refl, (refl, (refl, (refl, (refl, (refl, (refl, (refl, tt)))))))))))))))
       (λ j l. rw (le-leb 6 j (omega arith), lt-leb j 7 (omega arith)))
 
-  layers-by-kind : layersOf (headAt bs) ≡ pick (eqb k 7) (result (layersAt bs)) (refusal NO-SUCH-RECORD)
-  layers-by-kind =
-      by-kind (λ (j : ℕ) (h : Head). layersOf h ≡ pick (eqb j 7) (result (layersAt bs)) (refusal NO-SUCH-RECORD)) bs k e
+  prefix-by-kind : prefixOf (headAt bs) ≡ pick (eqb k 7) (result (tildeAt bs, layersAt bs)) (refusal NO-SUCH-RECORD)
+  prefix-by-kind =
+      by-kind (λ (j : ℕ) (h : Head). prefixOf h ≡ pick (eqb j 7) (result (tildeAt bs, layersAt bs)) (refusal NO-SUCH-RECORD)) bs k e
       (refl, (refl, (refl, (refl, (refl, (refl, (refl, (refl, (refl, (refl, (refl, (refl, (refl, (refl, (refl, tt)))))))))))))))
       (λ j l. rw (ne-eqb j 7 (omega arith)))
 
@@ -47,11 +50,11 @@ module _ (bs : List ℕ) (k : ℕ) (e : k ≡ field 0 bs / 16) where
   pub family-named : 6 ≤ k → k ≤ 7 → result (familyAt (field 5 bs) (field 6 bs)) ≡ familyOf (headAt bs)
   family-named l h = rw (family-by-kind, le-leb 6 k l, le-leb k 7 h)
 
-  pub no-layers : (k ≡ 7 → ⊥) → layersOf (headAt bs) ≡ refusal NO-SUCH-RECORD
-  no-layers h = rw (layers-by-kind, ne-eqb k 7 h)
+  pub no-prefix : (k ≡ 7 → ⊥) → prefixOf (headAt bs) ≡ refusal NO-SUCH-RECORD
+  no-prefix h = rw (prefix-by-kind, ne-eqb k 7 h)
 
-  pub some-layers : k ≡ 7 → layersOf (headAt bs) ≡ result (layersAt bs)
-  some-layers h = rw (layers-by-kind, eq-eqb k 7 h)
+  pub some-prefix : k ≡ 7 → prefixOf (headAt bs) ≡ result (tildeAt bs, layersAt bs)
+  some-prefix h = rw (prefix-by-kind, eq-eqb k 7 h)
 
   -- a family that is well formed stands inside the text
   pub family-inside : (text : List ℕ) → 6 ≤ k → k ≤ 7 → HeadOk text (headAt bs) → inside text (familyAt (field 5 bs) (field 6 bs)) ≡ true
@@ -140,13 +143,13 @@ module _ (text tree : List ℕ) (k n : ℕ) (neg : Bool) (buffer : List ℕ) whe
       simplify-none h = rw (s .is, le-leb 1 n (omega arith), le-leb n MAX-LAYER high, le-ltb k (length tree / RECORD) h)
 
       module _ (h : k < length tree / RECORD) where
-        pub simplify-no-move : layersOf (headAt (found tree k)) ≡ refusal NO-SUCH-RECORD → Refused NO-SUCH-RECORD
+        pub simplify-no-move : prefixOf (headAt (found tree k)) ≡ refusal NO-SUCH-RECORD → Refused NO-SUCH-RECORD
         unfolding layerRanges
         simplify-no-move t =
             rw (s .is, le-leb 1 n (omega arith), le-leb n MAX-LAYER high, lt-ltb k (length tree / RECORD) h, sym (from text tree k s h), t)
 
-        pub simplify-move : (l : Layers Span) → layersOf (headAt (found tree k)) ≡ result l → (o : Lent ℕ) →
-            o ≡ inEntries 4 (lend (result (rangeBytes (simplified (rangesIn text n neg l)))) buffer) → o ≡ simplifyBytes text tree k n neg buffer
+        pub simplify-move : (tilde : Bool) (l : Layers Span) → prefixOf (headAt (found tree k)) ≡ result (tilde, l) → (o : Lent ℕ) →
+            o ≡ inEntries 4 (lend (result (rangeBytes (simplified (lit n tilde (rangesIn text n neg l))))) buffer) → o ≡ simplifyBytes text tree k n neg buffer
         unfolding layerRanges
-        simplify-move l t o q =
+        simplify-move tilde l t o q =
             rw (s .is, le-leb 1 n (omega arith), le-leb n MAX-LAYER high, lt-ltb k (length tree / RECORD) h, sym (from text tree k s h), t) q

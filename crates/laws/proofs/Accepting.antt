@@ -8,16 +8,17 @@ use borrow.Author.Tests.{leb-true, le-leb}
 use lib.Dec.{leb}
 use lib.ListN.{length}
 use Rattle.notation.specs.Utf8.{utf8}
-use Rattle.notation.specs.Refusals.{Outcome, result, _>>=_, _>>_, unless, orRefuse, TOO-LONG, NOT-UTF8, TOO-NESTED, NOT-NOTATION}
+use Rattle.notation.specs.Refusals.{Outcome, result, _>>=_, _>>_, unless, orRefuse, TOO-LONG, NOT-UTF8, TOO-NESTED, NOT-NOTATION, NOT-WELL-FORMED}
 use Rattle.notation.specs.Tree.{Leaf, Tree}
 use Rattle.notation.specs.Packed.{pack, unpack}
 use Rattle.notation.specs.Grammar.{notation}
 use Rattle.notation.specs.WellFormed.{wellFormed}
 use Rattle.notation.specs.Unroll.{flatten}
-use Rattle.notation.specs.Entries.{lend, nestingOk, treeIn, reading, checked, steps, MAX-TEXT, MAX-STEPS}
+use Rattle.notation.specs.Entries.{lend, textOk, nestingOk, treeIn, reading, checked, steps, MAX-TEXT, MAX-STEPS}
 use Rattle.notation.specs.Demands.{Gives}
 use Rattle.notation.specs.declared.features.Features.{Features}
 use Rattle.laws.proofs.Bools.{no-refusal}
+use Rattle.laws.proofs.Outcomes as outcomes
 
 -- what an accepted text is, and that such a text is accepted
 pub record Accepted (f : Features) (text : List ℕ) (t : Tree) : Type 0 where
@@ -60,6 +61,24 @@ pub checks : (text : List ℕ) (tree : List ℕ) (t : Tree) → length text ≤ 
     checked text tree ≡ result t
 unfolding checked
 checks text tree t l u w e = rw (le-leb (length text) MAX-TEXT l, u, w, e)
+
+-- and what a tree that is checked is
+pub record Checked (text tree : List ℕ) : Type 0 where
+  pub short : length text ≤ MAX-TEXT
+  pub isUtf8 : utf8 text ≡ true
+  pub formed : wellFormed text tree ≡ true
+
+pub checked-tree : (text tree : List ℕ) (t : Tree) → checked text tree ≡ result t → Checked text tree
+unfolding checked
+checked-tree text tree t e =
+    let ok = outcomes.after (textOk text) e in
+    let u = outcomes.after (unless TOO-LONG (leb (length text) MAX-TEXT)) (ok .1) in
+    let w = outcomes.after (unless NOT-WELL-FORMED (wellFormed text tree)) (ok .2) in
+    record {
+      short = leb-true (length text) MAX-TEXT (outcomes.held TOO-LONG (leb (length text) MAX-TEXT) (u .1));
+      isUtf8 = outcomes.held NOT-UTF8 (utf8 text) (u .2);
+      formed = outcomes.held NOT-WELL-FORMED (wellFormed text tree) (w .1);
+    }
 
 -- unrolled steps that can be counted
 pub counts-as : (text tree : List ℕ) (t : Tree) (list : List Leaf) → checked text tree ≡ result t → flatten t ≡ result list → length list ≤ MAX-STEPS →

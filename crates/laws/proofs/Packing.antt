@@ -1,12 +1,12 @@
 -- Packing and unpacking undo one another, and what that says of well-formed trees. Assumes nothing.
 use Prim.Native.Nat.{ℕ, zero, suc, _+_, _*_, _≤_, _<_}
-use mathlib.Core.Path.{_≡_, refl, sym, ap, ap₂, _∙_}
+use mathlib.Core.Path.{_≡_, refl, sym, ap, ap₂, subst, _∙_}
 use mathlib.Core.Bool.{true, _&&_}
 use mathlib.Core.List.{List, [], _∷_, _++_, append-assoc}
 use mathlib.Core.Option.{Option, none, some}
 use native.Mathlib.Omega.{arith}
 use borrow.Author.Tests.{leb-true, le-leb, eqb-true, ltb-true, lt-ltb}
-use lib.Dec.{leb}
+use lib.Dec.{leb, lit<}
 use lib.IntN.{ℤ, pos, negsuc}
 use lib.ListN.{length, take, drop, length-append}
 use lib.Seq.{take-at, drop-at, drop-drop}
@@ -23,8 +23,9 @@ use Rattle.notation.specs.Packed.{
   unpack
 }
 use Rattle.notation.specs.Entries.{MAX-TEXT}
+use Rattle.numbers.proofs.Positional.{Below, below-nil, below-append}
 use Rattle.record.specs.Range.{FitsSpan, FitsFamily, FitsConstraints, FitsLayers, FitsNumber, FitsLeaf, FitsHead}
-use Rattle.record.proofs.RoundTrip.{length-headRecord, headAt-headRecord}
+use Rattle.record.proofs.RoundTrip.{length-headRecord, headAt-headRecord, headRecord-below}
 use Rattle.record.proofs.Same.{same-refl, same-eq}
 use Rattle.laws.proofs.Bools.{and-left, and-right}
 use Rattle.laws.proofs.Fits.{familyFits, leafFits, nodeFits, bodyFits, treeFits}
@@ -247,3 +248,21 @@ pub well-formed-depth : (text tree : List ℕ) → wellFormed text tree ≡ true
 unfolding wellFormed
 well-formed-depth text tree h =
     leb-true (depth (unpack tree)) MAX-NESTING (and-right (sameList (pack (unpack tree)) tree && treeOk text (unpack tree)) _ h)
+
+-- packing writes bytes
+mutual
+  unfolding packNode packBody pack
+  node-below : (n : Node Leaf) → Below 256 (packNode n)
+  node-below (leaf x) = headRecord-below (leafHead x)
+  node-below (block b m) = below-append 256 _ (packBody b) (headRecord-below (bodyHead b m)) (body-below b)
+
+  body-below : (b : Body Leaf) → Below 256 (packBody b)
+  body-below (group k a) = pack-below a
+  body-below (binaryGroup k a b) = below-append 256 (pack a) (pack b) (pack-below a) (pack-below b)
+
+  pub pack-below : (t : Tree) → Below 256 (pack t)
+  pack-below nil = below-nil 256 (lit< tt)
+  pack-below (cons n l) = below-append 256 (packNode n) (pack l) (node-below n) (pack-below l)
+
+pub well-formed-below : (text tree : List ℕ) → wellFormed text tree ≡ true → Below 256 tree
+well-formed-below text tree h = subst (Below 256) (well-formed-packed text tree h) (pack-below (unpack tree))

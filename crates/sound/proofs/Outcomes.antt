@@ -15,6 +15,8 @@ use Rattle.notation.specs.WellFormed.{wellFormed}
 use Rattle.notation.specs.Entries.{Lent, lend, checked, refusalNumber, value, MAX-TEXT}
 use Rattle.numbers.proofs.Positional.{Below}
 use Rattle.laws.proofs.Bools.{no-refusal}
+use Rattle.laws.proofs.Packing.{well-formed-below}
+use Rattle.laws.proofs.Accepting.{checked-tree}
 use Rattle.tree.proofs.Bytes.{accepted}
 use Rattle.sound.specs.Sound.{Sound, stepsIn}
 
@@ -47,6 +49,13 @@ module _ (text tree : List ℕ) where
       let is = is-checked h u w in
       let a = accepted text tree b w in
       (rw (is, e), λ k q. record { short = h; packed = a .packed; ok = a .ok; is = is })
+
+  -- a tree that the rule accepts is sound
+  pub checked-sound : (t : Tree) → checked text tree ≡ result t → Sound text tree
+  checked-sound t e =
+      let c = checked-tree text tree t e in
+      let a = accepted text tree (well-formed-below text tree (c .formed)) (c .formed) in
+      record { short = c .short; packed = a .packed; ok = a .ok; is = is-checked (c .short) (c .isUtf8) (c .formed) }
 
 -- What an entry learns by taking that answer apart.
 pub record Known (text tree : List ℕ) (n : ℕ) : Type 0 where

@@ -27,9 +27,9 @@ use Rattle.record.specs.Range.{FitsSpan, FitsHead}
 use Rattle.record.proofs.RoundTrip.{length-headRecord, headRecord-below}
 use Rattle.laws.proofs.Bools.{no-refusal}
 use Rattle.laws.proofs.Outcomes.{same-result, after, held}
-use Rattle.laws.proofs.Packing.{length-pack, well-formed-packed}
+use Rattle.laws.proofs.Packing.{length-pack, well-formed-below}
 use Rattle.laws.proofs.ReadingYields.{reading-size}
-use Rattle.laws.proofs.Accepting.{accepted-tree}
+use Rattle.laws.proofs.Accepting.{accepted-tree, checked-tree}
 use Rattle.tree.proofs.Bytes.{head-fits}
 use Rattle.simplify.proofs.Few.{few}
 use Rattle.simplify.proofs.Sweep.{length-rangeBytes}
@@ -90,26 +90,6 @@ ranges-at-most text tree k n neg bytes e =
     omega (arith, ap length (same-result (r .2)), length-rangeBytes (r .0), few text tree k n neg (r .0) (r .1) .many)
 
 -- Families: both numbers of a part fit their fields.
-mutual
-  unfolding packNode packBody pack
-  bytes-node : (n : Node Leaf) → Below 256 (packNode n)
-  bytes-node (leaf x) = headRecord-below (leafHead x)
-  bytes-node (block b m) = below-append 256 _ _ (headRecord-below (bodyHead b m)) (bytes-body b)
-
-  bytes-body : (b : Body Leaf) → Below 256 (packBody b)
-  bytes-body (group k a) = bytes a
-  bytes-body (binaryGroup k a b) = below-append 256 _ _ (bytes a) (bytes b)
-
-  bytes : (t : Tree) → Below 256 (pack t)
-  bytes nil = below-nil 256 (lit< tt)
-  bytes (cons n l) = below-append 256 _ _ (bytes-node n) (bytes l)
-
-well-formed : (text tree : List ℕ) (t : Tree) → checked text tree ≡ result t → wellFormed text tree ≡ true
-unfolding checked
-well-formed text tree t e =
-    let w = after (unless NOT-WELL-FORMED (wellFormed text tree)) (after (textOk text) e .2) in
-    held NOT-WELL-FORMED (wellFormed text tree) (w .1)
-
 family-fits : (h : Head) (p : Span) → FitsHead h → familyOf h ≡ result p → FitsSpan p
 family-fits (leafHead (rotation f c m)) p h e = let z : f ≡ p = cc in subst FitsSpan z (h .0 .span)
 family-fits (leafHead (move t l f c m)) p h e = let z : f ≡ p = cc in subst FitsSpan z (h .1 .span)
@@ -126,8 +106,7 @@ part-fits text tree k p e =
     let c = after (checked text tree) e in
     let r = after (recordAt tree k) (c .2) in
     let h = after (unless NO-SUCH-RECORD (ltb k (length tree / RECORD))) (r .1) in
-    let w = well-formed-packed text tree (well-formed text tree (c .0) (c .1)) in
-    let b : Below 256 tree = subst (Below 256) w (bytes (unpack tree)) in
+    let b = well-formed-below text tree (checked-tree text tree (c .0) (c .1) .formed) in
     family-fits (r .0) p (subst FitsHead (same-result (h .2)) (head-fits (drop (RECORD * k) tree) (below-drop 256 (RECORD * k) tree b))) (r .2)
 
 named : (text tree : List ℕ) (k : ℕ) → Small (partNumber (familySpan text tree k))

@@ -1,6 +1,7 @@
 -- `parts::simplify` meets its contract: each way out is one case of the rule. Assumes nothing.
 use Prim.Native.Nat.{_/_, _<_}
 use mathlib.Core.Path.{_∙_, ap, sym}
+use mathlib.Core.Bool.{Bool}
 use native.Mathlib.Omega.{arith}
 use borrow.Author.Needs.{needs}
 use lib.ListN.{length}
@@ -9,9 +10,10 @@ use Rattle.notation.specs.Tree.{Span, Layers}
 use Rattle.notation.specs.Packed.{RECORD}
 use Rattle.notation.specs.WellFormed.{layersOk}
 use Rattle.notation.specs.Entries.{outcome}
+use Rattle.record.specs.Meaning.{layersAt}
 use Rattle.sound.proofs.Outcomes.{known}
 use Rattle.entries.proofs.Naming.{
-  found, sound-record, no-layers, some-layers, layers-inside, simplify-unsound, simplify-no-layers, simplify-many-layers, simplify-none, simplify-no-move, simplify-move
+  found, sound-record, no-prefix, some-prefix, layers-inside, simplify-unsound, simplify-no-layers, simplify-many-layers, simplify-none, simplify-no-move, simplify-move
 }
 use Rattle.entries.proofs.parts.simplify.Statement.{statement}
 use Rattle.entries.proofs.parts.simplify.Tie as tie
@@ -80,7 +82,10 @@ returns-5 c =
     let k = known (check .check .ensures) (ap outcome (value .enum-told .given .1)) in
     let less : a .«record» < length (a .tree .now) / RECORD = omega (arith, few .if3 .left) in
     simplify-no-move (a .text .now) (a .tree .now) (a .«record») (a .max-layer) (a .allow-negatives) (a .out .now) (k .sound) (few .before .before .if1 .left) (few .before .if2 .left) less
-    (no-layers (found (a .tree .now) (a .«record»)) (kind .kind .result) (kind .kind .ensures) (c .if4 .taken))
+    (no-prefix (found (a .tree .now) (a .«record»)) (kind .kind .result) (kind .kind .ensures) (c .if4 .taken))
+
+tilde-requires : tie.Need-tilde-requires
+tilde-requires c κs = search needs
 
 layers-requires : tie.Need-layers-requires
 layers-requires c κs = search needs
@@ -91,7 +96,7 @@ cast-simplify c = search needs
 simplify-requires : tie.Need-simplify-requires
 simplify-requires c κs =
     let named = c .before in
-    let kind = named .before .before in
+    let kind = named .before .before .before in
     let few = kind .before .before in
     let value = few .before .before .before in
     let check = value .before .before in
@@ -101,7 +106,7 @@ simplify-requires c κs =
     let ok = sound-record (a .text .now) (a .tree .now) (a .«record») (k .sound) less in
     (record { low = omega (arith, few .before .before .if1 .left); high = few .before .if2 .left },
       (k .sound .short, ap (λ (l : Layers Span). layersOk (a .text .now) l) (named .layers .ensures)
-          ∙ layers-inside (found (a .tree .now) (a .«record»)) (kind .kind .result) (kind .kind .ensures) (a .text .now) (named .before .if4 .left) ok))
+          ∙ layers-inside (found (a .tree .now) (a .«record»)) (kind .kind .result) (kind .kind .ensures) (a .text .now) (named .before .before .if4 .left) ok))
 
 same-length : tie.Need-same-length
 same-length c = search needs
@@ -110,7 +115,7 @@ returns-6 : tie.Need-returns-6
 returns-6 c =
     let call = c .before .before in
     let named = call .before .before in
-    let kind = named .before .before in
+    let kind = named .before .before .before in
     let few = kind .before .before in
     let value = few .before .before .before in
     let check = value .before .before in
@@ -118,7 +123,11 @@ returns-6 c =
     let k = known (check .check .ensures) (ap outcome (value .enum-told .given .1)) in
     let less : a .«record» < length (a .tree .now) / RECORD = omega (arith, few .if3 .left) in
     simplify-move (a .text .now) (a .tree .now) (a .«record») (a .max-layer) (a .allow-negatives) (a .out .now) (k .sound) (few .before .before .if1 .left) (few .before .if2 .left) less
-    _ (some-layers (found (a .tree .now) (a .«record»)) (kind .kind .result) (kind .kind .ensures) (named .before .if4 .left) ∙ ap result (sym (named .layers .ensures))) _ (call .simplify .ensures)
+    (named .before .tilde .result) _
+    (some-prefix (found (a .tree .now) (a .«record»)) (kind .kind .result) (kind .kind .ensures) (named .before .before .if4 .left)
+      ∙ ap (λ (t : Bool). result (t, layersAt (found (a .tree .now) (a .«record»)))) (sym (named .before .tilde .ensures))
+      ∙ ap (λ (l : Layers Span). result (named .before .tilde .result, l)) (sym (named .layers .ensures)))
+    _ (call .simplify .ensures)
 
 pub simplify-spec : {M : Type 1} → statement M
 simplify-spec =
@@ -137,6 +146,7 @@ simplify-spec =
     part-found-end
     kind-requires
     returns-5
+    tilde-requires
     layers-requires
     cast-simplify
     simplify-requires
