@@ -1,6 +1,7 @@
 /* One call of one C function on a text from standard input, for callgrind to count: calls OPERATION. What is counted is the function `measured`
  * (--toggle-collect=measured); reading the tree and lending the buffer are outside. Operations as in main.rs, and `check`: all that a call does
- * before it looks at anything but text and tree (the family of a record that is not there); `seek K`: place K; `read curly`: reading with
+ * before it looks at anything but text and tree (the family of a record that is not there); of the two ranges one has a tilde put into the move and the
+ * other has it taken away; `seek K`: place K; `read curly`: reading with
  * curly primes admitted, where the header has them.
  * calls OPERATION CALLS times as many calls, twelve times, and prints the least: nanoseconds of a call. PAD bytes of code stand before the library's,
  * which so lies elsewhere (placements.py). */
@@ -19,7 +20,7 @@
 __asm__(SKIP(PAD));
 #endif
 
-enum { LONGEST = 1 << 16 }; /* texts of up to so many bytes are handed over */
+enum { LONGEST = 1 << 16, TILDE = 8 }; /* texts of up to so many bytes are handed over; a move's tilde, in the first byte of its record */
 
 struct call {
     const char *operation;
@@ -97,12 +98,15 @@ int main(int argc, char **argv) {
     if (hypuz_refusal(n) || n == 0) return 4;
     c.place = is(&c, "seek last") ? n - 1 : sscanf(c.operation, "seek %" SCNu64, &c.place) == 1 ? c.place : n * 2 / 3;
     c.record = middle(&c);
+    uint8_t *move = tree + c.record * HYPUZ_RECORD;
+    int tilde = is(&c, "ranges with a tilde"), ranges = tilde || is(&c, "ranges");
+    if (ranges && c.record * HYPUZ_RECORD < c.tree_size) *move = (uint8_t)((*move & ~TILDE) | (tilde ? TILDE : 0));
     size_t list = is(&c, "flatten") ? n * HYPUZ_RECORD : HYPUZ_RECORD;
     if (n > 10000000 && is(&c, "flatten")) return 4;
     c.out_size = is(&c, "display") ? 2 * c.text_size + 64 : list > c.tree_size ? list : c.tree_size;
     c.out = calloc(c.out_size, 1);
     function *write = writer(&c);
-    enum which which = is(&c, "read") ? READ : is(&c, "read curly") ? READ_CURLY : is(&c, "check") ? CHECK : is(&c, "count") ? COUNT : is(&c, "ranges") ? RANGES : write ? WRITE : SEEK;
+    enum which which = is(&c, "read") ? READ : is(&c, "read curly") ? READ_CURLY : is(&c, "check") ? CHECK : is(&c, "count") ? COUNT : ranges ? RANGES : write ? WRITE : SEEK;
     a = measured(which, write, &c);
     if (hypuz_refusal(a) || (which == CHECK && a)) return 5;
     if (argc == 3) printf("%.1f\n", timed(which, write, &c, atoi(argv[2])));

@@ -13,7 +13,7 @@ import sys
 from turns import ROOT, program
 
 OUT = os.path.join(ROOT, "target", "bench")
-OPERATIONS = ("read", "read curly", "check", "display", "inv", "inv_deep", "flatten", "count", "seek", "seek last", "ranges")
+OPERATIONS = ("read", "read curly", "check", "display", "inv", "inv_deep", "flatten", "count", "seek", "seek last", "ranges", "ranges with a tilde")
 KINDS = ("moves", "groups", "sets", "constraints", "square-1", "megaminx")
 PASSED = (
     ("levels round 4,000 moves", (0, 8, 16, 32, 64)),

@@ -15,7 +15,12 @@ use std::time::{Duration, Instant};
 
 const KINDS: [&str; 6] = ["moves", "groups", "sets", "constraints", "square-1", "megaminx"];
 const SIZES: [usize; 3] = [100, 3_000, 64_000];
-const OPERATIONS: [&str; 10] = ["read", "display", "inv", "inv_deep", "flatten", "count", "seek", "seek last", "ranges", "ranges of one record"];
+const OPERATIONS: [&str; 12] =
+    ["read", "display", "inv", "inv_deep", "flatten", "count", "seek", "seek last", "ranges", "ranges of one record", WITH_TILDE, OF_ONE_WITH_TILDE];
+const WITH_TILDE: &str = "ranges with a tilde";
+const OF_ONE_WITH_TILDE: &str = "ranges of one record with a tilde";
+/// A move's tilde, in the first byte of its record.
+const TILDE: u8 = 8;
 const ROUNDS: usize = 4;
 const SAMPLES: usize = 7;
 const SAMPLE: f64 = 2e6;
@@ -154,6 +159,7 @@ fn agree(both: &Both) {
     let n = ours::flatten(text, &c.tree, &mut out).unwrap() as usize;
     let steps = list.flatten().unwrap();
     assert_eq!((printed(&out[..n]), n / RECORD), (steps.to_string(), steps.len()));
+    ranges_agree(both);
 }
 
 /// Nanoseconds of a call: the best of several samples of about two milliseconds.
@@ -197,6 +203,46 @@ fn best_apart<A, R>(make: impl Fn() -> A, f: impl Fn(A) -> R) -> f64 {
         .fold(f64::MAX, f64::min)
 }
 
+/// The tree and the number of the move whose layer ranges are asked for: the whole tree, or the move alone, which is a tree too over the same text; with a tilde put
+/// in, or taken away.
+fn asked(c: &Case, operation: &str) -> Option<(Vec<u8>, u64)> {
+    let at = c.record? as usize * RECORD;
+    let mut tree = c.tree.clone();
+    let tilde = [WITH_TILDE, OF_ONE_WITH_TILDE].contains(&operation);
+    tree[at] = tree[at] & !TILDE | if tilde { TILDE } else { 0 };
+    let alone = operation.starts_with("ranges of one record");
+    Some(if alone { (tree[at..][..RECORD].to_vec(), 0) } else { (tree, c.record?) })
+}
+
+/// What one would write with the Rust for a tilde, which its `simplify` does not know: the layers between what it gives.
+fn others(contents: &LayerPrefixContents) -> Vec<LayerRange> {
+    let range = |low, high| LayerRange::new(Layer::new(low).unwrap(), Layer::new(high).unwrap());
+    let (mut found, mut next) = (vec![], 1);
+    for given in contents.simplify(AXIS).map_or(vec![], |c| c.to_ranges(AXIS)) {
+        if next < given.start().to_u16() {
+            found.push(range(next, given.start().to_u16() - 1));
+        }
+        next = given.end().to_u16() + 1;
+    }
+    if next <= AXIS.max_layer {
+        found.push(range(next, AXIS.max_layer));
+    }
+    found
+}
+
+/// Layer ranges are the same on both sides, with a tilde and without.
+fn ranges_agree(both: &Both) {
+    let Some(contents) = &both.layers else { return };
+    let plain = contents.simplify(AXIS).map_or(vec![], |c| c.to_ranges(AXIS));
+    for (operation, want) in [("ranges", &plain), ("ranges of one record", &plain), (WITH_TILDE, &others(contents)), (OF_ONE_WITH_TILDE, &others(contents))] {
+        let (tree, record) = asked(&both.ours, operation).unwrap();
+        let written: Vec<u8> = want.iter().flat_map(|r| [r.start(), r.end()]).flat_map(|l| l.to_u16().to_be_bytes()).collect();
+        let mut out = vec![0; written.len()];
+        let found = ours::simplify(both.ours.text.as_bytes(), &tree, record, AXIS.max_layer.into(), AXIS.allow_negatives, &mut out);
+        assert_eq!((found, out), (Ok(want.len() as u64), written), "{operation}");
+    }
+}
+
 /// One call of ours, with all that it needs at hand.
 fn our_call<'a>(c: &'a Case, operation: &str) -> Option<Box<dyn FnMut() + 'a>> {
     let (text, tree) = (c.text.as_bytes(), &c.tree[..]);
@@ -218,15 +264,9 @@ fn our_call<'a>(c: &'a Case, operation: &str) -> Option<Box<dyn FnMut() + 'a>> {
             Box::new(move || assert!(black_box(ours::seek_step(black_box(text), tree, place, &mut out)).is_ok()))
         }
         _ => {
-            let mut record = c.record?;
-            let mut tree = tree;
-            if operation != "ranges" {
-                // The move alone is a tree too, over the same text.
-                tree = &tree[record as usize * RECORD..][..RECORD];
-                record = 0;
-            }
+            let (tree, record) = asked(c, operation)?;
             Box::new(move || {
-                let a = ours::simplify(black_box(text), tree, record, AXIS.max_layer.into(), AXIS.allow_negatives, &mut out);
+                let a = ours::simplify(black_box(text), &tree, record, AXIS.max_layer.into(), AXIS.allow_negatives, &mut out);
                 assert!(black_box(a).is_ok())
             })
         }
@@ -252,6 +292,10 @@ fn rust_time(both: &Both, operation: &str) -> f64 {
         "seek" | "seek last" => {
             let place = place(c, operation) as usize;
             best_apart(|| (), |()| black_box(list).flatten().map(|l| (l[place].clone(), l)))
+        }
+        WITH_TILDE | OF_ONE_WITH_TILDE => {
+            let contents = both.layers.as_ref().unwrap();
+            best_apart(|| (), |()| others(black_box(contents)))
         }
         _ => {
             let contents = both.layers.as_ref().unwrap();
@@ -458,6 +502,7 @@ fn main() {
             "count" => "flatten",
             "seek" | "seek last" => "flatten and index",
             "ranges" | "ranges of one record" => "simplify",
+            WITH_TILDE | OF_ONE_WITH_TILDE => "simplify and a loop",
             other => other,
         });
     }

@@ -5,7 +5,7 @@
 //! The Rust is left out: its own tree of the longest text would take many gigabytes.
 use crate::ours::{self, RECORD};
 use crate::reader::LONGEST;
-use crate::{Case, OPERATIONS, Piece, best_of, filled, our_call, piece, place, read};
+use crate::{Case, OPERATIONS, Piece, WITH_TILDE, asked, best_of, filled, our_call, piece, place, read};
 
 const SIZES: [usize; 3] = [64_000, 1_000_000, LONGEST];
 const KINDS: [&str; 9] = ["moves", "groups", GROUP, COMMUTATOR, LAYERS, CONSTRAINTS, FAMILY, "square-1 as printed", "megaminx"];
@@ -99,12 +99,15 @@ fn inverted(c: &Case) {
     }
 }
 
-/// The layers of the set are one range, also on the axis with most layers, whose table is the largest.
+/// The layers of the set are one range, also on the axis with most layers, whose table is the largest; with a tilde so are all behind them.
 fn ranged(c: &Case) {
     let Some(record) = c.record else { return };
     let mut range = [0; 4];
     assert_eq!(ours::simplify(c.text.as_bytes(), &c.tree, record, MOST_LAYERS, true, &mut range), Ok(1));
     assert_eq!(range, [0, 1, 0, LAYER_COUNT as u8]);
+    let (tree, record) = asked(c, WITH_TILDE).expect("it has a move");
+    assert_eq!(ours::simplify(c.text.as_bytes(), &tree, record, MOST_LAYERS, true, &mut range), Ok(1));
+    assert_eq!(range, [0, LAYER_COUNT as u8 + 1, 0x7f, 0xff]);
 }
 
 /// An operation with its nanoseconds a byte at each size.
@@ -135,7 +138,7 @@ struct Above {
 /// The operations that a text has, each with its nanoseconds a byte.
 fn times(c: &Case) -> Vec<(&'static str, f64)> {
     let timed = |operation| Some((operation, best_of(SAMPLE, our_call(c, operation)?) / c.text.len() as f64));
-    OPERATIONS.into_iter().filter(|o| *o != "ranges of one record").filter_map(timed).collect()
+    OPERATIONS.into_iter().filter(|o| !o.starts_with("ranges of one record")).filter_map(timed).collect()
 }
 
 /// The rows of a kind. One text at a time is in memory, with its tree and one buffer.

@@ -1,7 +1,8 @@
 #!/usr/bin/env python3
 """Calls of the two forms after the core and the lines that they are to write, for run.sh.
 
-cases.py CALLS LINES writes Rattle statements to the one file and the expected output to the other. What is expected comes from tests/reference/notation.py."""
+cases.py FOLDER writes pieces there, Rattle statements to calls.000 and so on and the expected output to lines.000 and so on. What is expected comes from
+tests/reference/notation.py."""
 import os
 import random
 import sys
@@ -12,6 +13,10 @@ import notation as n
 ROOM = 3
 KEPT = "7 77 "
 LAYERS = ["", "2", "7", "3-5", "9-2", "{1,3..5,-2}", "{-1..4}", "{2,-4..-2,8}", "{1-3,7}", "{1,3,5,7}", "{}", "{ 4 , 4 }", "{-9..-7,9}", "32767", "{32767,-32767}"]
+# with a tilde: the request's examples, the ends of the axis, as many ranges as are lent or one more, the borders of the tables, other records
+TILDES = [("~2R", 0, 5, False), ("~R", 0, 1, False), ("~{5..9}R", 0, 3, False), ("~{2,4}R", 0, 5, True), ("~{2,4,6}R", 0, 7, True), ("~{2,4,6}R", 0, 6, True), ("~{1,3,5,7}R", 0, 7, True), ("~{1,3,5,7}R", 0, 8, True),
+          ("~1-3R", 0, 3, True), ("~1-3R", 0, 4, True), ("~{-1}R", 0, 5, True), ("~{-1}R", 0, 5, False), ("~{}R", 0, 9, True), ("~9R", 0, 5, True), ("~{1,127}R", 0, 127, True), ("~{1,127}R", 0, 128, True), ("~{1,-1}R", 0, 129, True),
+          ("~{2}R", 0, 32767, True), ("~R", 0, 32767, True), ("(~U)2 ~2-4R 2R", 1, 3, True), ("(~U)2 ~2-4R 2R", 2, 5, True), ("(~U)2 ~2-4R 2R", 3, 5, True), ("~R", 0, 0, True), ("~R", 0, 32768, True), ("~R", 1, 5, True)]
 FAMILIES = ["R", "U", "Rw", "\u03a9\u03c9", "x_y", "IR"]
 SETS = ["", "", "{}", "{a->b}", "{ R<>U , F }", "{R->}", "{a,b", "{R -> F,L<>B}"]
 TIMES = ["", "2", "'", "3'", "0", "007", "2147483647'", "2147483648", "\u2019", "2\u2032", "\u2032'", "0\u2019", "\u2018"]
@@ -79,7 +84,7 @@ def cases(r):
     for size in [65535, 65536]:
         yield first_of_pauses(size)
     for text, record, max_layer, negatives in [("{1,3..5,-2}R2'", 0, 9, True), ("{1,3..5,-2}R2'", 0, 9, False), ("{1,3,5,7}R", 0, 9, True), ("U R", 1, 0, True),
-                                               ("(U)2 R", 0, 9, True), ("(U)2 2-4R", 2, 3, True), ("R", 0, 32768, True), ("R", 1, 9, True)]:
+                                               ("(U)2 R", 0, 9, True), ("(U)2 2-4R", 2, 3, True), ("R", 0, 32768, True), ("R", 1, 9, True), *TILDES]:
         yield ranges_of(text.encode(), record, max_layer, negatives)
     for _ in range(250):
         moves = [r.choice(["", "~"]) + r.choice(LAYERS) + r.choice(FAMILIES) for _ in range(r.randint(1, 3))] + r.choice([[], ["(R)2"], ["@"]])
@@ -94,12 +99,28 @@ def cases(r):
         yield walked(text.encode(), r.choice(SETTINGS))
 
 
+# The interpreter takes at most ten million steps. A layer set with a tilde on the longest axis takes 3.7 million of them, most other calls some ten thousand.
+STEPS, HEAVY, LIGHT = 9000000, 4000000, 80000
+
+
+def pieces(found):
+    """The cases in parts, none of which takes too many steps."""
+    piece, left = [], STEPS
+    for call, line in found:
+        steps = HEAVY if ", 32767," in call and "{" in call else LIGHT
+        if steps > left:
+            yield piece
+            piece, left = [], STEPS
+        piece.append((call, line))
+        left -= steps
+    yield piece
+
+
 def main():
-    found = list(cases(random.Random(7)))
-    with open(sys.argv[1], "w") as calls, open(sys.argv[2], "w") as lines:
-        for call, line in found:
-            calls.write(f"    {call}\n")
-            lines.write(line + "\n")
+    for k, piece in enumerate(pieces(cases(random.Random(7)))):
+        for name, column, form in (("calls", 0, "    {}\n"), ("lines", 1, "{}\n")):
+            with open(os.path.join(sys.argv[1], f"{name}.{k:03}"), "w") as f:
+                f.write("".join(form.format(case[column]) for case in piece))
 
 
 main()

@@ -10,7 +10,9 @@
 #include <unistd.h>
 
 /* STEPS: lists that fit into the region for buffers. COUNT: a record ends with its count, so many bytes. */
-enum { GUARD = 64, MOST = 1 << 16, OUTS = 1 << 14, STEPS = (OUTS - GUARD) / HYPUZ_RECORD, COUNT = 5 };
+enum { GUARD = 64, MOST = 1 << 16, OUTS = 1 << 14, STEPS = (OUTS - GUARD) / HYPUZ_RECORD, COUNT = 5, LAYERS = 32767 };
+/* In the first byte of a move's record: its tilde, and the form of its layers. */
+enum { TILDE = 8, FORM = 6 };
 
 static void demand(int holds, const char *what) {
     if (!holds) {
@@ -23,7 +25,7 @@ static void demand(int holds, const char *what) {
 __attribute__((section("__libfuzzer_extra_counters"))) static uint8_t seen[16 * 16 + 256 + 64 + 64];
 
 /* The same answers counted over the whole run, printed at its end. */
-static const char *const functions[] = {"parse_notation", "display", "inv", "inv_deep", "count_steps", "flatten", "seek_step", "simplify", "family", "parse_notation of signs"};
+static const char *const functions[] = {"parse_notation", "display", "inv", "inv_deep", "count_steps", "flatten", "seek_step", "simplify", "family", "parse_notation of signs", "simplify without a tilde", "simplify with a tilde"};
 static uint64_t totals[16][16];
 
 static void print_totals(void) {
@@ -192,6 +194,43 @@ static void twice(call *f, const struct input *i, uint64_t size, const char *wha
     free(again);
 }
 
+/* Counts in `lit` each layer that an answer has, and checks its form: sorted, none touching, all on the axis. */
+static void light(const struct input *i, uint8_t *lit) {
+    static uint8_t out[4 * (LAYERS + 1) / 2];
+    uint64_t n = simplify(i, out, sizeof out), after = 0;
+    demand(!hypuz_refusal(n), "layer ranges with all the room that they can need");
+    for (const uint8_t *r = out; r < out + 4 * n; r += 4) {
+        uint64_t low = field(r, 2), high = field(r + 2, 2);
+        demand(low > after && low <= high && high <= i->layers, "layer ranges sorted, not touching, on the axis");
+        for (uint64_t layer = low; layer <= high; layer++) lit[layer]++;
+        after = high + 1;
+    }
+}
+
+/* Request 3 by its own words: a move with its tilde and without, and each layer in exactly one of the two answers. Neither is made here; only that no contents
+ * mean layer 1 is known. */
+static void other_layers(const struct input *i) {
+    static uint8_t with[LAYERS + 1], without[LAYERS + 1];
+    uint8_t *tree = malloc(i->tree_size), *record = tree + i->record * HYPUZ_RECORD;
+    memcpy(tree, i->tree, i->tree_size);
+    int tilde = (*record & TILDE) != 0;
+    totals[10 + tilde][0]++;
+    note(16 * (10 + tilde));
+    struct input other = *i;
+    other.tree = tree;
+    memset(with, 0, sizeof with);
+    memset(without, 0, sizeof without);
+    *record |= TILDE;
+    light(&other, with);
+    *record ^= TILDE;
+    light(&other, without);
+    for (uint32_t layer = 1; layer <= i->layers; layer++) {
+        demand(with[layer] + without[layer] == 1, "each layer either with the tilde or without");
+        demand(*record & FORM || without[layer] == (layer == 1), "no contents: layer 1");
+    }
+    free(tree);
+}
+
 static void every(const struct input *i, size_t room) {
     uint64_t whole = fits(parse, i, room, 1, "reading");
     uint64_t shown = fits(display, i, room, 1, "printing");
@@ -214,6 +253,7 @@ static void every(const struct input *i, size_t room) {
         return;
     }
     demand(r == 0, "printing a tree that is well formed");
+    if (hypuz_refusal(turned) == 0 || hypuz_refusal(turned) == 5) other_layers(i);
     counted(i->tree, i->tree_size, "a wrong count is refused 6");
     twice(inv, i, shallow, "inverse twice");
     twice(inv_deep, i, deep, "deep inverse twice");
@@ -391,8 +431,8 @@ int LLVMFuzzerTestOneInput(const uint8_t *data, size_t size) {
     if (size < 16) return 0;
     struct input i = {0};
     i.features = (data[0] & 128 ? HYPUZ_MAXIMAL : data[0]) | (data[2] & 32 ? HYPUZ_CURLY_PRIMES : 0);
-    /* 1 to 16 layers, most of the time. */
-    i.layers = data[2] & 64 ? (uint32_t)data[1] << (data[2] & 15) : 1 + data[1] % 16u;
+    /* 1 to 16 layers, most of the time; now and then as many as there can be. */
+    i.layers = !(data[2] & 64) ? 1 + data[1] % 16u : data[1] % 8 == 7 ? LAYERS - (data[2] & 1u) : (uint32_t)data[1] << (data[2] & 15);
     i.negatives = data[2] >> 7;
     i.place = (uint64_t)data[3] << (data[4] & 63);
     i.record = data[5] == 255 ? UINT64_MAX - data[6] : data[5] & 31;

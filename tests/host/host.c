@@ -127,10 +127,62 @@ static void ranges(const char *text, uint32_t layers, uint32_t negatives, const 
     for (uint64_t i = 0; i < n && i < 16; i++)
         sprintf(list + strlen(list), "%s%d-%d", i ? "," : "", out[4 * i] * 256 + out[4 * i + 1], out[4 * i + 2] * 256 + out[4 * i + 3]);
     expect(strcmp(list, shown) == 0 && untouched(4 * n), "layer ranges", text);
+    out = lend();
+    expect(hypuz_simplify(bytes(text), strlen(text), tree, size, 0, layers, negatives, out, 4 * n) == n && untouched(4 * n), "layer ranges in an exact fit", text);
     if (n > 0) {
         out = lend();
         expect(hypuz_simplify(bytes(text), strlen(text), tree, size, 0, layers, negatives, out, 4 * n - 1) == refused(5) && untouched(0), "layer ranges in a short buffer", text);
     }
+}
+
+/* A tilde lights the layers that the same prefix without it does not. */
+static void tildes(void) {
+    ranges("~2R", 5, 0, "1-1,3-5");
+    ranges("~R", 1, 0, "");
+    ranges("~R", 2, 0, "2-2");
+    ranges("~{5..9}R", 3, 0, "1-3");
+    ranges("~{1,3,2,-1}R", 5, 1, "4-4");
+    ranges("~{1,3,2,-1}R", 5, 0, "4-5");
+    ranges("~{-1}R", 5, 0, "1-5");
+    ranges("~{-1}R", 5, 7, "1-4");
+    ranges("~{}R", 3, 0, "1-3");
+    ranges("~9R", 3, 0, "1-3");
+    ranges("~1-3R", 3, 0, "");
+    ranges("~2-9R", 3, 0, "1-1");
+    ranges("~{5..1}R", 5, 0, "");
+    ranges("~{2,126}Rw{A}2'", 127, 0, "1-1,3-125,127-127");
+    ranges("~{2,126}Rw{A}2'", 128, 0, "1-1,3-125,127-128");
+    ranges("~32767R", 32767, 0, "1-32766");
+    ranges("~{1}R", 32767, 0, "2-32767");
+    uint8_t tree[ROOM];
+    size_t size = read_text("(~2R)2 .", tree);
+    uint8_t *out = lend();
+    expect(hypuz_simplify(bytes("(~2R)2 ."), 8, tree, size, 1, 0, 0, out, 0) == refused(11) && untouched(0), "refusal 11 with a tilde", "0 layers");
+    expect(hypuz_simplify(bytes("(~2R)2 ."), 8, tree, size, 1, 32768, 0, out, 0) == refused(11) && untouched(0), "refusal 11 with a tilde", "32,768 layers");
+    expect(hypuz_simplify(bytes("(~2R)2 ."), 8, tree, size, 0, 5, 0, out, 0) == refused(12) && untouched(0), "refusal 12 beside a tilde", "a group");
+    expect(hypuz_simplify(bytes("(~2R)2 ."), 8, tree, size, 1, 5, 0, out, 7) == refused(5) && untouched(0), "refusal 5 with a tilde", "room for one range and a half");
+    expect(hypuz_simplify(bytes("(~2R)2 ."), 8, tree, size, 1, 5, 0, out, 8) == 2 && memcmp(out, "\0\1\0\1\0\3\0\5", 8) == 0 && untouched(8), "a tilde in a group", "(~2R)2 .");
+}
+
+enum { LAYERS = 32767, RANGES = (LAYERS + 1) / 2 };
+
+/* Every second layer from `first` on as a layer set, on the longest axis: its answer is every second layer from `lit` on, `n` of them. */
+static void every_second(const char *sign, int first, int lit, size_t n) {
+    char *text = malloc(7 * RANGES + 9);
+    size_t at = (size_t)sprintf(text, "%s{%d", sign, first);
+    for (int layer = first + 2; layer <= LAYERS; layer += 2) at += (size_t)sprintf(text + at, ",%d", layer);
+    at += (size_t)sprintf(text + at, "}R");
+    uint8_t tree[HYPUZ_RECORD], *out = malloc(4 * RANGES + 1);
+    expect(hypuz_parse_notation(bytes(text), at, features, tree, sizeof tree) == sizeof tree, "reading", "every second layer");
+    memset(out, FILL, 4 * RANGES + 1);
+    expect(hypuz_simplify(bytes(text), at, tree, sizeof tree, 0, LAYERS, 0, out, 4 * n - 1) == refused(5) && out[0] == FILL && memcmp(out, out + 1, 4 * RANGES) == 0, "refusal 5", "every second layer");
+    expect(hypuz_simplify(bytes(text), at, tree, sizeof tree, 0, LAYERS, 0, out, 4 * n) == n && out[4 * n] == FILL, "as many ranges", "every second layer");
+    int wrong = 0;
+    for (size_t k = 0; k < n; k++)
+        for (size_t end = 4 * k; end < 4 * k + 4; end += 2) wrong += out[end] * 256 + out[end + 1] != lit + 2 * (int)k;
+    expect(!wrong, "each of them", "every second layer");
+    free(text);
+    free(out);
 }
 
 /* Every function that takes a tree refuses it with 6 and writes nothing, also where another refusal would follow. */
@@ -287,6 +339,11 @@ int main(void) {
     ranges("{2..9}R", 3, 0, "2-3");
     ranges("{5..9}R", 3, 0, "");
     ranges("R", 3, 0, "1-1");
+    tildes();
+    every_second("", 1, 1, RANGES);
+    every_second("~", 2, 1, RANGES);
+    every_second("", 2, 2, RANGES - 1);
+    every_second("~", 1, 2, RANGES - 1);
     refusals();
     every_count();
     curly_primes();

@@ -7,7 +7,7 @@
 #include <stdlib.h>
 #include <string.h>
 
-enum { LIMIT = 16777215, PAIRS = 3355443, STEPS = 2 * PAIRS, MANY = LIMIT / 2 + 1, FILL = 0xa5 };
+enum { LIMIT = 16777215, PAIRS = 3355443, STEPS = 2 * PAIRS, MANY = LIMIT / 2 + 1, FILL = 0xa5, TILDE = 8 }; /* TILDE: its bit in the first byte of a record */
 
 static int checks, failures;
 static uint8_t *text, *other, *tree, *out, *back;
@@ -184,7 +184,7 @@ static void behind_signs(void) {
     const uint8_t *last = tree + size - HYPUZ_RECORD;
     expect(hypuz_family(text, LIMIT, tree, size, records - 1) == ((uint64_t)(before + 9) << 24 | 2), "the family");
     expect(hypuz_display(text, LIMIT, last, HYPUZ_RECORD, out, 17) == 17 && memcmp(out, "~{2,4..5}Rw{A,B}'", 17) == 0, "all its parts");
-    expect(hypuz_simplify(text, LIMIT, tree, size, records - 1, 9, 0, out, 8) == 2 && memcmp(out, "\0\2\0\2\0\4\0\5", 8) == 0, "the layers of its set");
+    expect(hypuz_simplify(text, LIMIT, tree, size, records - 1, 9, 0, out, 12) == 3 && memcmp(out, "\0\1\0\1\0\3\0\3\0\6\0\11", 12) == 0, "the layers that its set leaves");
     expect(hypuz_seek_step(text, LIMIT, tree, size, records - 1, out, HYPUZ_RECORD) == HYPUZ_RECORD && memcmp(out, last, HYPUZ_RECORD) == 0, "and the step");
     expect(hypuz_display(text, LIMIT, tree + (records / 2) * HYPUZ_RECORD, HYPUZ_RECORD, out, 2) == 2 && memcmp(out, "U'", 2) == 0, "and one in the middle");
 }
@@ -212,13 +212,18 @@ static void parts(void) {
     memcpy(text + LIMIT - 17, "~{2,4..5}Rw{A,B}'", 17);
     expect(reads(text, LIMIT, tree) == HYPUZ_RECORD && hypuz_family(text, LIMIT, tree, HYPUZ_RECORD, 0) == ((uint64_t)(LIMIT - 8) << 24 | 2), "a family near the end");
     expect(hypuz_display(text, LIMIT, tree, HYPUZ_RECORD, out, 17) == 17 && memcmp(out, text + LIMIT - 17, 17) == 0, "all parts at the end, printed");
-    expect(hypuz_simplify(text, LIMIT, tree, HYPUZ_RECORD, 0, 9, 0, out, 8) == 2 && memcmp(out, "\0\2\0\2\0\4\0\5", 8) == 0, "and the layers of the set");
-    size_t from = put(text, "{"), elements = 8000000;
+    expect(hypuz_simplify(text, LIMIT, tree, HYPUZ_RECORD, 0, 9, 0, out, 12) == 3 && memcmp(out, "\0\1\0\1\0\3\0\3\0\6\0\11", 12) == 0, "and the layers that the set leaves");
+    size_t from = put(text, "~{"), elements = 8000000;
     for (size_t i = 0; i < elements; i++) text[from + 2 * i] = "1357"[i % 4], text[from + 2 * i + 1] = i + 1 < elements ? ',' : '}';
     memset(text + from + 2 * elements, ' ', LIMIT - from - 2 * elements);
     put(text + from + 2 * elements, "R{A}");
     expect(reads(text, LIMIT, tree) == HYPUZ_RECORD, "a set of eight million elements");
-    expect(hypuz_simplify(text, LIMIT, tree, HYPUZ_RECORD, 0, 6, 1, out, 100) == 3 && memcmp(out, "\0\1\0\1\0\3\0\3\0\5\0\5", 12) == 0, "its layers");
+    expect(hypuz_simplify(text, LIMIT, tree, HYPUZ_RECORD, 0, 6, 1, out, 12) == 3 && memcmp(out, "\0\2\0\2\0\4\0\4\0\6\0\6", 12) == 0, "the layers that it leaves");
+    expect(hypuz_simplify(text, LIMIT, tree, HYPUZ_RECORD, 0, 7, 1, out, 12) == 3 && hypuz_simplify(text, LIMIT, tree, HYPUZ_RECORD, 0, 7, 1, out, 11) == refused(5), "of seven layers three");
+    expect(hypuz_simplify(text, LIMIT, tree, HYPUZ_RECORD, 0, 32767, 1, out, 16) == 4 && memcmp(out + 12, "\0\10\177\377", 4) == 0, "of the longest axis four");
+    tree[0] ^= TILDE;
+    expect(hypuz_simplify(text, LIMIT, tree, HYPUZ_RECORD, 0, 6, 1, out, 100) == 3 && memcmp(out, "\0\1\0\1\0\3\0\3\0\5\0\5", 12) == 0, "its layers without the tilde");
+    tree[0] ^= TILDE;
     expect(hypuz_display(text, LIMIT, tree, HYPUZ_RECORD, out, room) == from + 2 * elements + 4 && memcmp(out, text, from + 2 * elements + 4) == 0, "and its text");
 }
 

@@ -4,12 +4,17 @@
 //! what reading, both inverses, unrolling and seeking write; the lists, offsets and lengths that reading writes against places.rs; all other fields by what is
 //! printed and answered.
 //!
-//! `compare [TREES] [SEED]` prints how often each comparison was made and how often it differed, with the shortest text that differs.
+//! The Rust's `simplify` knows no tilde: layer ranges with one are held against what its answer leaves (document 02, request 3), and all against its own mask.
+//!
+//! `compare [TREES] [SEED]` prints how often each comparison was made and how often it differed, with the shortest text that differs; it fails
+//! also where one with or without a tilde was never made.
 //! `compare long [TEXTS] [SEED]` does so on texts of over 65,536 bytes, and prints how many of them have what; it fails also where one of its comparisons was
 //! never made or no text had one of the things that it is for.
 //! `compare sample [SEED]` writes 300 cases with the Rust's answers, which are not taken from the archive.
 #[path = "generate.rs"]
 mod generate;
+#[path = "layers.rs"]
+mod layers;
 #[path = "long.rs"]
 mod long;
 #[path = "ours.rs"]
@@ -44,6 +49,8 @@ const MOST_STEPS: u128 = u32::MAX as u128;
 /// What a record stores for every count above MOST_STEPS; the field is the last of a record, 5 bytes, most significant first.
 const HELD: u128 = MOST_STEPS + 1;
 const COUNT: usize = 5;
+/// A move's tilde, in the first byte of its record.
+const TILDE: u8 = 8;
 const FILL: u8 = 0xa5;
 const GUARD: usize = 8;
 /// Bytes that are shown of a text over 65,535 bytes where it differs; a shorter one is shown whole.
@@ -219,25 +226,6 @@ fn counts(tree: &[u8]) -> Vec<u64> {
     tree.chunks(RECORD).map(|r| r[RECORD - COUNT..].iter().fold(0, |n, b| n << 8 | u64::from(*b))).collect()
 }
 
-/// The ranges that the Rust resolves a move's layers to.
-fn ranges(mv: &Move, info: AxisLayersInfo) -> Vec<(u16, u16)> {
-    let contents = mv.layers.contents.clone().unwrap_or(LayerPrefixContents::Single(Layer::SHALLOWEST));
-    let positive = |l: &SignedLayer| l.to_unsigned().expect("a simplified set has no negative layers").to_u16();
-    match contents.simplify(info) {
-        None => vec![],
-        Some(LayerPrefixContents::Single(l)) => vec![(l.to_u16(), l.to_u16())],
-        Some(LayerPrefixContents::Range(r)) => vec![(r.start().to_u16(), r.end().to_u16())],
-        Some(LayerPrefixContents::Set(s)) => s
-            .elements
-            .iter()
-            .map(|e| match e {
-                LayerSetElement::Single(l) => (positive(l), positive(l)),
-                LayerSetElement::Range([a, b]) => (positive(a), positive(b)),
-            })
-            .collect(),
-    }
-}
-
 struct Difference {
     times: u64,
     text: String,
@@ -323,6 +311,13 @@ struct Read<'a> {
 }
 
 impl Read<'_> {
+    /// The tree with the tilde of one move put in or taken away.
+    fn turned(&self, record: usize) -> Self {
+        let mut tree = self.tree.clone();
+        tree[record * RECORD] ^= TILDE;
+        Self { text: self.text, tree }
+    }
+
     /// Some records printed; `size` is what the Rust's text takes. Also into a buffer so large that printing need not measure first.
     fn printed(&self, records: &[u8], size: usize) -> Answer<String> {
         let roomy = size + self.text.len() + 50 * (records.len() / RECORD);
@@ -366,8 +361,12 @@ fn compare(r: &mut Random, l: &NodeList, report: &mut Report) {
         family(n, i as u64, &ours, &text, report);
         if let Node::Move(mv) = n.node {
             let long = n.fields.parts[2].1 > WIDE;
-            let what = if long { "simplify: layer set over 65,535 bytes" } else { by_place(i as u64, ["simplify", "simplify: record over 65,535"]) };
-            layers(what, r, mv, i as u64, large && !long, &ours, &text, report);
+            let which = if long { 2 } else { usize::from(i > WIDE) };
+            ranges(which, r, &mv.layers, i as u64, large && !long, &ours, &text, report);
+            if long {
+                // few trees have one: each is asked with the tilde and without
+                ranges(which, r, &LayerPrefix { invert: !mv.layers.invert, ..mv.layers.clone() }, i as u64, false, &ours.turned(i), &text, report);
+            }
         }
     }
 }
@@ -522,16 +521,44 @@ fn family(n: &Place, record: u64, ours: &Read, text: &str, report: &mut Report) 
     report.same("family: its letters", text, &name.map(|name| name.as_bytes()), &found);
 }
 
-/// All of 1 to 10 and 32767 layers, negatives allowed and not; or three of these.
-fn layers(what: &'static str, r: &mut Random, mv: &Move, record: u64, three: bool, ours: &Read, text: &str, report: &mut Report) {
-    let all: Vec<(u16, bool)> = (1..=10).chain([32767]).flat_map(|n| [(n, false), (n, true)]).collect();
+/// How a comparison of layer ranges is called, without a tilde and with one: of a record that 16 bits hold, of one past it, of a long layer set.
+const SIMPLIFY: [[&str; 3]; 2] = [
+    ["simplify", "simplify: record over 65,535", "simplify: layer set over 65,535 bytes"],
+    ["simplify with a tilde", "simplify with a tilde: record over 65,535", "simplify with a tilde: layer set over 65,535 bytes"],
+];
+const MASK: [&str; 2] = ["to_layer_mask", "to_layer_mask with a tilde"];
+/// The mask changes its form at 64 layers, ours at 128.
+const AXES: [u16; 17] = [1, 2, 3, 4, 5, 6, 7, 8, 9, 10, 63, 64, 65, 127, 128, 129, 32767];
+/// No axis has so many layers here; the Rust's mask takes these numbers.
+const NO_AXES: [u16; 4] = [0, 32768, 40000, 65535];
+
+/// On all of these axes, negatives allowed and not; or on three of them.
+fn ranges(which: usize, r: &mut Random, prefix: &LayerPrefix, record: u64, three: bool, ours: &Read, text: &str, report: &mut Report) {
+    let all: Vec<(u16, bool)> = AXES.into_iter().flat_map(|n| [(n, false), (n, true)]).collect();
     let some = if three { (0..3).map(|_| r.pick(&all)).collect() } else { all };
+    let tilde = usize::from(prefix.invert);
     for (max_layer, allow_negatives) in some {
-        let rust = ranges(mv, AxisLayersInfo { max_layer, allow_negatives });
+        let info = AxisLayersInfo { max_layer, allow_negatives };
+        let rust = layers::expected(prefix, info);
         let given = lent(rust.len() * 4, |b| ours::simplify(ours.text, &ours.tree, record, max_layer.into(), allow_negatives, b), 4);
         let two = |b: &[u8]| u16::from_be_bytes([b[0], b[1]]);
         let given = given.map(|b| b.chunks(4).map(|c| (two(c), two(&c[2..]))).collect::<Vec<_>>());
-        report.same(what, text, &Ok(rust), &given);
+        report.same(SIMPLIFY[tilde][which], text, &Ok(rust), &given);
+        report.same(MASK[tilde], text, &Ok(layers::masked(prefix, info)), &given);
+    }
+    no_axis(prefix, record, ours, text, report);
+}
+
+/// Numbers of layers that are refused 11, where the Rust's mask takes a tilde for nothing: it gives what it gives without one.
+fn no_axis(prefix: &LayerPrefix, record: u64, ours: &Read, text: &str, report: &mut Report) {
+    let max_layer = NO_AXES[text.len() % NO_AXES.len()];
+    let given = lent(0, |b| ours::simplify(ours.text, &ours.tree, record, max_layer.into(), true, b), 4);
+    report.same("simplify on 0 or over 32,767 layers", text, &Err(11), &given);
+    if prefix.invert {
+        let info = AxisLayersInfo { max_layer, allow_negatives: true };
+        let plain = LayerPrefix { invert: false, ..prefix.clone() };
+        let masks = [&plain, prefix].map(|p| Ok(layers::masked(p, info)));
+        report.same("to_layer_mask there, without the tilde and with it", text, &masks[0], &masks[1]);
     }
 }
 
@@ -551,7 +578,7 @@ fn sample_line(r: &mut Random, l: &NodeList) -> Option<String> {
     let mut shown = vec![];
     for (i, mv) in nodes.iter().enumerate().filter_map(|(i, n)| Some((i, n.as_move()?))).take(4) {
         let info = AxisLayersInfo { max_layer: r.pick(&[1, 2, 3, 5, 7, 10, 32767]), allow_negatives: !r.one_in(3) };
-        let list: Vec<String> = ranges(mv, info).iter().map(|(a, b)| format!("{a}-{b}")).collect();
+        let list: Vec<String> = layers::contents(&mv.layers, info).iter().map(|(a, b)| format!("{a}-{b}")).collect();
         shown.push(format!("{i} {} {} {}", info.max_layer, u8::from(info.allow_negatives), list.join(",")));
     }
     Some(format!("{text}\t{l}\t{}\t{}\t{flat}\t{}", inverted(l.clone().inv()), inverted(l.clone().inv_deep()), shown.join("; ")))
@@ -578,7 +605,7 @@ fn sample(seed: u64) {
 }
 
 /// The comparisons of the long mode, and which refusals of them have to be met; 0 stands for an answer that is not refused.
-const TO_MAKE: [(&str, &[u8]); 38] = [
+const TO_MAKE: [(&str, &[u8]); 44] = [
     ("reading: records", &[0]),
     ("reading: lists and places", &[0]),
     ("reading: counts", &[0]),
@@ -617,6 +644,22 @@ const TO_MAKE: [(&str, &[u8]); 38] = [
     ("simplify", &[0]),
     ("simplify: record over 65,535", &[0]),
     ("simplify: layer set over 65,535 bytes", &[0]),
+    ("simplify with a tilde", &[0]),
+    ("simplify with a tilde: record over 65,535", &[0]),
+    ("simplify with a tilde: layer set over 65,535 bytes", &[0]),
+    ("to_layer_mask", &[0]),
+    ("to_layer_mask with a tilde", &[0]),
+    ("simplify on 0 or over 32,767 layers", &[11]),
+];
+
+/// What has to be made of short texts: layer ranges without a tilde and with one.
+const TO_MAKE_SHORT: [(&str, &[u8]); 6] = [
+    ("simplify", &[0]),
+    ("simplify with a tilde", &[0]),
+    ("to_layer_mask", &[0]),
+    ("to_layer_mask with a tilde", &[0]),
+    ("simplify on 0 or over 32,767 layers", &[11]),
+    ("to_layer_mask there, without the tilde and with it", &[0]),
 ];
 
 impl Report {
@@ -640,14 +683,14 @@ impl Report {
                 missing.push(format!("a text with {what} over 65,535"));
             }
         }
-        for (what, answers) in TO_MAKE {
-            let never = answers.iter().filter(|answer| self.answered(what, **answer) == 0);
-            missing.extend(never.map(|answer| format!("{what}, answered {answer} (0: not refused)")));
-        }
-        for what in &missing {
-            println!("missing: {what}");
-        }
-        missing.is_empty()
+        missing.extend(self.never(&TO_MAKE));
+        told(&missing)
+    }
+
+    /// The comparisons that were never made, and the refusals that were never met in them.
+    fn never(&self, to_make: &[(&'static str, &[u8])]) -> Vec<String> {
+        let each = to_make.iter().flat_map(|(what, answers)| answers.iter().map(move |answer| (*what, *answer)));
+        each.filter(|(what, answer)| self.answered(what, *answer) == 0).map(|(what, answer)| format!("{what}, answered {answer} (0: not refused)")).collect()
     }
 
     /// How often the Rust gave an answer in a comparison: a refusal, or with 0 anything else.
@@ -658,6 +701,12 @@ impl Report {
         let refused: u64 = self.refused.iter().filter(|((w, _), _)| *w == what).map(|(_, n)| n).sum();
         self.made.get(what).copied().unwrap_or(0) - refused
     }
+}
+
+/// Prints what is missing; true where nothing is.
+fn told(missing: &[String]) -> bool {
+    missing.iter().for_each(|what| println!("missing: {what}"));
+    missing.is_empty()
 }
 
 /// Every comparison on long texts.
@@ -682,7 +731,8 @@ fn short_texts(trees: u64, seed: u64) -> bool {
         compare(&mut r, &l, &mut report);
     }
     println!("{trees} trees, seed {seed}");
-    report.print()
+    let same = report.print();
+    told(&report.never(&TO_MAKE_SHORT)) && same
 }
 
 fn main() {

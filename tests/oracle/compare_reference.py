@@ -1,6 +1,6 @@
 #!/usr/bin/env python3
 """Holds the Python reference (tests/reference) against the Rust oracle on generated trees: Display, both inverses, unrolled lists and layer
-ranges must be the same. The Rust has no counts; the reference's is held to the length of the list.  compare_reference.py ORACLE [TREES] [SEED]"""
+ranges must be the same; where a move has a tilde, those are what the Rust's `simplify` leaves, and with or without one also the layers of its mask. The Rust has no counts; the reference's is held to the length of the list.  compare_reference.py ORACLE [TREES] [SEED]"""
 import os
 import random
 import subprocess
@@ -110,7 +110,7 @@ def flattened(l):
 def expected(l, layers, negatives):
     move = next((x for x in l if x.kind == n.MOVE), None)
     found = "" if move is None else " ".join(f"{a}-{b}" for a, b in n.ranges(move, layers, negatives)) or "none"
-    return "\t".join((n.show_list(l), attempt(lambda: n.show_list(n.inverse(l))), attempt(lambda: n.show_list(n.deep_inverse(l))), attempt(lambda: flattened(l)), found))
+    return "\t".join((n.show_list(l), attempt(lambda: n.show_list(n.inverse(l))), attempt(lambda: n.show_list(n.deep_inverse(l))), attempt(lambda: flattened(l)), found, found))
 
 
 def main():
@@ -121,22 +121,25 @@ def main():
         l = nodes(4)
         if n.count(l) > 3000:
             continue
-        info = (random.choice([1, 2, 3, 5, 9, 40, 32767]), random.random() < 0.6)
+        info = (random.choice([1, 2, 3, 5, 9, 40, 64, 128, 32767]), random.random() < 0.6)
         cases.append((l, *info))
         lines.append(f"{form(l)} {info[0]} {int(info[1])}")
     got = subprocess.run([oracle], input="\n".join(lines) + "\n", capture_output=True, text=True, check=True).stdout.split("\n")
     wrong = 0
     tally = {"refused 7": 0, "refused 8": 0}
+    tildes = {True: 0, False: 0}
     for (l, layers, negatives), line, given in zip(cases, got, lines):
         want = expected(l, layers, negatives)
         for k in tally:
             tally[k] += k in want
+        for move in [x for x in l if x.kind == n.MOVE][:1]:
+            tildes[move.tilde] += 1
         if want != line:
             wrong += 1
             if wrong <= 3:
                 print("differs:", given, "\n rust:", line, "\n here:", want)
-    print(f"{total} trees, {wrong} differ; {tally}")
-    sys.exit(wrong > 0)
+    print(f"{total} trees, {wrong} differ; {tally}; layer ranges with a tilde {tildes[True]}, without {tildes[False]}")
+    sys.exit(wrong > 0 or not all(tildes.values()))
 
 
 if __name__ == "__main__":

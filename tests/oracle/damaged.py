@@ -5,7 +5,8 @@ damaged.py [CASES] [SEED]. The archive is loaded as a shared library. A case is 
 called on it with a buffer of some size between two guards, and its answer and every byte of the buffer must be what the reference says.
 Texts and trees over texts with curly primes (document 02, request 6) are among them; where the flag is on, the reference's reading is also held against the
 request's own sentence. Nearly every change of a group makes a stored count wrong, so that refusal 6 would hide all others: most damaged trees get right counts again, and of
-some a count is changed afterwards, in any record. Prints how often each refusal was answered."""
+some a count is changed afterwards, in any record. Moves with a tilde (request 3) are among them; it fails where layer ranges of one, or of a move without, were never given.
+Prints how often each refusal was answered."""
 import collections
 import ctypes
 import os
@@ -27,6 +28,7 @@ TEXTS = ["", "R", "R U'", "[R, U]", "[R, U]'", "[R: U2 F]'", "(R U')2'", "(^(R))
          "((R)65535)65537", "~{1-3,-2}R{a->b}3' @{}", "{1,3,2,-1}R", "{2..9}R {5..9}U", "@ @R{A<>B, c} @{}2'", "([R, (U)2]' [!(F), &(L)3])2",
          "(((R (1,2))0 U)2' .)", "Ωω_a{β->θ}2", "( )", "[,]", "[:]'", "1-1R 3-2U 7F", "{ }R { 1 , 2 }U",
          "R\u2019", "R2\u2032 {1,-2}U{A}\u2019 @\u2032", "[R\u2019: U2\u2032 F]\u2019 {3..4}Fw{A->B}", "((R U\u2032)2\u2019 @\u03a9{A<>B}\u2032)3' 2-3L{c}", "^(R\u2019)0\u2032 [\u03b2\u2019, (1,-2)]\u2032 /",
+         "~R ~2U ~{1-3,-2}F 2-4L", "~1-3R (~{}U)2 ~{9}F ~{2,4,6}B{A}'", "~{2..-2}R ~32767U ~{-32767..32767}F", "[~{5..9}R: ~{1,127..129}U2] ~9-2F",
          "^((-2147483648,0))", "((-2147483648,0))'", "[(-2147483648,0): R]", "(R)4294967 (U)2147483647", "{32767,-32767}R 32767-1U R2147483647'"]
 
 
@@ -65,6 +67,7 @@ class Run:
     def __init__(self):
         self.calls = collections.Counter()
         self.answers = collections.Counter()
+        self.tildes = collections.Counter()  # layer ranges of moves with a tilde, and of moves without
         self.wrong = []
 
     def call(self, what, front, room, want):
@@ -134,9 +137,14 @@ class Case:
             record = random.choice((random.randrange(records + 1), random.randrange(records + 1), records, 2**16, 2**32, 2**64 - 1, 2**62))
             refusal, found = attempt(lambda: n.record_at(n.opened(self.text, self.tree), record, (n.MOVE, n.ROTATION)).family)
             self.check("family", [record], None, (refusal, (found[0] << 24) + found[1] if found else 0, b""))
-            layers = random.choice((1, 2, 3, 5, 9, 32766, 32767, 1, 2, 3, 4, 9, 0, 32768, 65536, 65537, 2**32 - 1))
+            layers = random.choice((1, 2, 3, 5, 9, 32766, 32767, 1, 2, 3, 4, 9, 127, 128, 129, 0, 32768, 65536, 65537, 2**32 - 1))
             negatives = random.choice((0, 1, 1, 2, 256, 2**31))
-            self.written("simplify", [record, layers, negatives], lambda: n.simplify(self.text, self.tree, record, layers, negatives != 0), 4)
+            self.written("simplify", [record, layers, negatives], lambda: self.ranges(record, layers, negatives != 0), 4)
+
+    def ranges(self, record, layers, negatives):
+        found = n.simplify(self.text, self.tree, record, layers, negatives)
+        self.run.tildes[n.record_at(n.opened(self.text, self.tree), record, (n.MOVE,)).tilde] += 1
+        return found
 
     def all(self):
         self.written("display", [], lambda: n.display(self.text, self.tree))
@@ -283,10 +291,11 @@ def main():
     print(f"{cases} cases, {sound} trees well formed, {by_count} but for a count; seed {seed}")
     print("calls:", ", ".join(f"{k} {v}" for k, v in sorted(run.calls.items())))
     print("answers:", ", ".join(f"{'accepted' if k == 0 else 'refused ' + str(k)} {v}" for k, v in sorted(run.answers.items())))
+    print(f"layer ranges: {run.tildes[True]} with a tilde, {run.tildes[False]} without, short buffers among them")
     print(f"{sum(run.calls.values())} calls, {len(run.wrong)} differ")
     if run.wrong:
         print("smallest:", min(run.wrong, key=lambda w: w[0]))
-    sys.exit(bool(run.wrong) or not run.calls)
+    sys.exit(bool(run.wrong) or not run.calls or not all(run.tildes[tilde] for tilde in (True, False)))
 
 
 if __name__ == "__main__":

@@ -1,9 +1,12 @@
 //! Reads trees in a plain prefix form from standard input, one on a line, and writes what the Rust makes of each: Display, `inv`, `inv_deep`,
-//! `flatten` and `simplify` of its first move. Fields are parted by tabs.
+//! `flatten` and, of its first move, `simplify` (what that leaves, where the move has a tilde) and the layers of its mask. Fields are parted by tabs.
 //!
 //! A list is `[` nodes `]`. A node: `g KIND LIST M`, `b KIND LIST LIST M`, `@ FAMILY CONSTRAINTS M`, `m TILDE LAYERS FAMILY CONSTRAINTS M`,
 //! `.`, `/`, `p U D`, `x KIND`. A family is `"` and the letters. Constraints: `-` for none, else `{` elements `}`, an element `= A`, `> A B`
 //! or `< A B`. Layers: `-`, `s I`, `r I J`, `{` elements `}`, an element `s I` or `r I J`. After the tree: max_layer and 0 or 1 for negatives.
+#[path = "layers.rs"]
+mod layers;
+
 use hypuz_notation::*;
 use std::io::{BufRead, Write};
 
@@ -124,20 +127,15 @@ fn flattened(r: Result<NodeList, ExpandError>) -> String {
     }
 }
 
-fn ranges(l: &NodeList, info: AxisLayersInfo) -> String {
+/// The ranges of the first move, by `simplify` and what a tilde leaves of it, and by the Rust's mask.
+fn ranges(l: &NodeList, info: AxisLayersInfo) -> [String; 2] {
     let Some(mv) = l.iter().find_map(|n| n.as_move()) else {
-        return String::new();
+        return [String::new(), String::new()];
     };
-    let contents = mv.layers.contents.clone().unwrap_or(LayerPrefixContents::Single(Layer::SHALLOWEST));
-    let show = |r: LayerRange| r.to_string();
-    match contents.simplify(info) {
-        None => "none".into(),
-        Some(LayerPrefixContents::Single(l)) => show(LayerRange::from_layer(l)),
-        Some(LayerPrefixContents::Range(r)) => show(r),
-        Some(LayerPrefixContents::Set(s)) => {
-            s.to_ranges(AxisLayersInfo { allow_negatives: false, ..info }).into_iter().map(show).collect::<Vec<_>>().join(" ")
-        }
-    }
+    [layers::expected(&mv.layers, info), layers::masked(&mv.layers, info)].map(|found| {
+        let shown: Vec<String> = found.iter().map(|(low, high)| format!("{low}-{high}")).collect();
+        if shown.is_empty() { "none".into() } else { shown.join(" ") }
+    })
 }
 
 fn main() {
@@ -148,13 +146,13 @@ fn main() {
         let mut t = Tokens(line.split_ascii_whitespace());
         let list = t.list();
         let info = AxisLayersInfo { max_layer: t.number(), allow_negatives: t.word() == "1" };
+        let [resolved, masked] = ranges(&list, info);
         writeln!(
             out,
-            "{list}\t{}\t{}\t{}\t{}",
+            "{list}\t{}\t{}\t{}\t{resolved}\t{masked}",
             inverted(list.clone().inv()),
             inverted(list.clone().inv_deep()),
-            flattened(list.flatten()),
-            ranges(&list, info)
+            flattened(list.flatten())
         )
         .unwrap();
     }

@@ -1,5 +1,5 @@
 """Document 01 once more, in plain Python: a reader, packed trees, inverses, printing, unrolling and layer ranges; of document 02 request 2, the
-counts that records store, request 10, the longer texts, and request 6, the curly primes.
+counts that records store, request 10, the longer texts, request 6, the curly primes, and request 3, the layers of a tilde.
 
 Written from the papers alone, as ordinary recursive descent over decoded characters, to make the expected output of the stored vectors.
 Nothing in it is shared with the Rattle code or with the definitions in crates/notation/specs.
@@ -637,8 +637,8 @@ def resolve(i, layers, negatives):
     return i if i > 0 else layers + 1 + i
 
 
-def ranges(n, layers, negatives):
-    """The simplified layer ranges of a move."""
+def given_ranges(n, layers, negatives):
+    """The simplified layer ranges of a move's prefix without its tilde."""
     found = []
     if n.layers is None or n.layers[0] != "set":
         low, high = (1, 1) if n.layers is None else (n.layers[1], n.layers[-1])
@@ -664,6 +664,22 @@ def ranges(n, layers, negatives):
         else:
             out.append((low, high))
     return out
+
+
+def runs(layers):
+    """A set of layers as ranges: each begins and ends where the layer next to it is not in the set."""
+    first = sorted(i for i in layers if i - 1 not in layers)
+    last = sorted(i for i in layers if i + 1 not in layers)
+    return list(zip(first, last))
+
+
+def ranges(n, layers, negatives):
+    """The simplified layer ranges of a move. With a tilde: of the layers from 1 to the last that the same prefix without it does not give."""
+    found = given_ranges(n, layers, negatives)
+    if not n.tilde:
+        return found
+    given = {i for low, high in found for i in range(low, high + 1)}
+    return runs(set(range(1, layers + 1)) - given)
 
 
 # The entries that take a text and a tree. Each gives what it writes (bytes), or raises Refused; `lend` is left to the caller.

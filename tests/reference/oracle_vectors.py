@@ -1,12 +1,13 @@
 """Stored vectors whose answers are the Rust's: tests/oracle/sample.tsv, made by tests/oracle/compare.rs.
 
 Of each text the listing is replayed (printed, shallow inverse, number of steps, steps), the deep inverse as text (letter `x`) and layer ranges. Only the tree
-that a call takes is the reference's; no answer is.
+that a call takes is the reference's; no answer is. The Rust's `simplify` knows no tilde: where a move has one, its ranges are those of the prefix without it, and
+the answer is what they leave (document 02, request 3), found by `left`.
 """
 import os
 import re
 
-import entry_vectors
+import notation as n
 from lines import refused, spelled, value
 
 SAMPLE = os.path.join(os.path.dirname(os.path.abspath(__file__)), "..", "oracle", "sample.tsv")
@@ -38,18 +39,34 @@ def listed(data, printed, inverse, steps):
     yield f"o{len(written) + 3:06x}{0:016x}{0:08x}0{spelled(b'm' + bytes([10]) + data)}|", value(len(written), written)
 
 
+def left(pairs, layers):
+    """The layers that no range has, as ranges: a picture of the axis, with a dot for each of them."""
+    axis = ["."] * layers
+    for low, high in pairs:
+        axis[low - 1:high] = "x" * (high - low + 1)
+    return [(dots.start() + 1, dots.end()) for dots in re.finditer(r"\.+", "".join(axis))]
+
+
+def ranged(data, nodes, case):
+    """The case of one move's layer ranges."""
+    record, layers, negatives, found = (case + " ").split(" ")[:4]
+    pairs = [tuple(map(int, part.split("-"))) for part in found.split(",") if part]
+    if list(n.in_order(nodes))[int(record)].tilde:
+        pairs = left(pairs, int(layers))
+    written = b"".join(end.to_bytes(2, "big") for pair in pairs for end in pair)
+    head = f"l{len(written) + 3:06x}{int(record):016x}{int(layers):08x}{negatives}"
+    return f"{head}{spelled(data)}|{spelled(n.pack(nodes))}", value(len(pairs), written)
+
+
 def lines():
     """Each case with the Rust's answer."""
     for text, printed, inverse, deep, steps, ranges in rows():
         data = text.encode()
-        tree = spelled(entry_vectors.tree_of(data))
+        nodes = n.read(data, n.MAXIMAL)
+        tree = spelled(n.pack(nodes))
         yield from listed(data, printed, inverse, steps)
         number = field(deep)
         answer = value(len(deep.encode()), deep.encode()) if number is None else refused(number)
         yield f"x{len(deep.encode()) + 3:06x}{0:016x}{0:08x}0{spelled(data)}|{tree}", answer
         for case in filter(None, ranges.split("; ")):
-            record, layers, negatives, found = (case + " ").split(" ")[:4]
-            pairs = [part.split("-") for part in found.split(",") if part]
-            written = b"".join(int(end).to_bytes(2, "big") for pair in pairs for end in pair)
-            head = f"l{len(written) + 3:06x}{int(record):016x}{int(layers):08x}{negatives}"
-            yield f"{head}{spelled(data)}|{tree}", value(len(pairs), written)
+            yield ranged(data, nodes, case)

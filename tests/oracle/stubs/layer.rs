@@ -1,10 +1,12 @@
-//! layer/mod.rs is not among the published files; mask.rs needs bitvec and is left out by document 01.
+//! layer/mod.rs is not among the published files. mask.rs, which document 01 leaves out, is carried for request 3 of document 02, over a stub of bitvec.
 mod count;
+mod mask;
 mod range;
 mod signed;
 mod unsigned;
 
 pub use count::*;
+pub use mask::*;
 pub use range::*;
 pub use signed::*;
 pub use unsigned::*;
@@ -21,45 +23,21 @@ impl From<std::num::ParseIntError> for ParseLayerError {
     }
 }
 
-impl PartialEq<u16> for Layer {
-    fn eq(&self, other: &u16) -> bool {
-        self.to_u16() == *other
-    }
+macro_rules! compared {
+    ($($number:ty)*) => {$(
+        impl PartialEq<$number> for Layer {
+            fn eq(&self, other: &$number) -> bool {
+                self.to_u16() as $number == *other
+            }
+        }
+
+        impl PartialOrd<$number> for Layer {
+            fn partial_cmp(&self, other: &$number) -> Option<std::cmp::Ordering> {
+                (self.to_u16() as $number).partial_cmp(other)
+            }
+        }
+    )*};
 }
 
-impl PartialOrd<u16> for Layer {
-    fn partial_cmp(&self, other: &u16) -> Option<std::cmp::Ordering> {
-        self.to_u16().partial_cmp(other)
-    }
-}
-
-/// A plain set in place of the bit mask.
-#[derive(Debug, Default, Clone, PartialEq, Eq, Hash)]
-pub struct LayerMask(Vec<Layer>);
-
-impl LayerMask {
-    pub fn new() -> Self {
-        Self::default()
-    }
-
-    pub fn from_layer(l: Layer) -> Self {
-        Self(vec![l])
-    }
-
-    pub fn from_range(r: LayerRange) -> Self {
-        Self(r.into_iter().collect())
-    }
-
-    pub fn insert_range(&mut self, r: LayerRange) {
-        self.0.extend(r);
-    }
-
-    pub fn invert_range(&mut self, r: LayerRange) {
-        let keep: Vec<_> = r.into_iter().filter(|l| !self.0.contains(l)).collect();
-        self.0 = keep;
-    }
-
-    pub fn iter(&self) -> impl Iterator<Item = Layer> + '_ {
-        self.0.iter().copied()
-    }
-}
+// All three hold every layer.
+compared! { u16 u32 usize }

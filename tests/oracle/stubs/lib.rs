@@ -1,4 +1,4 @@
-//! The root of the carried files, without what leans on chumsky, ecow and bitvec.
+//! The root of the carried files, without what leans on chumsky and ecow.
 pub mod common;
 pub mod expand;
 pub mod invert;
