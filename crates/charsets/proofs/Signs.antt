@@ -12,7 +12,7 @@ use Rattle.notation.specs.Basics.{pick, oneOf}
 use Rattle.notation.specs.Chars.{curlyPrimes, isPrime}
 use Rattle.notation.specs.Utf8.{byteAt, charWidth, codePoint, widthIf}
 use Rattle.charsets.proofs.Bools.{contra, and-left, and-right}
-use Rattle.notation.proofs.Bools.{and-both}
+use Rattle.notation.proofs.Bools.{and-both, pick-same}
 use Rattle.charsets.proofs.Texts.{in-text, is-byte, byte-drop, first-byte}
 use Rattle.charsets.proofs.Points.{Point, no-point, one-byte, two-bytes, three-bytes, four-bytes, point}
 use Rattle.charsets.proofs.Sets.{prime-is}
@@ -68,11 +68,8 @@ other-prime s n = rw (sym (prime-is (codePoint s))) (go (charWidth s) refl)
   where
     p : ℕ
     p = codePoint s
-    none : (t : Bool) → _≡_ {A = ℕ} (pick t 0 0) 0
-    none true = refl
-    none false = refl
     go : (w : ℕ) → charWidth s ≡ w → pick (eqb 0x27 p || oneOf curlyPrimes p) w 0 ≡ pick (oneOf curlyPrimes p) w 0
-    go zero e = none (eqb 0x27 p || oneOf curlyPrimes p) ∙ sym (none (oneOf curlyPrimes p))
+    go zero e = pick-same (eqb 0x27 p || oneOf curlyPrimes p) 0 ∙ sym (pick-same (oneOf curlyPrimes p) 0)
     go (suc k) e = rw (ne-eqb 0x27 p (λ i. n (apostrophe (point s) (omega (arith, e)) (sym i))))
 
 -- The test of three bytes.

@@ -11,6 +11,7 @@ use lib.ListN.{length, getD, drop}
 use Rattle.notation.specs.Basics.{pick, between}
 use Rattle.notation.specs.Utf8.{byteAt, continuation, charWidth, codePoint, widthIf}
 use Rattle.charsets.proofs.Bools.{and-left, and-right, between-low, between-high}
+use Rattle.notation.proofs.Bools.{pick-same}
 use Rattle.charsets.proofs.Texts.{in-text, is-byte, byte-drop, first-byte, is-byte-drop}
 
 -- the rows of table 3-7
@@ -145,7 +146,4 @@ module _ (p : ℕ → Bool) (s : List ℕ) (at : ℕ) where
   width-wide e g q f = rw (f, q, g, e)
 
   pub width-none : {w : ℕ} → w ≡ charWidth (drop at s) → w ≡ 0 → 0 ≡ widthIf p (drop at s)
-  width-none e z = rw (← e, z) (either (p (codePoint (drop at s)))) where
-    either : (t : Bool) → _≡_ {A = ℕ} 0 (pick t 0 0)
-    either true = refl
-    either false = refl
+  width-none e z = rw (← e, z) (sym (pick-same (p (codePoint (drop at s))) 0))

@@ -26,7 +26,7 @@ use Rattle.notation.specs.Print.{put, putMore, putBraces, putConstraint}
 use Rattle.charsets.proofs.Bools.{between-low, between-high, below}
 use Rattle.charsets.proofs.Runs.{widthIf-length}
 use Rattle.charsets.proofs.Widths.{two, three, four, starts-three, starts-four, rows}
-use Rattle.laws.proofs.Bools.{false-true, and-left, and-right}
+use Rattle.laws.proofs.Bools.{false-true, and-left, and-right, pick-same}
 use Rattle.laws.proofs.Readers.{not-read, pick-read, run-le}
 use Rattle.laws.proofs.Runs.{run-alone}
 use Rattle.laws.proofs.Braces.{just-read}
@@ -93,11 +93,7 @@ begins-none b s e =
     let l : 0x80 ≤ b = between-low 0x80 0xbf b e in
     let h : b ≤ 0xbf = between-high 0x80 0xbf b e in
     rw (lt-leb b 0x7f (omega arith), below 0xc2 0xdf b (omega arith), below 0xe0 0xef b (omega arith), below 0xf0 0xf4 b (omega arith))
-    (either (whiteSpace (codePoint (b ∷ s))))
-  where
-    either : (t : Bool) → pick {A = ℕ} t 0 0 ≡ 0
-    either true = refl
-    either false = refl
+    (pick-same (whiteSpace (codePoint (b ∷ s))) 0)
 
 module _ (a : ℕ) (s : List ℕ) where
   by-rows : (t₁ t₂ t₃ t₄ : Bool) (k i : ℕ) → two a (byteAt s 0) ≡ t₂ → three a (byteAt s 0) (byteAt s 1) ≡ t₃ →

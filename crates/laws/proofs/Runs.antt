@@ -11,7 +11,7 @@ use borrow.Author.Tests.{leb-true, le-leb, lt-leb}
 use Rattle.notation.specs.Basics.{pick, choose, between}
 use Rattle.notation.specs.Utf8.{byteAt, continuation, charWidth, codePoint, afterFirst, widthIf, runFrom, run}
 use Rattle.notation.specs.Numbers.{isDigit, digitRun}
-use Rattle.laws.proofs.Bools.{and-left, and-right, and-both, and-false}
+use Rattle.laws.proofs.Bools.{and-left, and-right, and-both, and-false, pick-same}
 use Rattle.laws.proofs.Readers.{run-le}
 
 -- The character at the start by its bytes: forms of two, three and four of them.
@@ -69,9 +69,6 @@ wide-is p s =
     c = byteAt s 2
     d : ℕ
     d = byteAt s 3
-    same : (t : Bool) → pick {A = ℕ} t 0 0 ≡ 0
-    same true = refl
-    same false = refl
     go : (x y z w : ℕ) (t₁ t₂ t₃ t₄ l₂ l₃ : Bool) → (t₂ ≡ true → l₂ ≡ true) → (t₃ ≡ true → (l₂ ≡ false) × (l₃ ≡ true)) →
         (t₄ ≡ true → (l₂ ≡ false) × (l₃ ≡ false)) →
         pick {A = ℕ} (p (pick t₁ x (pick l₂ y (pick l₃ z w)))) (pick t₁ 1 (pick t₂ 2 (pick t₃ 3 (pick t₄ 4 0)))) 0
@@ -80,7 +77,7 @@ wide-is p s =
     go x y z w false true t₃ t₄ l₂ l₃ h₂ h₃ h₄ = rw (h₂ refl)
     go x y z w false false true t₄ l₂ l₃ h₂ h₃ h₄ = rw (h₃ refl .0, h₃ refl .1)
     go x y z w false false false true l₂ l₃ h₂ h₃ h₄ = rw (h₄ refl .0, h₄ refl .1)
-    go x y z w false false false false l₂ l₃ h₂ h₃ h₄ = same (p _)
+    go x y z w false false false false l₂ l₃ h₂ h₃ h₄ = pick-same (p _) 0
 
 -- A form with a byte that is no continuation is none.
 pub second : (e f : Bool) (x y b : ℕ) → 0x80 ≤ x → y ≤ 0xbf → continuation b ≡ false → between (pick e x 0x80) (pick f y 0xbf) b ≡ false

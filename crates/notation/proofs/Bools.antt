@@ -4,6 +4,7 @@ use mathlib.Core.Path.{_≡_, refl, sym}
 use mathlib.Core.Bool.{Bool, true, false, not, _&&_}
 use mathlib.Core.Option.{Option, none, some}
 use native.Mathlib.Omega.{arith}
+use Rattle.notation.specs.Basics.{pick}
 use Rattle.notation.specs.Refusals.{Outcome, refusal, result}
 
 pub false-true : _≡_ {A = Bool} false true → ⊥
@@ -27,6 +28,10 @@ and-false false = refl
 pub not-true : (b : Bool) → not b ≡ true → b ≡ false
 not-true true e = sym e
 not-true false e = refl
+
+pub pick-same : {A : Type 0} (t : Bool) (a : A) → pick t a a ≡ a
+pick-same true a = refl
+pick-same false a = refl
 
 pub no-some : {A : Type 0} {a : A} {B : Type 0} → _≡_ {A = Option A} (some a) none → B
 no-some e = absurd (let n : _≡_ {A = ℕ} 0 1 = cc in omega arith)

@@ -1,8 +1,6 @@
 -- Two readings at once, of the text as given and of the straight text: both reject, or both read what belongs together and stand at places that
 -- belong together. One rule for each way to build a reader. Assumes nothing.
 use Prim.Native.Nat.{ℕ, suc, _+_, _≤_, _<_}
-use Prim.Native.String as S
-use Prim.Native.String.{String}
 use mathlib.Core.Path.{_≡_, refl, sym, subst}
 use mathlib.Core.Bool.{Bool, true, false}
 use mathlib.Core.List.{List}

@@ -13,7 +13,7 @@ use Rattle.notation.specs.Basics.{pick, oneOf, every}
 use Rattle.notation.specs.Chars.{curlyPrimes}
 use Rattle.notation.specs.Utf8.{continuation, charWidth, codePoint, utf8, widthIf}
 use Rattle.notation.specs.Primes.{curlyWidth, straightFrom, straight, givenFrom, given}
-use Rattle.laws.proofs.Bools.{and-left, and-right}
+use Rattle.laws.proofs.Bools.{and-left, and-right, pick-same}
 
 -- The first n bytes: no sign stands among them, and behind them a character begins or the text ends.
 pub record Plain (n : ℕ) (s : List ℕ) : Type 0 where
@@ -51,11 +51,7 @@ no-start p b s e =
     let l = leb-true 0x80 b (and-left (leb 0x80 b) _ e) in
     let h = leb-true b 0xbf (and-right (leb 0x80 b) _ e) in
     rw (lt-leb b 0x7f (omega arith), lt-leb 0xc2 b (omega arith), lt-leb 0xe0 b (omega arith), lt-leb 0xf0 b (omega arith))
-    (go (p (codePoint (b ∷ s))))
-  where
-    go : (t : Bool) → _≡_ {A = ℕ} (pick t 0 0) 0
-    go true = refl
-    go false = refl
+    (pick-same (p (codePoint (b ∷ s))) 0)
 
 -- The bytes of a character after the first are kept.
 pub kept-tail : (k : ℕ) (s : List ℕ) → k ≤ length s → every continuation (take k s) ≡ true →

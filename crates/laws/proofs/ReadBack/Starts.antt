@@ -14,7 +14,7 @@ use Rattle.notation.specs.Utf8.{charWidth, codePoint, continuation, afterFirst,
 use Rattle.notation.specs.Numbers.{isDigit, digitRun}
 use Rattle.notation.specs.Grammar.{rejected, just}
 use Rattle.laws.proofs.InRange.{familyInRange}
-use Rattle.laws.proofs.Bools.{and-left, and-right, and-false, not-true}
+use Rattle.laws.proofs.Bools.{and-left, and-right, and-false, not-true, pick-same}
 
 -- a test and its opposite do not both hold
 pub clash : {B : Type 0} (b : Bool) → b ≡ true → b ≡ false → B
@@ -71,11 +71,7 @@ fails p b = leb b 0x7f && not (p b)
 -- no character that passes
 pub no-character : (p : ℕ → Bool) (s : List ℕ) → starts (fails p) s ≡ true → widthIf p s ≡ 0
 unfolding charWidth codePoint
-no-character p [] h = go (p (codePoint []))
-  where
-    go : (t : Bool) → _≡_ {A = ℕ} (pick t 0 0) 0
-    go true = refl
-    go false = refl
+no-character p [] h = pick-same (p (codePoint [])) 0
 no-character p (b ∷ s) h =
     rw (and-left (leb b 0x7f) (not (p b)) h, not-true (p b) (and-right (leb b 0x7f) (not (p b)) h))
 
