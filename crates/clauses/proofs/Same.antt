@@ -9,7 +9,7 @@ use borrow.Author.Tests.{leb-true, le-leb, ltb-true, lt-ltb, eqb-true, eq-eqb}
 use lib.Dec.{ltb, lit<}
 use lib.ListN.{length}
 use Rattle.notation.specs.Basics.{every}
-use Rattle.notation.specs.Packed.{RECORD, pack, unpack, size}
+use Rattle.notation.specs.Packed.{RECORD, unpack, size}
 use Rattle.notation.specs.WellFormed.{MAX-NESTING, wellFormed}
 use Rattle.notation.specs.Clauses.{
   Fields, fieldsOf, kindOk, unusedOk, partsInside, groupsDeep, layersInRange, multiplierInRange, familyReads, partsRead, clauseByClause, clauses

@@ -1,12 +1,12 @@
 -- Ranges by depth with a layer at least between one and the next: simplified ranges are so, and such ranges are told by the layers that they have. Assumes nothing.
-use Prim.Native.Nat.{ℕ, suc, _+_, _≤_, _<_, min, max}
+use Prim.Native.Nat.{ℕ, _+_, _≤_, _<_, min, max}
 use mathlib.Core.Path.{_≡_, refl, sym, _∙_}
-use mathlib.Core.Bool.{Bool, true, false, _||_}
+use mathlib.Core.Bool.{Bool, true, false}
 use mathlib.Core.List.{List, [], _∷_}
 use native.Mathlib.Omega.{arith}
 use lib.Dec.{ltb}
 use borrow.Author.Tests.{leb-false, ltb-true, ltb-false}
-use Rattle.notation.specs.Basics.{choose, between}
+use Rattle.notation.specs.Basics.{choose}
 use Rattle.notation.specs.Layers.{Range, sort, touching, joined, joinFrom, join, simplified, contains}
 use Rattle.notation.proofs.Bools.{false-true}
 use Rattle.layer.specs.Meaning.{RangeUpTo}

@@ -9,9 +9,8 @@ use lib.Dec.{eqb, leb}
 use borrow.Author.Tests.{eqb-true, eqb-false, leb-true, leb-false, le-leb, lt-leb}
 use Rattle.notation.specs.Basics.{pick, choose, between}
 use Rattle.notation.specs.Layers.{Range, before, insert, sort, touching, joined, joinFrom, join, simplified, contains, othersFrom, keep, alone}
-use Rattle.notation.proofs.Bools.{and-left, and-right}
 use Rattle.layer.specs.Meaning.{RangeUpTo}
-use Rattle.complement.proofs.Sorted.{All, nothing, _and_, all-weaken, all-sort}
+use Rattle.complement.proofs.Sorted.{All, nothing, _and_, all-sort}
 
 -- ── one range ──
 

@@ -1,7 +1,7 @@
 -- Parts of a text that its straight text has as they are, since no sign is replaced in them. Assumes nothing.
 use Prim.Native.Nat.{ℕ, zero, suc, _+_, _-_, _≤_}
 use mathlib.Core.Path.{_≡_, refl, sym, ap, _∙_}
-use mathlib.Core.Bool.{Bool, true, false}
+use mathlib.Core.Bool.{Bool, true}
 use mathlib.Core.List.{List, [], _∷_, _++_, append-assoc}
 use native.Mathlib.Omega.{arith}
 use native.Mathlib.Nat.{suc-add}
@@ -9,7 +9,7 @@ use borrow.Author.Tests.{leb-true, lt-leb}
 use lib.Dec.{leb}
 use lib.ListN.{length, take, drop, length-drop, length-append}
 use lib.Seq.{drop-drop, take-add, length-take-le, take-at, drop-at}
-use Rattle.notation.specs.Basics.{pick, oneOf, every}
+use Rattle.notation.specs.Basics.{oneOf, every}
 use Rattle.notation.specs.Chars.{curlyPrimes}
 use Rattle.notation.specs.Utf8.{continuation, charWidth, codePoint, utf8, widthIf}
 use Rattle.notation.specs.Primes.{curlyWidth, straightFrom, straight, givenFrom, given}

@@ -13,7 +13,7 @@ use Rattle.notation.specs.Layers.{Range, contains, complement, clampToLayerCoun
 use Rattle.charsets.proofs.Bools.{or-false}
 use Rattle.layer.specs.Meaning.{IsRange}
 use Rattle.complement.proofs.Contains.{has, has-not-before, has-not-after, or-assoc}
-use Rattle.complement.proofs.Apart.{Apart, last, next, shallow}
+use Rattle.complement.proofs.Apart.{Apart, last, next}
 use Rattle.complement.proofs.Complement.{complement-is}
 use Rattle.simplify.specs.Reach.{rangeFrom, someFrom}
 

@@ -3,7 +3,6 @@ use Prim.Native.Nat.{ℕ, _≤_, _<_}
 use mathlib.Core.Path.{_≡_, refl, sym, ap, _∙_}
 use mathlib.Core.Bool.{true, false}
 use mathlib.Core.List.{List, _++_}
-use native.Mathlib.Omega.{arith}
 use borrow.Author.Tests.{le-leb, lt-leb}
 use lib.ListN.{length, drop}
 use Rattle.notation.specs.Utf8.{utf8}
@@ -12,7 +11,7 @@ use Rattle.notation.specs.Tree.{Tree}
 use Rattle.notation.specs.Packed.{unpack}
 use Rattle.notation.specs.Counts.{hold, count}
 use Rattle.notation.specs.WellFormed.{wellFormed}
-use Rattle.notation.specs.Entries.{Lent, lend, checked, refusalNumber, value, MAX-TEXT}
+use Rattle.notation.specs.Entries.{lend, checked, refusalNumber, value, MAX-TEXT}
 use Rattle.numbers.proofs.Positional.{Below}
 use Rattle.laws.proofs.Bools.{no-refusal}
 use Rattle.laws.proofs.Packing.{well-formed-below}

@@ -1,16 +1,16 @@
 -- Document 02, request 3: with a tilde and without it, each layer of the axis is in exactly one of the two answers, and either answer is the complement of the other. Assumes nothing.
-use Prim.Native.Nat.{ℕ, _*_, _/_, _≤_, _<_}
-use mathlib.Core.Path.{_≡_, refl, sym, ap, subst, subst₂, _∙_}
-use mathlib.Core.Bool.{Bool, true, false, _&&_}
+use Prim.Native.Nat.{ℕ, _/_, _≤_, _<_}
+use mathlib.Core.Path.{_≡_, sym, ap, subst, _∙_}
+use mathlib.Core.Bool.{Bool, true, false}
 use mathlib.Core.List.{List}
 use borrow.Author.Tests.{leb-true, ltb-true}
 use lib.Dec.{leb, ltb}
-use lib.ListN.{length, drop}
+use lib.ListN.{length}
 use Rattle.notation.specs.Basics.{between}
 use Rattle.notation.specs.Refusals.{result, unless, NO-SUCH-LAYER-COUNT, NO-SUCH-RECORD}
-use Rattle.notation.specs.Layers.{Range, MAX-LAYER, lit, simplified, complement}
+use Rattle.notation.specs.Layers.{Range, MAX-LAYER, lit, simplified}
 use Rattle.notation.specs.Tree.{Layers, Span, rotation, move, pause, pair, slash, megaminx}
-use Rattle.notation.specs.Packed.{RECORD, Head, leafHead, groupHead, binaryHead, headAt}
+use Rattle.notation.specs.Packed.{RECORD, Head, leafHead, groupHead, binaryHead}
 use Rattle.notation.specs.WellFormed.{leafOk, layersOk}
 use Rattle.notation.specs.Entries.{checked, recordAt, prefixOf, rangesIn, layerRanges}
 use Rattle.notation.specs.Tilde.{Opposite, prefixAt, LightsOthers}

@@ -5,26 +5,22 @@ use mathlib.Core.Bool.{Bool, true, false}
 use mathlib.Core.List.{List, _++_}
 use native.Mathlib.Omega.{arith}
 use borrow.Author.Tests.{leb-true}
-use lib.Dec.{leb, ltb, lit<}
+use lib.Dec.{leb, ltb}
 use lib.ListN.{length, drop, getElem?}
 use Rattle.notation.specs.Basics.{pick}
-use Rattle.notation.specs.Refusals.{
-  Outcome, refusal, result, _>>=_, unless, orRefuse, NOT-WELL-FORMED, NO-ROOM, TOO-MANY-STEPS, NO-SUCH-PLACE, NO-SUCH-RECORD
-}
-use Rattle.notation.specs.Tree.{Span, Leaf, rotation, move, pause, pair, slash, megaminx, Node, leaf, block, Body, group, binaryGroup, nil, cons, Tree}
-use Rattle.notation.specs.Packed.{RECORD, Head, leafHead, groupHead, binaryHead, bodyHead, packNode, packBody, pack, unpack}
-use Rattle.notation.specs.WellFormed.{wellFormed}
+use Rattle.notation.specs.Refusals.{Outcome, refusal, result, _>>=_, unless, orRefuse, NO-ROOM, TOO-MANY-STEPS, NO-SUCH-PLACE, NO-SUCH-RECORD}
+use Rattle.notation.specs.Tree.{Span, Leaf, rotation, move, pause, pair, slash, megaminx}
+use Rattle.notation.specs.Packed.{RECORD, Head, leafHead, groupHead, binaryHead}
 use Rattle.notation.specs.Unroll.{flatten}
 use Rattle.notation.specs.Entries.{
-  kept, lend, MAX-TEXT, textOk, reading, checked, inverse, deepInverse, display, MAX-STEPS, steps, unrolled, countSteps, stepAt,
-  recordAt, layerRanges, rangeBytes, familyOf, familySpan
+  kept, lend, MAX-TEXT, reading, checked, inverse, deepInverse, display, MAX-STEPS, steps, unrolled, countSteps, stepAt, recordAt, layerRanges, rangeBytes, familyOf, familySpan
 }
 use Rattle.notation.specs.Demands.{AtMost}
 use Rattle.notation.specs.Host.{VALUES, partNumber, Small, Whole, NeverBites}
 use Rattle.notation.specs.declared.features.Features.{Features}
-use Rattle.numbers.proofs.Positional.{Below, below-nil, below-append, below-drop}
+use Rattle.numbers.proofs.Positional.{below-drop}
 use Rattle.record.specs.Range.{FitsSpan, FitsHead}
-use Rattle.record.proofs.RoundTrip.{length-headRecord, headRecord-below}
+use Rattle.record.proofs.RoundTrip.{length-headRecord}
 use Rattle.laws.proofs.Bools.{no-refusal}
 use Rattle.laws.proofs.Outcomes.{same-result, after, held}
 use Rattle.laws.proofs.Packing.{length-pack, well-formed-below}

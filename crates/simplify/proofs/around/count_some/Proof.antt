@@ -1,5 +1,4 @@
 -- `count_some` meets its contract. Assumes nothing.
-use mathlib.Core.Path.{refl}
 use borrow.Author.Tests.{le-leb, lt-leb}
 use Rattle.simplify.proofs.around.count_some.Statement.{statement}
 use Rattle.simplify.proofs.around.count_some.Tie as tie

@@ -1,16 +1,15 @@
 -- `simplify_around` meets its contract: the layers beside a range are those that it leaves over. Assumes nothing.
 use borrow.Author.Needs.{needs}
 use borrow.Author.Tests.{le-leb, lt-leb}
-use Prim.Native.Nat.{ℕ, _+_, _*_, _-_, _≤_}
-use mathlib.Core.Path.{_≡_, refl, sym, ap, _∙_}
+use Prim.Native.Nat.{_+_, _-_}
+use mathlib.Core.Path.{_≡_, _∙_}
 use mathlib.Core.Logic.{⊎-elim}
-use mathlib.Core.List.{List, [], _++_}
+use mathlib.Core.List.{_++_}
 use native.Mathlib.Omega.{arith}
 use lib.Dec.{leb}
-use lib.ListN.{length, length-append}
+use lib.ListN.{length-append}
 use Rattle.notation.specs.Basics.{pick}
-use Rattle.notation.specs.Layers.{Range}
-use Rattle.simplify.specs.Reach.{someFrom, written}
+use Rattle.simplify.specs.Reach.{someFrom}
 use Rattle.simplify.proofs.Sweep.{all-written, written-on}
 use Rattle.simplify.proofs.Beside.{around, few-some}
 use Rattle.simplify.proofs.Answers.{answered, refused}
