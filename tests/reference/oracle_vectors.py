@@ -1,7 +1,7 @@
 """Stored vectors whose answers are the Rust's: tests/oracle/sample.tsv, made by tests/oracle/compare.rs.
 
 Of each text the listing is replayed (printed, shallow inverse, number of steps, steps), the deep inverse as text (letter `x`) and layer ranges. Only the tree
-that a call takes is the reference's; no answer is. The Rust's `simplify` knows no tilde: where a move has one, its ranges are those of the prefix without it, and
+that a call takes is the reference's, and with it which moves have a tilde; no answer is. The Rust's `simplify` knows no tilde: where a move has one, its ranges are those of the prefix without it, and
 the answer is what they leave (document 02, request 3), found by `left`.
 """
 import os

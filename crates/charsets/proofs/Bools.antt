@@ -1,12 +1,12 @@
 -- Tests on numbers and their joins.
 use mathlib.Core.Path.{_≡_, refl}
 use mathlib.Core.Bool.{Bool, true, false, _||_}
-use Prim.Native.Nat.{ℕ, _≤_, _<_}
-use borrow.Author.Tests.{leb-true, lt-leb}
+use Prim.Native.Nat.{ℕ, _≤_}
+use borrow.Author.Tests.{leb-true}
 use lib.Dec.{leb}
 use Rattle.notation.specs.Basics.{between}
 use Rattle.notation.proofs.Bools.{false-true}
-pub use Rattle.notation.proofs.Bools.{and-left, and-right, and-false}
+pub use Rattle.notation.proofs.Bools.{and-left, and-right, and-false, below, above}
 
 pub contra : {X : Type 0} → false ≡ true → X
 contra e = absurd (false-true e)
@@ -24,9 +24,3 @@ between-low l h x e = leb-true l x (and-left (leb l x) (leb x h) e)
 
 pub between-high : (l h x : ℕ) → between l h x ≡ true → x ≤ h
 between-high l h x e = leb-true x h (and-right (leb l x) (leb x h) e)
-
-pub below : (l h x : ℕ) → x < l → between l h x ≡ false
-below l h x p = rw (lt-leb l x p)
-
-pub above : (l h x : ℕ) → h < x → between l h x ≡ false
-above l h x p = rw (lt-leb x h p) (and-false (leb l x))

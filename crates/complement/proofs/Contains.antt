@@ -6,9 +6,10 @@ use mathlib.Core.List.{List, [], _∷_}
 use mathlib.Core.Option.{none, some}
 use native.Mathlib.Omega.{arith}
 use lib.Dec.{eqb, leb}
-use borrow.Author.Tests.{eqb-true, eqb-false, leb-true, leb-false, le-leb, lt-leb}
+use borrow.Author.Tests.{eqb-true, eqb-false, leb-true, leb-false, le-leb}
 use Rattle.notation.specs.Basics.{pick, choose, between}
 use Rattle.notation.specs.Layers.{Range, before, insert, sort, touching, joined, joinFrom, join, simplified, contains, othersFrom, keep, alone}
+use Rattle.notation.proofs.Bools.{below, above}
 use Rattle.layer.specs.Meaning.{RangeUpTo}
 use Rattle.complement.proofs.Sorted.{All, nothing, _and_, all-sort}
 
@@ -16,15 +17,6 @@ use Rattle.complement.proofs.Sorted.{All, nothing, _and_, all-sort}
 
 pub has : (r : Range) (i : ℕ) → r .low ≤ i → i ≤ r .high → between (r .low) (r .high) i ≡ true
 has r i p q = rw (le-leb (r .low) i p, le-leb i (r .high) q)
-
-pub has-not-before : (r : Range) (i : ℕ) → i < r .low → between (r .low) (r .high) i ≡ false
-has-not-before r i p = rw (lt-leb (r .low) i p)
-
-pub has-not-after : (r : Range) (i : ℕ) → r .high < i → between (r .low) (r .high) i ≡ false
-has-not-after r i p = go (leb (r .low) i) where
-  go : (t : Bool) → (t && leb i (r .high)) ≡ false
-  go true = lt-leb i (r .high) p
-  go false = refl
 
 -- a range with a layer at least
 abbrev pub Ordered : Range → Type 0
@@ -47,10 +39,10 @@ joins a b i p q e = go (leb (a .low) i) (leb i (a .high)) (leb (b .low) i) (leb 
   go true true v w f g h k = in-both (omega (arith, leb-true (a .low) i f)) (omega (arith, leb-true i (a .high) g))
   go true false true true f g h k = in-both (omega (arith, leb-true (a .low) i f)) (omega (arith, leb-true i (b .high) k))
   go true false false w f g h k = absurd (omega (arith, near, leb-false i (a .high) g, leb-false (b .low) i h))
-  go true false true false f g h k = has-not-after (joined a b) i (omega (arith, leb-false i (a .high) g, leb-false i (b .high) k))
+  go true false true false f g h k = above (min (a .low) (b .low)) (max (a .high) (b .high)) i (omega (arith, leb-false i (a .high) g, leb-false i (b .high) k))
   go false u true true f g h k = in-both (omega (arith, leb-true (b .low) i h)) (omega (arith, leb-true i (b .high) k))
   go false u true false f g h k = absurd (omega (arith, near, leb-false (a .low) i f, leb-false i (b .high) k))
-  go false u false w f g h k = has-not-before (joined a b) i (omega (arith, leb-false (a .low) i f, leb-false (b .low) i h))
+  go false u false w f g h k = below (min (a .low) (b .low)) (max (a .high) (b .high)) i (omega (arith, leb-false (a .low) i f, leb-false (b .low) i h))
 
 -- ── simplified ranges ──
 
@@ -106,12 +98,12 @@ module _ (i : ℕ) where
   pub none-below : (n : ℕ) (l : List Range) → All (RangeUpTo n) l → i < 1 → contains l i ≡ false
   unfolding contains
   none-below n [] nothing h = refl
-  none-below n (r ∷ l) (p and q) h = rw (has-not-before r i (omega (arith, p .low)), none-below n l q h)
+  none-below n (r ∷ l) (p and q) h = rw (below (r .low) (r .high) i (omega (arith, p .low)), none-below n l q h)
 
   pub none-beyond : (n : ℕ) (l : List Range) → All (RangeUpTo n) l → n < i → contains l i ≡ false
   unfolding contains
   none-beyond n [] nothing h = refl
-  none-beyond n (r ∷ l) (p and q) h = rw (has-not-after r i (omega (arith, p .high)), none-beyond n l q h)
+  none-beyond n (r ∷ l) (p and q) h = rw (above (r .low) (r .high) i (omega (arith, p .high)), none-beyond n l q h)
 
 -- ── the others ──
 
@@ -134,7 +126,7 @@ module _ (l : List Range) where
     others-before j (suc m) p = go (contains l j) (others-before (suc j) m (omega arith)) where
       go : (t : Bool) → contains (othersFrom (suc j) m l) i ≡ false → contains (keep (pick t none (alone (some j))) (othersFrom (suc j) m l)) i ≡ false
       go true h = h
-      go false h = rw (has-not-before (layer j) i p, h)
+      go false h = rw (below j j i p, h)
 
     -- a layer is one of the others where the ranges do not have it
     pub others-have : (j m : ℕ) → j ≤ i → i < j + m → contains (othersFrom j m l) i ≡ not (contains l i)
@@ -144,7 +136,7 @@ module _ (l : List Range) where
       later : (t : Bool) → j < i → contains (othersFrom (suc j) m l) i ≡ not (contains l i) →
           contains (keep (pick t none (alone (some j))) (othersFrom (suc j) m l)) i ≡ not (contains l i)
       later true h f = f
-      later false h f = rw (has-not-after (layer j) i h, f)
+      later false h f = rw (above j j i h, f)
 
       here : (t : Bool) → i ≡ j → contains l i ≡ t → contains (keep (pick t none (alone (some j))) (othersFrom (suc j) m l)) i ≡ not t
       here true e f = others-before (suc j) m (omega (arith, e))

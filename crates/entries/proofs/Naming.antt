@@ -1,28 +1,28 @@
 -- What the entries that name a record come to, case by case. Assumes nothing.
 use Prim.Native.Nat.{ℕ, _+_, _-_, _*_, _/_, _%_, _≤_, _<_}
-use mathlib.Core.Path.{_≡_, refl, sym, ap, subst, _∙_}
-use mathlib.Core.Bool.{Bool, true, false, _&&_}
-use mathlib.Core.List.{List, [], _∷_, _++_}
+use mathlib.Core.Path.{_≡_, refl, sym, ap, subst}
+use mathlib.Core.Bool.{Bool, true}
+use mathlib.Core.List.{List, []}
 use native.Mathlib.Omega.{arith}
 use borrow.Author.Tests.{le-leb, lt-leb, lt-ltb, le-ltb, eq-eqb, ne-eqb}
-use lib.Dec.{eqb, leb, ltb}
+use lib.Dec.{eqb}
 use lib.ListN.{length, take, drop, length-drop}
 use lib.Seq.{take-all}
 use Rattle.notation.specs.Basics.{pick, between}
-use Rattle.notation.specs.Refusals.{Outcome, refusal, result, _>>=_, _>>_, unless, NO-SUCH-LAYER-COUNT, NO-SUCH-RECORD}
-use Rattle.notation.specs.Layers.{Range, MAX-LAYER, lit, simplified}
-use Rattle.notation.specs.Tree.{Span, Layers, partOf}
+use Rattle.notation.specs.Refusals.{Outcome, refusal, result, _>>=_, _>>_, NO-SUCH-LAYER-COUNT, NO-SUCH-RECORD}
+use Rattle.notation.specs.Layers.{MAX-LAYER, lit, simplified}
+use Rattle.notation.specs.Tree.{Span, Layers}
 use Rattle.notation.specs.Packed.{RECORD, Head, headAt, familyAt}
-use Rattle.notation.specs.WellFormed.{inside, familyOk, layersOk, constraintsOk, multiplierOk, leafOk}
+use Rattle.notation.specs.WellFormed.{inside, familyOk, layersOk, leafOk}
 use Rattle.notation.specs.Entries.{
-  Lent, refusalNumber, recordAt, prefixOf, rangesIn, layerRanges, lend, inEntries, rangeBytes, simplifyBytes, familyOf, familySpan, partIn, family, familyRefusal
+  Lent, refusalNumber, prefixOf, rangesIn, layerRanges, lend, inEntries, rangeBytes, simplifyBytes, familyOf, familySpan, family, familyRefusal
 }
-use Rattle.record.specs.Meaning.{field, layersAt, moveAt}
-use Rattle.record.proofs.Packed.{by-kind, headAt-kind}
+use Rattle.record.specs.Meaning.{field, layersAt}
+use Rattle.record.proofs.Packed.{by-kind}
 use Rattle.laws.proofs.Bools.{and-left, and-right}
 use Rattle.sound.specs.Sound.{Sound}
 use Rattle.sound.proofs.Outcomes.{Checks, refused}
-use Rattle.sound.proofs.Records.{HeadOk, record-ok}
+use Rattle.sound.proofs.Records.{HeadOk, prefix-ok, record-ok}
 
 abbrev pub tildeAt : List ℕ → Bool
 tildeAt bs = eqb (field 0 bs / 8 % 2) 1
@@ -74,10 +74,7 @@ module _ (bs : List ℕ) (k : ℕ) (e : k ≡ field 0 bs / 16) where
       stands n h = and-left (inside text (familyAt (field 5 bs) (field 6 bs))) _ (and-left _ _ h)
 
   pub layers-inside : (text : List ℕ) → k ≡ 7 → HeadOk text (headAt bs) → layersOk text (layersAt bs) ≡ true
-  unfolding leafOk
-  layers-inside text z h =
-      let m : HeadOk text (moveAt bs) = subst (HeadOk text) (headAt-kind bs 7 (sym z ∙ e)) h in
-      and-left (layersOk text (layersAt bs)) _ (and-left _ _ (and-left _ _ m))
+  layers-inside text z h = prefix-ok text (headAt bs) (tildeAt bs) (layersAt bs) h (some-prefix z)
 
 -- The record at a number, as the part of the tree from it on that the code takes.
 abbrev pub found : List ℕ → ℕ → List ℕ

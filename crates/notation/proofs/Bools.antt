@@ -1,10 +1,12 @@
 -- Small facts of tests, options and outcomes, for the proofs of every crate. Assumes nothing.
-use Prim.Native.Nat.{ℕ}
+use Prim.Native.Nat.{ℕ, _<_}
 use mathlib.Core.Path.{_≡_, refl, sym}
 use mathlib.Core.Bool.{Bool, true, false, not, _&&_}
 use mathlib.Core.Option.{Option, none, some}
 use native.Mathlib.Omega.{arith}
-use Rattle.notation.specs.Basics.{pick}
+use lib.Dec.{leb}
+use borrow.Author.Tests.{lt-leb}
+use Rattle.notation.specs.Basics.{pick, between}
 use Rattle.notation.specs.Refusals.{Outcome, refusal, result}
 
 pub false-true : _≡_ {A = Bool} false true → ⊥
@@ -24,6 +26,13 @@ and-both a b p q = rw (p, q)
 pub and-false : (a : Bool) → (a && false) ≡ false
 and-false true = refl
 and-false false = refl
+
+-- no number below or above is between
+pub below : (l h x : ℕ) → x < l → between l h x ≡ false
+below l h x p = rw (lt-leb l x p)
+
+pub above : (l h x : ℕ) → h < x → between l h x ≡ false
+above l h x p = rw (lt-leb x h p) (and-false (leb l x))
 
 pub not-true : (b : Bool) → not b ≡ true → b ≡ false
 not-true true e = sym e

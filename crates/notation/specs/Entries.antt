@@ -169,7 +169,7 @@ prefixOf (leafHead (megaminx k)) = refusal NO-SUCH-RECORD
 prefixOf (groupHead k n m c) = refusal NO-SUCH-RECORD
 prefixOf (binaryHead k n n′ m c) = refusal NO-SUCH-RECORD
 
--- no contents: layer 1
+-- what a prefix gives without its tilde; no contents: layer 1
 abbrev pub rangesIn : List ℕ → ℕ → Bool → Layers Span → List Range
 rangesIn text n neg noLayers = keep (clampToLayerCount n (record { low = 1; high = 1 })) []
 rangesIn text n neg (singleLayer i) = keep (clampToLayerCount n (record { low = i; high = i })) []

@@ -119,13 +119,13 @@ unfoldable pub othersFrom : (i m : ℕ) → List Range → List Range
 othersFrom i zero l = []
 othersFrom i (suc m) l = keep (pick (contains l i) none (alone (some i))) (othersFrom (suc i) m l)
 
--- the same of the layers from 1 to n
+-- the layers from 1 to n that the ranges do not give, each alone
 abbrev pub others : ℕ → List Range → List Range
 others n l = othersFrom 1 n l
 
 abbrev pub complement : ℕ → List Range → List Range
 complement n l = simplified (others n l)
 
--- document 02, request 3: with a tilde the layers that the same prefix without it does not give
+-- document 02, request 3: with a tilde the layers that the same prefix without it does not give; simplified, `lit n true l` is `complement n l`
 abbrev pub lit : ℕ → (tilde : Bool) → List Range → List Range
 lit n tilde l = pick tilde (others n l) l

@@ -5,9 +5,10 @@ use mathlib.Core.Bool.{Bool, true, false, not}
 use mathlib.Core.List.{List}
 use Rattle.notation.specs.Basics.{between}
 use Rattle.notation.specs.Refusals.{Outcome, result, _>>=_}
-use Rattle.notation.specs.Layers.{Range, contains, complement}
-use Rattle.notation.specs.Tree.{Span, Layers}
-use Rattle.notation.specs.Entries.{recordAt, prefixOf, layerRanges}
+use Rattle.notation.specs.Layers.{Range, MAX-LAYER, contains, complement}
+use Rattle.notation.specs.Tree.{Span, Layers, Tree}
+use Rattle.notation.specs.Meaning.{layerMeaning}
+use Rattle.notation.specs.Entries.{checked, recordAt, prefixOf, layerRanges}
 
 -- two answers that share the layers from 1 to n between them
 pub record Opposite (n : ℕ) (a b : List Range) : Type 0 where
@@ -23,9 +24,10 @@ pub record Opposite (n : ℕ) (a b : List Range) : Type 0 where
 abbrev pub prefixAt : List ℕ → ℕ → Outcome (Bool × Layers Span)
 prefixAt tree k = do h ← recordAt tree k; prefixOf h
 
--- two moves over one text, of the same tree or not, whose prefixes differ in the tilde alone
+-- Two moves of accepted trees, over one text or two, whose prefixes mean the same but for the tilde: on every axis both are answered, and the answers are opposite.
 abbrev pub LightsOthers : Type 0
 LightsOthers =
-    (text tree tree′ : List ℕ) (k k′ : ℕ) (contents : Layers Span) →
-    prefixAt tree k ≡ result (false, contents) → prefixAt tree′ k′ ≡ result (true, contents) →
-    (n : ℕ) (neg : Bool) (a b : List Range) → layerRanges text tree k n neg ≡ result a → layerRanges text tree′ k′ n neg ≡ result b → Opposite n a b
+    (text text′ tree tree′ : List ℕ) (t t′ : Tree) → checked text tree ≡ result t → checked text′ tree′ ≡ result t′ →
+    (k k′ : ℕ) (l l′ : Layers Span) → prefixAt tree k ≡ result (false, l) → prefixAt tree′ k′ ≡ result (true, l′) → layerMeaning text l ≡ layerMeaning text′ l′ →
+    (n : ℕ) (neg : Bool) → between 1 MAX-LAYER n ≡ true →
+    (a b : List Range) × (layerRanges text tree k n neg ≡ result a) × (layerRanges text′ tree′ k′ n neg ≡ result b) × Opposite n a b

@@ -5,13 +5,13 @@ use mathlib.Core.Bool.{Bool, true, false, not, _&&_, _||_}
 use mathlib.Core.List.{List}
 use native.Mathlib.Omega.{arith}
 use borrow.Author.Tests.{eq-eqb, ne-eqb, eqb-true, lt-leb, le-leb}
-use lib.Dec.{leb, eqb}
+use lib.Dec.{eqb}
 use lib.ListN.{getD}
-use Rattle.notation.specs.Basics.{pick, between, sameList}
+use Rattle.notation.specs.Basics.{pick, sameList}
 use Rattle.notation.specs.Tree.{Span, span}
 use Rattle.notation.specs.Packed.{nowhere, familyAt, lowAndHigh, Head, headFields, headAt}
 use Rattle.notation.specs.Clauses.{Fields, kind, tilde, form, present, number, other, family, isGroup, isBinary, isMove, isPair, hasMultiplier, hasFamily, hasConstraints, hasSet, kindOk}
-use Rattle.notation.proofs.Bools.{false-true, and-left, and-right, and-both}
+use Rattle.notation.proofs.Bools.{false-true, and-left, and-right, and-both, above}
 use Rattle.numbers.proofs.Positional.{Below}
 use Rattle.record.specs.Meaning.{field, bothZero, spanAt, layersAt}
 use Rattle.record.specs.Unused.{familyWritten, partsWritten, setWritten}
@@ -64,14 +64,6 @@ record Uses (r : Fields) (m f n p : Bool) : Type 0 where
   numbered : (hasMultiplier r || isPair r) ≡ n
   paired : isPair r ≡ p
 
--- no kind from a to b, as the definitions ask
-outside : (k a b : ℕ) → b < k → between a b k ≡ false
-outside k a b h = rw (lt-leb k b h) (go (leb a k))
-  where
-    go : (t : Bool) → (t && false) ≡ false
-    go true = refl
-    go false = refl
-
 module _ (r : Fields) where
   uses-move : kind r ≡ 7 → Uses r true true true false
   uses-move e = record { moves = rw e; named = rw e; alone = rw e; single = rw e; numbered = rw e; paired = rw e }
@@ -88,7 +80,7 @@ module _ (r : Fields) where
         moves = ne-eqb (kind r) 7 (λ e. omega arith);
         named = rw (ne-eqb (kind r) 6 (λ e. omega arith), ne-eqb (kind r) 7 (λ e. omega arith));
         alone = lt-leb (kind r) 5 (omega arith);
-        single = outside (kind r) 4 5 (omega arith);
+        single = above 4 5 (kind r) (omega arith);
         numbered = rw (lt-leb (kind r) 7 h, ne-eqb (kind r) 9 n);
         paired = ne-eqb (kind r) 9 n;
       }

@@ -27,8 +27,7 @@ use Rattle.simplify.specs.Elements.{markedSet}
 use Rattle.simplify.proofs.Table.{gathers}
 use Rattle.simplify.proofs.Over.{turned-over}
 use Rattle.simplify.proofs.Sweep.{length-rangeBytes, all-written, write-one}
-use Rattle.simplify.proofs.ElementRanges.{set-ranges}
-use Rattle.simplify.proofs.Few.{set-read}
+use Rattle.simplify.proofs.Few.{set-on-axis}
 
 -- ── a buffer with room, and one without ──
 
@@ -69,7 +68,7 @@ take-zeros (suc k) (suc m) h = ap (_∷_ 0) (take-zeros k m (omega arith))
 pub length-zeros : (k m : ℕ) → k ≤ m → k ≡ length {A = ℕ} (take k (replicate m 0))
 length-zeros k m h = sym (ap length (take-zeros k m h) ∙ length-replicate k 0)
 
-module _ (n : ℕ) (real : IsLayer n) (allowed : Bool) (part s₀ s : List ℕ) (h : isSome (layerSetIn part) ≡ true) (e : s₀ ≡ replicate (n + 1) 0)
+module _ (n : ℕ) (real : IsLayer n) (allowed : Bool) (part s₀ s : List ℕ) (e : s₀ ≡ replicate (n + 1) 0)
   (f : s ≡ markedSet n allowed (orEmpty (layerSetIn part)) s₀)
   where
     l : List Range
@@ -77,7 +76,7 @@ module _ (n : ℕ) (real : IsLayer n) (allowed : Bool) (part s₀ s : List ℕ) 
 
     on-axis : All (RangeUpTo n) l
     unfolding l
-    on-axis = set-ranges n allowed (real .low) (orEmpty (layerSetIn part)) (set-read part true h)
+    on-axis = set-on-axis n allowed (real .low) part
 
     pub set-gathered : Gathered n (setRanges n allowed (orEmpty (layerSetIn part))) s
     unfolding l

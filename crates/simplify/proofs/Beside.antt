@@ -10,9 +10,9 @@ use lib.ListN.{length}
 use borrow.Author.Tests.{leb-true, leb-false, le-leb, lt-leb}
 use Rattle.notation.specs.Basics.{pick, between}
 use Rattle.notation.specs.Layers.{Range, contains, complement, clampToLayerCount, keep}
-use Rattle.charsets.proofs.Bools.{or-false}
+use Rattle.charsets.proofs.Bools.{or-false, below, above}
 use Rattle.layer.specs.Meaning.{IsRange}
-use Rattle.complement.proofs.Contains.{has, has-not-before, has-not-after, or-assoc}
+use Rattle.complement.proofs.Contains.{has, or-assoc}
 use Rattle.complement.proofs.Apart.{Apart, last, next}
 use Rattle.complement.proofs.Complement.{complement-is}
 use Rattle.simplify.specs.Reach.{rangeFrom, someFrom}
@@ -65,7 +65,7 @@ module _ (low high n : ℕ) (real : IsRange (rangeFrom low high)) where
 
     go : (t : Bool) → leb low n ≡ t → contains (keep (pick t (some (rangeFrom low (min high n))) none) []) i ≡ between low high i
     go true e = or-false (between low (min high n) i) ∙ ap (λ (t : Bool). leb low i && t) (cut (leb i high) refl)
-    go false e = sym (has-not-before (rangeFrom low high) i (omega (arith, leb-false low n e)))
+    go false e = sym (below low high i (omega (arith, leb-false low n e)))
 
   module _ (before : ℕ) (e : before ≡ pick (leb low n) (low - 1) n) where
     -- where the layers before it end
@@ -87,8 +87,8 @@ module _ (low high n : ℕ) (real : IsRange (rangeFrom low high)) where
       past h = ends (λ k. k < i) (λ m. omega (arith, real .low)) (λ m. omega arith)
 
       go : (t u : Bool) → leb low i ≡ t → leb i high ≡ u → (between 1 before i || between (high + 1) n i) ≡ not (t && u)
-      go true true f g = rw (has-not-after (rangeFrom 1 before) i (past (leb-true low i f)), has-not-before (rangeFrom (high + 1) n) i (omega (arith, leb-true i high g)))
-      go true false f g = rw (has-not-after (rangeFrom 1 before) i (past (leb-true low i f)), has (rangeFrom (high + 1) n) i (omega (arith, leb-false i high g)) q)
+      go true true f g = rw (above 1 before i (past (leb-true low i f)), below (high + 1) n i (omega (arith, leb-true i high g)))
+      go true false f g = rw (above 1 before i (past (leb-true low i f)), has (rangeFrom (high + 1) n) i (omega (arith, leb-false i high g)) q)
       go false u f g = rw (has (rangeFrom 1 before) i p (ends (λ k. i ≤ k) (λ m. omega (arith, leb-false low i f)) (λ m. q)))
 
     pub around : someFrom 1 before ++ someFrom (high + 1) n ≡ complement n (keep (clampToLayerCount n (rangeFrom low high)) [])
@@ -96,5 +96,5 @@ module _ (low high n : ℕ) (real : IsRange (rangeFrom low high)) where
         sym (complement-is n kept (someFrom 1 before ++ someFrom (high + 1) n)
         (two-apart before (high + 1) n (λ h. ends (λ k. k + 2 ≤ high + 1) (λ m. omega (arith, real .low, real .ordered)) (λ m. omega (arith, real .ordered))) (omega arith))
         (λ i p q. beside-have i ∙ beside i p q ∙ ap not (sym (kept-has i q)))
-        (λ i p. beside-have i ∙ rw (has-not-before (rangeFrom 1 before) i p, has-not-before (rangeFrom (high + 1) n) i (omega arith)))
-        (λ i p. beside-have i ∙ rw (has-not-after (rangeFrom 1 before) i (omega (arith, short)), has-not-after (rangeFrom (high + 1) n) i p)))
+        (λ i p. beside-have i ∙ rw (below 1 before i p, below (high + 1) n i (omega arith)))
+        (λ i p. beside-have i ∙ rw (above 1 before i (omega (arith, short)), above (high + 1) n i p)))

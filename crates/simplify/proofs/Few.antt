@@ -1,16 +1,16 @@
 -- Simplified ranges neither overlap nor touch: an axis of n layers has at most (n + 1) / 2 of them, and their ends fit 16 bits. Assumes nothing.
-use Prim.Native.Nat.{ℕ, _+_, _*_, _≤_, _<_, min, max}
+use Prim.Native.Nat.{ℕ, _≤_, _<_, min}
 use native.Mathlib.Omega.{arith}
 use mathlib.Core.Path.{_≡_, refl, sym, subst}
 use mathlib.Core.Bool.{Bool, true, false}
-use mathlib.Core.List.{List, [], _∷_}
+use mathlib.Core.List.{List, []}
 use mathlib.Core.Option.{Option, none, some}
 use lib.Dec.{leb}
 use lib.ListN.{length}
-use borrow.Author.Tests.{leb-true, leb-false}
-use Rattle.notation.specs.Basics.{pick, choose, between, every}
+use borrow.Author.Tests.{leb-true}
+use Rattle.notation.specs.Basics.{pick, between, every}
 use Rattle.notation.specs.Refusals.{result, unless, NO-SUCH-LAYER-COUNT}
-use Rattle.notation.specs.Layers.{Range, LayerSetElement, MAX-LAYER, insert, sort, touching, joined, joinFrom, join, simplified, clampToLayerCount, setRanges, keep, others, lit}
+use Rattle.notation.specs.Layers.{Range, LayerSetElement, MAX-LAYER, insert, sort, joinFrom, join, simplified, clampToLayerCount, setRanges, keep, others, lit}
 use Rattle.notation.specs.Tree.{Layers, noLayers, singleLayer, layerRange, layerSet, Span, partOf}
 use Rattle.notation.specs.Grammar.{layerSetElements}
 use Rattle.notation.specs.Meaning.{layerSetIn, orEmpty}
@@ -22,7 +22,8 @@ use Rattle.laws.proofs.Outcomes.{same-result, after, held}
 use Rattle.laws.proofs.InRange.{elementInRange}
 use Rattle.laws.proofs.Readers.{anywhere}
 use Rattle.laws.proofs.ReadingYields.{yields-element, yields-braces}
-use Rattle.complement.proofs.Sorted.{All, nothing, _and_, Deeper, Sorted, empty, first, all-weaken, all-sort, sort-sorted}
+use Rattle.complement.proofs.Sorted.{All, nothing, _and_, all-weaken}
+use Rattle.complement.proofs.Apart.{simplified-apart, simplified-on-axis, apart-few}
 use Rattle.complement.proofs.Complement.{others-on-axis}
 use Rattle.simplify.proofs.SetElements.{whole}
 use Rattle.simplify.proofs.ElementRanges.{set-ranges}
@@ -36,49 +37,10 @@ pub record Few (l : List Range) : Type 0 where
   pub many : length l ≤ 16384
   pub short : All Short l
 
--- ── joined ranges ──
-
-short-from : (a : Range) (l : List Range) → Short a → All Short l → All Short (joinFrom a l)
-unfolding joinFrom
-short-from a [] p nothing = p and nothing
-short-from a (b ∷ l) p (q and h) =
-    go (touching a b) (short-from (joined a b) l (record { low = omega (arith, p .low, q .low); high = omega (arith, p .high, q .high) }) h) (short-from b l q h)
-  where
-    go : (t : Bool) → All Short (joinFrom (joined a b) l) → All Short (joinFrom b l) → All Short (choose t (λ _. joinFrom (joined a b) l) (λ _. a ∷ joinFrom b l))
-    go true i j = i
-    go false i j = p and j
-
-short-join : (l : List Range) → All Short l → All Short (join l)
-unfolding join
-short-join [] nothing = nothing
-short-join (a ∷ l) (p and h) = short-from a l p h
-
--- each joined range but the last takes up a layer and the one after it
-count-from : (n : ℕ) (c : Range) (l : List Range) → RangeUpTo n c → All (RangeUpTo n) l → Sorted l → All (Deeper (c .low)) l → c .low + 2 * length (joinFrom c l) ≤ n + 2
-unfolding joinFrom Deeper
-count-from n c [] p nothing empty nothing = omega (arith, p .ordered, p .high)
-count-from n c (a ∷ l) p (q and h) (first ordered d s) (deep and ds) = go (touching c a) refl
-    (count-from n (joined c a) l
-      (record { low = omega (arith, p .low, q .low); ordered = omega (arith, p .ordered, q .ordered); high = omega (arith, p .high, q .high) })
-      h s (all-weaken (λ r w. (omega (arith, w .0), w .1)) ds))
-    (count-from n a l q h s d)
-  where
-    go : (t : Bool) → touching c a ≡ t → min (c .low) (a .low) + 2 * length (joinFrom (joined c a) l) ≤ n + 2 → a .low + 2 * length (joinFrom a l) ≤ n + 2 →
-        c .low + 2 * length (choose t (λ _. joinFrom (joined c a) l) (λ _. c ∷ joinFrom a l)) ≤ n + 2
-    go true e i j = omega (arith, i, deep .0)
-    go false e i j =
-        let apart : min (c .high) (a .high) + 1 < max (c .low) (a .low) = leb-false (max (c .low) (a .low)) (min (c .high) (a .high) + 1) e in
-        omega (arith, j, apart, deep .0, p .ordered, q .ordered)
-
-count-join : (n : ℕ) (l : List Range) → All (RangeUpTo n) l → Sorted l → 2 * length (join l) ≤ n + 1
-unfolding join
-count-join n [] nothing empty = omega arith
-count-join n (a ∷ l) (p and h) (first ordered d s) = omega (arith, count-from n a l p h s d, p .low)
-
 few-ranges : (n : ℕ) (l : List Range) → n ≤ MAX-LAYER → All (RangeUpTo n) l → Few (simplified l)
 few-ranges n l most h = record {
-  many = omega (arith, count-join n (sort l) (all-sort l h) (sort-sorted n l h), most);
-  short = short-join (sort l) (all-weaken (λ r p. record { low = omega (arith, p .ordered, p .high, most); high = omega (arith, p .high, most) }) (all-sort l h));
+  many = omega (arith, apart-few n (simplified-apart n l h) (simplified-on-axis n l h) (omega arith), most);
+  short = all-weaken (λ r p. record { low = omega (arith, p .ordered, p .high, most); high = omega (arith, p .high, most) }) (simplified-on-axis n l h);
 }
 
 -- ── the ranges of a move ──
@@ -98,7 +60,7 @@ none-read none h = refl
 none-read (some l) h = absurd (false-true (sym h))
 
 -- what the grammar reads as a set has layers from 1 to 32,767 only
-pub set-read : (part : List ℕ) (t : Bool) → isSome (layerSetIn part) ≡ t → every elementInRange (orEmpty (layerSetIn part)) ≡ true
+set-read : (part : List ℕ) (t : Bool) → isSome (layerSetIn part) ≡ t → every elementInRange (orEmpty (layerSetIn part)) ≡ true
 unfolding layerSetIn layerSetElements
 set-read part true h =
     let w = whole (layerSetElements true 0 part) h in
@@ -106,13 +68,14 @@ set-read part true h =
     rw (w .3) (y .holds)
 set-read part false h = none-read (layerSetIn part) h
 
+pub set-on-axis : (n : ℕ) (neg : Bool) → 1 ≤ n → (part : List ℕ) → All (RangeUpTo n) (setRanges n neg (orEmpty (layerSetIn part)))
+set-on-axis n neg least part = set-ranges n neg least (orEmpty (layerSetIn part)) (set-read part (isSome (layerSetIn part)) refl)
+
 few-layers : (text : List ℕ) (n : ℕ) (neg : Bool) (l : Layers Span) → 1 ≤ n → n ≤ MAX-LAYER → Few (simplified (rangesIn text n neg l))
 few-layers text n neg noLayers least most = at-most-one n (record { low = 1; high = 1 }) most
 few-layers text n neg (singleLayer i) least most = at-most-one n (record { low = i; high = i }) most
 few-layers text n neg (layerRange i j) least most = at-most-one n (record { low = i; high = j }) most
-few-layers text n neg (layerSet p) least most =
-    few-ranges n (setRanges n neg (orEmpty (layerSetIn (partOf text p)))) most
-    (set-ranges n neg least (orEmpty (layerSetIn (partOf text p))) (set-read (partOf text p) (isSome (layerSetIn (partOf text p))) refl))
+few-layers text n neg (layerSet p) least most = few-ranges n (setRanges n neg (orEmpty (layerSetIn (partOf text p)))) most (set-on-axis n neg least (partOf text p))
 
 few-lit : (text : List ℕ) (n : ℕ) (neg tilde : Bool) (l : Layers Span) → 1 ≤ n → n ≤ MAX-LAYER → Few (simplified (lit n tilde (rangesIn text n neg l)))
 few-lit text n neg false l least most = few-layers text n neg l least most

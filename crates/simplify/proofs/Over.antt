@@ -58,22 +58,22 @@ one-reaches i r s h = rw (farthest-marked i (r .low) (r .high) s h) (go (leb (r 
   go true = further (leb i (r .high)) (leb i (farthest i s)) refl refl
   go false = refl
 
-all-reach : (i n : ℕ) (l : List Range) → All (RangeUpTo n) l → (s : List ℕ) → n < length s → leb i (farthest i (markedAll l s)) ≡ (contains l i || leb i (farthest i s))
+all-cover : (i n : ℕ) (l : List Range) → All (RangeUpTo n) l → (s : List ℕ) → n < length s → leb i (farthest i (markedAll l s)) ≡ (contains l i || leb i (farthest i s))
 unfolding markedAll contains
-all-reach i n [] nothing s h = refl
-all-reach i n (r ∷ l) (p and q) s h =
-    all-reach i n l q (marked r s) (simp length-set h)
+all-cover i n [] nothing s h = refl
+all-cover i n (r ∷ l) (p and q) s h =
+    all-cover i n l q (marked r s) (simp length-set h)
     ∙ ap (λ (t : Bool). contains l i || t) (one-reaches i r s (omega (arith, p .ordered, p .high)))
     ∙ or-swap (contains l i) (between (r .low) (r .high) i) (leb i (farthest i s))
     ∙ sym (or-assoc (between (r .low) (r .high) i) (contains l i) (leb i (farthest i s)))
 
 module _ (n : ℕ) (l : List Range) where
-  abbrev table : List ℕ
-  table = markedAll l (replicate (n + 1) 0)
+  abbrev filled : List ℕ
+  filled = markedAll l (replicate (n + 1) 0)
 
-  reached : All (RangeUpTo n) l → (i : ℕ) → 1 ≤ i → contains l i ≡ leb i (farthest i table)
+  reached : All (RangeUpTo n) l → (i : ℕ) → 1 ≤ i → contains l i ≡ leb i (farthest i filled)
   reached h i p =
-      sym (all-reach i n l h (replicate (n + 1) 0) (omega (arith, length-replicate {A = ℕ} (n + 1) 0)) ∙ rw (farthest-zeros i (n + 1), lt-leb i 0 (omega arith)) (or-false (contains l i)))
+      sym (all-cover i n l h (replicate (n + 1) 0) (omega (arith, length-replicate {A = ℕ} (n + 1) 0)) ∙ rw (farthest-zeros i (n + 1), lt-leb i 0 (omega arith)) (or-false (contains l i)))
 
   -- ── both tables, entry by entry ──
 
@@ -121,11 +121,11 @@ module _ (n : ℕ) (l : List Range) where
 
   pub turned-over : All (RangeUpTo n) l → turnedOver 0 0 (markedAll l (replicate (n + 1) 0)) ≡ markedAll (others n l) (replicate (n + 1) 0)
   unfolding turnedOver farthest
-  turned-over h = go table refl ∙ sym marked-others where
+  turned-over h = go filled refl ∙ sym marked-others where
     marked-others : markedAll (others n l) (replicate (n + 1) 0) ≡ 0 ∷ entries 1 n
     marked-others = rw (add-one n) (others-marked 1 n (0 ∷ []) refl)
 
-    go : (s : List ℕ) → table ≡ s → turnedOver 0 0 s ≡ 0 ∷ entries 1 n
+    go : (s : List ℕ) → filled ≡ s → turnedOver 0 0 s ≡ 0 ∷ entries 1 n
     go [] e = absurd (omega (arith, ap length e, length-marked l (replicate (n + 1) 0), length-replicate {A = ℕ} (n + 1) 0))
     go (x ∷ t) e =
         let size : length t ≡ n = omega (arith, ap length e, length-marked l (replicate (n + 1) 0), length-replicate {A = ℕ} (n + 1) 0) in

@@ -122,7 +122,7 @@ fn mark_set(part: &[u8], axis: AxisLayersInfo, reach: &mut [u16])
 }
 
 // Gathers the ranges of a layer set in an empty table of the axis, or with a tilde the layers that they do not give.
-fn mark_prefix(part: &[u8], axis: AxisLayersInfo, inverted: bool, reach: &mut [u16])
+fn gather_set(part: &[u8], axis: AxisLayersInfo, inverted: bool, reach: &mut [u16])
     requires { ⌜ meaning.IsLayer (axis .«max_layer») ⌝ }
     requires { ⌜ now reach ≡ replicate (axis .«max_layer» + 1) 0 ⌝ }
     requires { ⌜ isSome (layerSetIn (now part)) ≡ true ⌝ }
@@ -134,14 +134,14 @@ fn mark_prefix(part: &[u8], axis: AxisLayersInfo, inverted: bool, reach: &mut [u
     }
 }
 
-// The ranges of a layer set, over an empty table of the axis.
+// The ranges of a layer set, or with a tilde of the other layers, over an empty table of the axis.
 fn simplify_set(part: &[u8], axis: AxisLayersInfo, inverted: bool, reach: &mut [u16], out: &mut [u8]) -> Answer
     requires { ⌜ meaning.IsLayer (axis .«max_layer») ⌝ }
     requires { ⌜ now reach ≡ replicate (axis .«max_layer» + 1) 0 ⌝ }
     requires { ⌜ isSome (layerSetIn (now part)) ≡ true ⌝ }
     ensures { λ r. ⌜ elements.Gives (elements.litSet (axis .«max_layer») (axis .«allow_negatives») inverted (now (part .entry))) r (now (out .exit)) (now (out .entry)) ⌝ }
 {
-    mark_prefix(part, axis, inverted, reach);
+    gather_set(part, axis, inverted, reach);
     let runs = count_runs(reach);
     if out.len() / 4 < runs {
         return Answer::Refused(NO_ROOM);
@@ -192,7 +192,7 @@ fn simplify_range(low: u16, high: u16, max_layer: u16, out: &mut [u8]) -> Answer
 }
 
 // The same with a tilde before it, or without one.
-fn simplify_prefix(low: u16, high: u16, inverted: bool, max_layer: u16, out: &mut [u8]) -> Answer
+fn simplify_no_set(low: u16, high: u16, inverted: bool, max_layer: u16, out: &mut [u8]) -> Answer
     requires { ⌜ meaning.IsRange (table.rangeFrom low high) ⌝ }
     requires { ⌜ meaning.IsLayer «max_layer» ⌝ }
     ensures { λ r. ⌜ elements.Gives (rule.lit «max_layer» inverted (rule.keep (rule.clampToLayerCount «max_layer» (table.rangeFrom low high)) [])) r (now (out .exit)) (now (out .entry)) ⌝ }
@@ -220,9 +220,9 @@ pub fn simplify(
     ensures { λ r. ⌜ elements.Gives (rule.lit «max_layer» inverted (rangesIn (now (text .entry)) «max_layer» «allow_negatives» (record′.layers layers))) r (now (out .exit)) (now (out .entry)) ⌝ }
 {
     match layers {
-        LayerPrefixContents::None => simplify_prefix(1, 1, inverted, max_layer, out),
-        LayerPrefixContents::Single(i) => simplify_prefix(i, i, inverted, max_layer, out),
-        LayerPrefixContents::Range(i, j) => simplify_prefix(i, j, inverted, max_layer, out),
+        LayerPrefixContents::None => simplify_no_set(1, 1, inverted, max_layer, out),
+        LayerPrefixContents::Single(i) => simplify_no_set(i, i, inverted, max_layer, out),
+        LayerPrefixContents::Range(i, j) => simplify_no_set(i, j, inverted, max_layer, out),
         LayerPrefixContents::Set(span) => {
             let from = span.offset as usize;
             let to = from + span.size as usize;

@@ -1,29 +1,47 @@
 -- Every record of a sound tree is one that a well-formed node has: what holds of the nodes holds of the record at each number.
 -- Assumes nothing.
-use Prim.Native.Nat.{ℕ, zero, suc, _+_, _-_, _*_, _/_, _≤_, _<_}
+use Prim.Native.Nat.{ℕ, _+_, _-_, _*_, _/_, _≤_, _<_}
 use mathlib.Core.Path.{_≡_, refl, sym, ap, _∙_, subst}
-use mathlib.Core.Bool.{Bool, true, false, _&&_}
-use mathlib.Core.List.{List, [], _∷_, _++_, append-assoc, append-nil}
+use mathlib.Core.Bool.{Bool, true, false}
+use mathlib.Core.List.{List, [], _++_, append-assoc, append-nil}
 use native.Mathlib.Omega.{arith}
 use borrow.Author.Tests.{ltb-true, ltb-false}
 use lib.Dec.{ltb}
 use lib.IntN.{ℤ}
 use lib.ListN.{length, drop}
 use lib.Seq.{drop-at, drop-drop}
-use Rattle.notation.specs.Tree.{Leaf, Node, leaf, block, Body, group, binaryGroup, nil, cons, Tree}
+use Rattle.notation.specs.Refusals.{result}
+use Rattle.notation.specs.Tree.{
+  Span, Layers, Leaf, rotation, move, pause, pair, slash, megaminx, Node, leaf, block, Body, group, binaryGroup, nil, cons, Tree
+}
 use Rattle.notation.specs.Packed.{RECORD, Head, leafHead, groupHead, binaryHead, headRecord, headAt, nodeSize, bodySize, size, bodyHead, packNode, packBody, pack, unpack}
-use Rattle.notation.specs.WellFormed.{leafOk, multiplierOk, nodeOk, bodyOk, treeOk}
+use Rattle.notation.specs.WellFormed.{leafOk, layersOk, multiplierOk, nodeOk, bodyOk, treeOk}
+use Rattle.notation.specs.Entries.{prefixOf}
 use Rattle.record.specs.Range.{FitsHead}
 use Rattle.record.proofs.RoundTrip.{length-headRecord, headAt-headRecord}
-use Rattle.laws.proofs.Bools.{and-left, and-right}
-use Rattle.laws.proofs.Packing.{FitsNode, FitsBody, FitsTree, length-packNode, length-packBody, length-pack}
-use Rattle.laws.proofs.Walking.{Packed}
+use Rattle.laws.proofs.Bools.{no-refusal, and-left, and-right}
+use Rattle.laws.proofs.Outcomes.{same-result}
+use Rattle.laws.proofs.Packing.{FitsNode, FitsBody, FitsTree, length-packNode, length-pack}
 use Rattle.sound.specs.Sound.{Sound}
 
 abbrev pub HeadOk : List ℕ → Head → Type 0
 HeadOk text (leafHead x) = leafOk text x ≡ true
 HeadOk text (groupHead k n m c) = Unit {0}
 HeadOk text (binaryHead k n n′ m c) = Unit {0}
+
+-- what stands behind the tilde of a well-formed move
+pub prefix-ok : (text : List ℕ) (h : Head) (t : Bool) (l : Layers Span) → HeadOk text h → prefixOf h ≡ result (t, l) → layersOk text l ≡ true
+unfolding leafOk
+prefix-ok text (leafHead (move t′ l′ f c m)) t l ok e =
+    let same : l′ ≡ l = ap (λ (x : Bool × Layers Span). x .1) (same-result e) in
+    subst (λ (k : Layers Span). layersOk text k ≡ true) same (and-left (layersOk text l′) _ (and-left _ _ (and-left _ _ ok)))
+prefix-ok text (leafHead (rotation f c m)) t l ok e = no-refusal e
+prefix-ok text (leafHead pause) t l ok e = no-refusal e
+prefix-ok text (leafHead (pair u d)) t l ok e = no-refusal e
+prefix-ok text (leafHead slash) t l ok e = no-refusal e
+prefix-ok text (leafHead (megaminx k)) t l ok e = no-refusal e
+prefix-ok text (groupHead k n m c) t l ok e = no-refusal e
+prefix-ok text (binaryHead k n n′ m c) t l ok e = no-refusal e
 
 -- each of m records, whatever follows them
 pub record Each (text bytes : List ℕ) (m : ℕ) : Type 0 where

@@ -39,7 +39,7 @@ refusals : (map (λ n. rangesAt 0 n true "R") (0 ∷ 1 ∷ 32767 ∷ 32768 ∷ [
 unfolding opened
 refusals = (refl, refl, refl)
 
--- A tilde (document 02, request 3): the request's own examples; then no contents, all, none, nothing that is given, each of these by its own way.
+-- A tilde (document 02, request 3): the request's own examples; then each form where it leaves something, nothing, and all (too deep, empty, a forbidden negative).
 others : (map (λ n. rangesAt 0 n true "~2R") (5 ∷ 2 ∷ 1 ∷ []) ≡ map result ((from 1 1 ∷ from 3 5 ∷ []) ∷ (from 1 1 ∷ []) ∷ (from 1 1 ∷ []) ∷ []))
     × (map (λ n. rangesAt 0 n true "~R") (1 ∷ 2 ∷ 5 ∷ []) ≡ map result ([] ∷ (from 2 2 ∷ []) ∷ (from 2 5 ∷ []) ∷ []))
     × (rangesAt 0 3 true "~{5..9}R" ≡ result (from 1 3 ∷ []))

@@ -17,20 +17,20 @@ use Rattle.simplify.proofs.unspanned.simplify.Tie as tie
 enum-told : tie.Need-enum-told
 enum-told c = search needs
 
-simplify-prefix-requires : tie.Need-simplify-prefix-requires
-simplify-prefix-requires c κs = search needs
+simplify-no-set-requires : tie.Need-simplify-no-set-requires
+simplify-no-set-requires c κs = search needs
 
 enum-known-layers : tie.Need-enum-known-layers
 enum-known-layers c = search needs
 
-simplify-prefix-requires-2 : tie.Need-simplify-prefix-requires-2
-simplify-prefix-requires-2 c κs = (single-real (c .before .before .before .before .before .before .args .text .now) _ (ap layers (c .before .before .layers .given .1)) (c .before .before .before .before .before .before .pre .1 .1), c .before .before .before .before .before .before .pre .0)
+simplify-no-set-requires-2 : tie.Need-simplify-no-set-requires-2
+simplify-no-set-requires-2 c κs = (single-real (c .before .before .before .before .before .before .args .text .now) _ (ap layers (c .before .before .layers .given .1)) (c .before .before .before .before .before .before .pre .1 .1), c .before .before .before .before .before .before .pre .0)
 
 enum-known-layers-2 : tie.Need-enum-known-layers-2
 enum-known-layers-2 c = search needs
 
-simplify-prefix-requires-3 : tie.Need-simplify-prefix-requires-3
-simplify-prefix-requires-3 c κs = (range-real (c .before .before .before .before .before .before .args .text .now) _ _ (ap layers (c .before .before .layers2 .given .1)) (c .before .before .before .before .before .before .pre .1 .1), c .before .before .before .before .before .before .pre .0)
+simplify-no-set-requires-3 : tie.Need-simplify-no-set-requires-3
+simplify-no-set-requires-3 c κs = (range-real (c .before .before .before .before .before .before .args .text .now) _ _ (ap layers (c .before .before .layers2 .given .1)) (c .before .before .before .before .before .before .pre .1 .1), c .before .before .before .before .before .before .pre .0)
 
 enum-known-layers-3 : tie.Need-enum-known-layers-3
 enum-known-layers-3 c = search needs
@@ -85,19 +85,19 @@ of-set s p e =
     ∙ named s e
 
 returns : tie.Need-returns
-returns c = c .before .before .simplify-prefix .ensures ∙ named (c .before .before .before .before .before .before .before .before) {l = noLayers} (ap layers (c .before .before .before .before .enum-told .given .1))
+returns c = c .before .before .simplify-no-set .ensures ∙ named (c .before .before .before .before .before .before .before .before) {l = noLayers} (ap layers (c .before .before .before .before .enum-told .given .1))
 
 same-length-2 : tie.Need-same-length-2
 same-length-2 c = search needs
 
 returns-2 : tie.Need-returns-2
-returns-2 c = c .before .before .simplify-prefix2 .ensures ∙ named (c .before .before .before .before .before .before .before .before .before) (ap layers (c .before .before .before .before .before .layers .given .1))
+returns-2 c = c .before .before .simplify-no-set2 .ensures ∙ named (c .before .before .before .before .before .before .before .before .before) (ap layers (c .before .before .before .before .before .layers .given .1))
 
 same-length-3 : tie.Need-same-length-3
 same-length-3 c = search needs
 
 returns-3 : tie.Need-returns-3
-returns-3 c = c .before .before .simplify-prefix3 .ensures ∙ named (c .before .before .before .before .before .before .before .before .before) (ap layers (c .before .before .before .before .before .layers2 .given .1))
+returns-3 c = c .before .before .simplify-no-set3 .ensures ∙ named (c .before .before .before .before .before .before .before .before .before) (ap layers (c .before .before .before .before .before .layers2 .given .1))
 
 same-length-4 : tie.Need-same-length-4
 same-length-4 c = search needs
@@ -116,11 +116,11 @@ simplify-spec =
     tie.close
     (tie.spec
     enum-told
-    simplify-prefix-requires
+    simplify-no-set-requires
     enum-known-layers
-    simplify-prefix-requires-2
+    simplify-no-set-requires-2
     enum-known-layers-2
-    simplify-prefix-requires-3
+    simplify-no-set-requires-3
     enum-known-layers-3
     cast-from
     cast-to

@@ -1,7 +1,7 @@
--- `simplify_prefix` meets its contract. Assumes nothing.
+-- `simplify_no_set` meets its contract. Assumes nothing.
 use borrow.Author.Needs.{needs}
-use Rattle.simplify.proofs.unspanned.simplify_prefix.Statement.{statement}
-use Rattle.simplify.proofs.unspanned.simplify_prefix.Tie as tie
+use Rattle.simplify.proofs.unspanned.simplify_no_set.Statement.{statement}
+use Rattle.simplify.proofs.unspanned.simplify_no_set.Tie as tie
 
 simplify-around-requires : tie.Need-simplify-around-requires
 simplify-around-requires c κs = search needs
@@ -21,8 +21,8 @@ same-length-2 c = search needs
 returns-2 : tie.Need-returns-2
 returns-2 c = rw (c .before .before .before .before .if1 .left) (c .before .before .simplify-range .ensures)
 
-pub simplify-prefix-spec : {M : Type 1} → statement M
-simplify-prefix-spec =
+pub simplify-no-set-spec : {M : Type 1} → statement M
+simplify-no-set-spec =
     tie.close
     (tie.spec
     simplify-around-requires
