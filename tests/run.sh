@@ -42,7 +42,7 @@ has() {
 # The stored vectors are what the reference and the Rust's sample give today.
 vectors() {
     mkdir -p "$log/made"
-    python3 tests/reference/vectors.py "$log/made" && cmp "$log/made/stdin" crates/replay/stdin && cmp "$log/made/stdout" crates/replay/stdout
+    python3 tests/reference/vectors.py "$log/made" && cmp "$log/made/stdin" crates/vectors/stdin && cmp "$log/made/stdout" crates/vectors/stdout
 }
 
 lister() {

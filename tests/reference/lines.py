@@ -1,4 +1,4 @@
-"""What the lines of crates/replay/stdin and stdout are made of.
+"""What the lines of crates/vectors/stdin and stdout are made of.
 
 Bytes are given as segments, each `count:bytes;` with the count in 5 hex digits and the bytes in hex, repeated so often. An answer is
 `refused N`, or `read N` with a value, then the bytes written in hex (up to 500 of them) or their checksum. Every buffer is filled with aa

@@ -1,5 +1,5 @@
 #!/usr/bin/env python3
-"""Writes crates/replay/stdin and crates/replay/stdout: the stored vectors, with the answers of the reference beside this file, or of the Rust
+"""Writes crates/vectors/stdin and crates/vectors/stdout: the stored vectors, with the answers of the reference beside this file, or of the Rust
 (tests/oracle/sample.tsv), alone. vectors.py FOLDER writes them there instead (tests/run.sh compares them with those stored)."""
 import os
 import sys
@@ -15,7 +15,7 @@ import reading_vectors
 import seek_vectors
 import tilde_vectors
 
-HOME = os.path.join(os.path.dirname(os.path.abspath(__file__)), "..", "..", "crates", "replay")
+HOME = os.path.join(os.path.dirname(os.path.abspath(__file__)), "..", "..", "crates", "vectors")
 MOST = 64 * 262144  # what the program reads at most: so many pieces
 
 

@@ -7,10 +7,10 @@ use borrow.Author.Tests.{le-leb, ne-eqb}
 use denote.Enum.Declared.{tagOf}
 use lib.Dec.{eqb, leb}
 use Rattle.notation.proofs.charsets.CharSet.{the-type}
-use Rattle.notation.specs.declared.charsets.CharSet.{CharSet}
-use Rattle.notation.specs.declared.charsets.CharSet.the-variants.{LowercaseLatin, UppercaseLatin, UppercaseGreek, TallLowercaseGreek, ShortLowercaseGreek, Underscore, Prime}
-use Rattle.notation.specs.declared.charsets.Class.{Class}
-use Rattle.notation.specs.declared.charsets.Class.the-variants.{In, Outside}
+use Rattle.notation.specs.declared.char_set.CharSet.{CharSet}
+use Rattle.notation.specs.declared.char_set.CharSet.the-variants.{LowercaseLatin, UppercaseLatin, UppercaseGreek, TallLowercaseGreek, ShortLowercaseGreek, Underscore, Prime}
+use Rattle.notation.specs.declared.char_set.Class.{Class}
+use Rattle.notation.specs.declared.char_set.Class.the-variants.{In, Outside}
 use Rattle.notation.specs.Basics.{pick, between, oneOf, every}
 use Rattle.notation.specs.Chars.{
   classify, classNumber, setNumber, isFamilyClass, isFamilyChar, isPrimeClass, isPrime, isLatinLetter, isGreekLetter, uppercaseGreek, tallLowercaseGreek,

@@ -1,14 +1,15 @@
 // Characters and texts: which characters a family name may hold, what is a prime, what is white space, and UTF-8.
 
-pub mod charsets;
+pub mod chars;
+mod classes;
 pub mod utf8;
 
-pub use charsets::classify;
-pub use charsets::is_family_char;
-pub use charsets::is_greek_letter;
-pub use charsets::is_latin_letter;
-pub use charsets::is_prime;
-pub use charsets::is_whitespace;
+pub use chars::classify;
+pub use chars::is_family_char;
+pub use chars::is_greek_letter;
+pub use chars::is_latin_letter;
+pub use chars::is_prime;
+pub use chars::is_whitespace;
 pub use utf8::char_width;
 pub use utf8::code_point;
 pub use utf8::family_end;

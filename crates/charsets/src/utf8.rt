@@ -1,10 +1,10 @@
 // UTF-8: the characters of a text, by the Unicode Standard's table 3-7, and runs of them.
 
-use crate::charsets::between;
-use crate::charsets::is_ascii_family_char;
-use crate::charsets::is_ascii_whitespace;
-use crate::charsets::is_family_char;
-use crate::charsets::is_whitespace;
+use crate::chars::between;
+use crate::chars::is_ascii_family_char;
+use crate::chars::is_ascii_whitespace;
+use crate::chars::is_family_char;
+use crate::chars::is_whitespace;
 ghost use mathlib.Core.Path.{_≡_};
 ghost use mathlib.Core.Bool.{true, _&&_};
 ghost use mathlib.Core.List.{[], _∷_};

@@ -10,8 +10,8 @@ use Rattle.notation.specs.Packed.{unpack}
 use Rattle.notation.specs.Print.{printed}
 use Rattle.notation.specs.Entries.{Lent, display, displayEntry}
 use Rattle.display.specs.Written.{MOST}
-use Rattle.sound.specs.Sound.{Sound}
-use Rattle.sound.proofs.Outcomes.{Checks, refused, lend-handed, lend-short, lend-fits}
+use Rattle.checked.specs.Sound.{Sound}
+use Rattle.checked.proofs.Outcomes.{Checks, refused, lend-handed, lend-short, lend-fits}
 
 module _ (text tree buffer : List ℕ) where
   pub display-unsound : {a : Outcome ℕ} {r : ℕ} → Checks text tree a → a ≡ refusal r → record { answer = a; buffer = buffer } ≡ displayEntry text tree buffer

@@ -24,9 +24,9 @@ use Rattle.laws.proofs.Packing.{length-pack}
 use Rattle.laws.proofs.WellFormedInverses.{inverted-size, deeply-size}
 use Rattle.laws.proofs.Walking.{Packed}
 use Rattle.invert.specs.Nodes.{over}
-use Rattle.sound.specs.Sound.{Sound}
+use Rattle.checked.specs.Sound.{Sound}
 use Rattle.entries.specs.Inverses.{refusing, written, ruled}
-use Rattle.sound.proofs.Outcomes.{Checks, refused, lend-refused, lend-handed, lend-short, lend-fits}
+use Rattle.checked.proofs.Outcomes.{Checks, refused, lend-refused, lend-handed, lend-short, lend-fits}
 
 -- No refusal has the number 0, so 0 can stand for none.
 pub data Numbered : Option ℕ → Type 0 where

@@ -20,9 +20,9 @@ use Rattle.notation.specs.Entries.{
 use Rattle.record.specs.Meaning.{field, layersAt}
 use Rattle.record.proofs.Packed.{by-kind}
 use Rattle.laws.proofs.Bools.{and-left, and-right}
-use Rattle.sound.specs.Sound.{Sound}
-use Rattle.sound.proofs.Outcomes.{Checks, refused}
-use Rattle.sound.proofs.Records.{HeadOk, prefix-ok, record-ok}
+use Rattle.checked.specs.Sound.{Sound}
+use Rattle.checked.proofs.Outcomes.{Checks, refused}
+use Rattle.checked.proofs.Records.{HeadOk, prefix-ok, record-ok}
 
 abbrev pub tildeAt : List ℕ → Bool
 tildeAt bs = eqb (field 0 bs / 8 % 2) 1

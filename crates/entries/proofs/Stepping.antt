@@ -23,9 +23,9 @@ use Rattle.expand.specs.Meaning.{told, refuses}
 use Rattle.expand.specs.Places.{stepIn, found}
 use Rattle.expand.specs.Steps.{Wrote}
 use Rattle.expand.proofs.Steps.{length-records}
-use Rattle.sound.specs.Sound.{Sound, Counted}
+use Rattle.checked.specs.Sound.{Sound, Counted}
 use Rattle.laws.proofs.Bools.{no-refusal}
-use Rattle.sound.proofs.Outcomes.{Checks, refused, lend-refused, lend-handed, lend-short, lend-fits}
+use Rattle.checked.proofs.Outcomes.{Checks, refused, lend-refused, lend-handed, lend-short, lend-fits}
 
 -- What `count_steps` promises of its answer.
 pub record Counts (text tree : List ℕ) (o : Outcome ℕ) : Type 0 where

@@ -8,7 +8,7 @@ ghost use Rattle.invert.specs.Nodes.{over};
 ghost use Rattle.entries.specs.Inverses.{refusing, written, ruled};
 use notation::answer::Answer;
 use notation::refusals::NO_ROOM;
-use sound::check;
+use checked::check;
 
 // The inverse whose groups are kept as they are: refusals 1, 2, 6, 8, 5.
 pub fn inv(text: &[u8], tree: &[u8], out: &mut [u8]) -> Answer

@@ -1,4 +1,4 @@
-// The entries that take a tree: each asks `sound::check` first, and its answer and the final bytes of its buffer are those of its rule in
+// The entries that take a tree: each asks `checked::check` first, and its answer and the final bytes of its buffer are those of its rule in
 // notation/specs/Entries.
 
 pub mod inverses;

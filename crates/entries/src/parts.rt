@@ -16,7 +16,7 @@ use record::decode::layers;
 use record::fields;
 use record::kinds;
 use record::spanned::Span;
-use sound::check;
+use checked::check;
 
 const MAX_LAYER: u32 = 32767;
 

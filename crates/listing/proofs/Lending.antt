@@ -11,7 +11,7 @@ use lib.Seq.{take-at}
 use Rattle.notation.specs.Basics.{pick}
 use Rattle.notation.specs.Refusals.{Outcome, refusal, result, NO-ROOM}
 use Rattle.notation.specs.Entries.{Lent, lend, kept, value, refusalNumber}
-use Rattle.sound.proofs.Outcomes.{lend-short, lend-fits}
+use Rattle.checked.proofs.Outcomes.{lend-short, lend-fits}
 use Rattle.display.specs.Written.{MOST, Wrote}
 use Rattle.display.proofs.Writing.{wrote-whole}
 use Rattle.listing.specs.Listing.{AtFront}

@@ -1,8 +1,8 @@
 // The listing of a text, as the lister program writes it (document 01).
 
 pub mod lines;
-pub mod listing;
+pub mod whole;
 
-pub use listing::MAX_LISTING;
-pub use listing::list;
-pub use listing::list_whole;
+pub use whole::MAX_LISTING;
+pub use whole::list;
+pub use whole::list_whole;

@@ -16,7 +16,7 @@ ghost use Rattle.notation.specs.Entries as entries;
 ghost use Rattle.notation.specs.Lister as rule;
 ghost use Rattle.notation.specs.Demands.{printedInverse};
 ghost use Rattle.laws.proofs.Unrolling.{flat};
-ghost use Rattle.sound.specs.Sound.{Counted};
+ghost use Rattle.checked.specs.Sound.{Counted};
 ghost use Rattle.display.specs.Written.{MOST as most, Wrote};
 ghost use Rattle.listing.specs.Listing.{MAX-TREE as maxTree};
 use display::unspanned::node_list;
@@ -26,7 +26,7 @@ use display::write::put_number;
 use expand::seek::seek;
 use notation::answer::Answer;
 use record::RECORD;
-use sound::check;
+use checked::check;
 
 // So many bytes of text are listed; their tree has at most a record for each of them.
 pub const MAX_INPUT: usize = 3072;

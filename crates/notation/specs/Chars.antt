@@ -5,10 +5,10 @@ use mathlib.Core.Bool.{Bool, true, false, _||_}
 use mathlib.Core.List.{List, [], _∷_, map}
 use lib.Dec.{eqb}
 use Rattle.notation.specs.Basics.{pick, between, oneOf}
-use Rattle.notation.specs.declared.charsets.CharSet.{CharSet}
-use Rattle.notation.specs.declared.charsets.CharSet.the-variants.{LowercaseLatin, UppercaseLatin, UppercaseGreek, TallLowercaseGreek, ShortLowercaseGreek, Underscore, Prime}
-use Rattle.notation.specs.declared.charsets.Class.{Class}
-use Rattle.notation.specs.declared.charsets.Class.the-variants.{In, Outside}
+use Rattle.notation.specs.declared.char_set.CharSet.{CharSet}
+use Rattle.notation.specs.declared.char_set.CharSet.the-variants.{LowercaseLatin, UppercaseLatin, UppercaseGreek, TallLowercaseGreek, ShortLowercaseGreek, Underscore, Prime}
+use Rattle.notation.specs.declared.char_set.Class.{Class}
+use Rattle.notation.specs.declared.char_set.Class.the-variants.{In, Outside}
 
 -- Γ Δ Θ Λ Ξ Π Σ Φ Ψ Ω
 abbrev pub uppercaseGreek : List ℕ

@@ -2,7 +2,7 @@
 // common.rs, unspanned.rs and charsets.rs, and in specs/ every rule of document 01.
 
 pub mod answer;
-pub mod charsets;
+pub mod char_set;
 pub mod common;
 pub mod features;
 pub mod limits;

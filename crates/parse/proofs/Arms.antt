@@ -18,8 +18,8 @@ use Rattle.notation.specs.Packed.{RECORD}
 use Rattle.notation.specs.Grammar.{Reading, rejected, Reader, fail, andThen, orElse, just, groupNode, binaryGroupNode, node, nodeList}
 use Rattle.notation.specs.declared.features.Features.{Features}
 use Rattle.tally.specs.Tallies.{tallyNode}
-use Rattle.parse.specs.declared.nodes.NodeAnswer.{NodeAnswer}
-use Rattle.parse.specs.declared.nodes.NodeAnswer.the-variants.{Took, Nothing}
+use Rattle.parse.specs.declared.node.NodeAnswer.{NodeAnswer}
+use Rattle.parse.specs.declared.node.NodeAnswer.the-variants.{Took, Nothing}
 use Rattle.parse.specs.Nodes.{Kept, NodeRead, NoNode, Told, nested, repeated}
 use Rattle.parse.proofs.Buffers.{kept-all, kept-then}
 use Rattle.parse.proofs.Readings.{or-none, or-last}

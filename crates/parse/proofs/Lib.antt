@@ -7,7 +7,7 @@ pub mod Rules
 pub mod InBraces
 pub mod LayerSets
 pub mod Choices
-pub mod Leaves
+pub mod LeafReaders
 pub mod Bare
 pub mod FirstBytes
 pub mod Buffers

@@ -16,12 +16,12 @@ use Rattle.notation.specs.Utf8.{byteAt}
 use Rattle.notation.specs.Numbers.{fromBits}
 use Rattle.notation.specs.declared.common.BinaryGroupKind.{BinaryGroupKind}
 use Rattle.tally.specs.Tallies.{tallyNode, tallyList}
-use Rattle.parse.specs.declared.nodes.Closing.{Closing}
-use Rattle.parse.specs.declared.nodes.Closing.the-variants as Closing′
-use Rattle.parse.specs.declared.nodes.BinaryKind.{BinaryKind}
-use Rattle.parse.specs.declared.nodes.BinaryKind.the-variants as BinaryKind′
-use Rattle.parse.specs.declared.nodes.NodeAnswer.{NodeAnswer}
-use Rattle.parse.specs.declared.nodes.NodeAnswer.the-variants.{Took, Nothing}
+use Rattle.parse.specs.declared.node.Closing.{Closing}
+use Rattle.parse.specs.declared.node.Closing.the-variants as Closing′
+use Rattle.parse.specs.declared.node.BinaryKind.{BinaryKind}
+use Rattle.parse.specs.declared.node.BinaryKind.the-variants as BinaryKind′
+use Rattle.parse.specs.declared.node.NodeAnswer.{NodeAnswer}
+use Rattle.parse.specs.declared.node.NodeAnswer.the-variants.{Took, Nothing}
 
 -- Where a reader may start: no more records were read than bytes, and a bracket stands for every two tallies.
 pub record Within (text : List ℕ) (at slot tally : ℕ) : Type 0 where

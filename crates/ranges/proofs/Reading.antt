@@ -11,7 +11,7 @@ use Rattle.notation.specs.Entries.{rangeBytes}
 use Rattle.numbers.proofs.BigEndian.{fromBigEndian-bigEndian}
 use Rattle.layer.specs.Meaning.{range}
 use Rattle.layer.specs.declared.range.LayerRange.{LayerRange}
-use Rattle.complement.proofs.Sorted.{All, nothing, _and_}
+use Rattle.complement_laws.proofs.Sorted.{All, nothing, _and_}
 use Rattle.simplify.proofs.Few.{Short}
 use Rattle.ranges.specs.Lent.{rangesFrom}
 

@@ -19,8 +19,8 @@ use Rattle.notation.specs.Refusals.{result}
 use Rattle.notation.specs.Entries.{lent, lend, inEntries, rangeBytes}
 use Rattle.notation.specs.declared.answer.Answer.the-variants.{Value, Refused}
 use Rattle.layer.specs.Meaning.{IsLayer, IsRange, RangeUpTo}
-use Rattle.complement.proofs.Sorted.{All}
-use Rattle.complement.proofs.Complement.{others-on-axis}
+use Rattle.complement_laws.proofs.Sorted.{All}
+use Rattle.complement_laws.proofs.Complement.{others-on-axis}
 use Rattle.laws.proofs.Bools.{false-true, and-left, and-right}
 use Rattle.simplify.specs.Reach.{rangeFrom, markedAll, turnedOver, Gathered}
 use Rattle.simplify.specs.Elements.{markedSet}

@@ -12,9 +12,9 @@ use Rattle.notation.specs.Basics.{pick, between}
 use Rattle.notation.specs.Layers.{Range, contains, complement, clampToLayerCount, keep}
 use Rattle.charsets.proofs.Bools.{or-false, below, above}
 use Rattle.layer.specs.Meaning.{IsRange}
-use Rattle.complement.proofs.Contains.{has, or-assoc}
-use Rattle.complement.proofs.Apart.{Apart, last, next}
-use Rattle.complement.proofs.Complement.{complement-is}
+use Rattle.complement_laws.proofs.Contains.{has, or-assoc}
+use Rattle.complement_laws.proofs.Apart.{Apart, last, next}
+use Rattle.complement_laws.proofs.Complement.{complement-is}
 use Rattle.simplify.specs.Reach.{rangeFrom, someFrom}
 
 some-has : (low high i : ℕ) → contains (someFrom low high) i ≡ between low high i

@@ -16,7 +16,7 @@ use Rattle.layer.specs.Meaning.{IsLayer, LayerUpTo, RangeUpTo, Each, withSign}
 use Rattle.layer.proofs.Laws.{range-up-to}
 use Rattle.laws.proofs.Bools.{and-left, and-right}
 use Rattle.laws.proofs.InRange.{elementInRange}
-use Rattle.complement.proofs.Sorted.{All, nothing, _and_}
+use Rattle.complement_laws.proofs.Sorted.{All, nothing, _and_}
 use Rattle.simplify.proofs.SetElements.{layer-numbers}
 use Rattle.simplify.specs.Elements.{IsElement}
 

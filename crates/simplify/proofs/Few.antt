@@ -22,9 +22,9 @@ use Rattle.laws.proofs.Outcomes.{same-result, after, held}
 use Rattle.laws.proofs.InRange.{elementInRange}
 use Rattle.laws.proofs.Readers.{anywhere}
 use Rattle.laws.proofs.ReadingYields.{yields-element, yields-braces}
-use Rattle.complement.proofs.Sorted.{All, nothing, _and_, all-weaken}
-use Rattle.complement.proofs.Apart.{simplified-apart, simplified-on-axis, apart-few}
-use Rattle.complement.proofs.Complement.{others-on-axis}
+use Rattle.complement_laws.proofs.Sorted.{All, nothing, _and_, all-weaken}
+use Rattle.complement_laws.proofs.Apart.{simplified-apart, simplified-on-axis, apart-few}
+use Rattle.complement_laws.proofs.Complement.{others-on-axis}
 use Rattle.simplify.proofs.SetElements.{whole}
 use Rattle.simplify.proofs.ElementRanges.{set-ranges}
 

@@ -14,8 +14,8 @@ use Rattle.notation.specs.Basics.{pick, between}
 use Rattle.notation.specs.Layers.{Range, contains, othersFrom, others, keep, alone}
 use Rattle.charsets.proofs.Bools.{or-false}
 use Rattle.layer.specs.Meaning.{RangeUpTo}
-use Rattle.complement.proofs.Sorted.{All, nothing, _and_}
-use Rattle.complement.proofs.Contains.{or-swap, or-assoc}
+use Rattle.complement_laws.proofs.Sorted.{All, nothing, _and_}
+use Rattle.complement_laws.proofs.Contains.{or-swap, or-assoc}
 use Rattle.simplify.specs.Reach.{rangeFrom, marked, markedAll, turnedOver}
 use Rattle.simplify.proofs.Table.{length-marked}
 

@@ -13,7 +13,7 @@ use borrow.Author.Tests.{eqb-true, eqb-false, ltb-true, ltb-false, leb-true, leb
 use Rattle.notation.specs.Basics.{pick, choose}
 use Rattle.notation.specs.Layers.{Range, before, insert, sort, touching, joined, joinFrom, join, simplified}
 use Rattle.layer.specs.Meaning.{RangeUpTo}
-use Rattle.complement.proofs.Sorted.{All, nothing, _and_, Deeper, Sorted, empty, first, all-weaken, all-sort, sort-sorted}
+use Rattle.complement_laws.proofs.Sorted.{All, nothing, _and_, Deeper, Sorted, empty, first, all-weaken, all-sort, sort-sorted}
 use Rattle.simplify.specs.Reach.{rangeFrom, marked, markedAll, ranges, runsFrom, Reaches, Gathered}
 
 -- ── the order of gathering ──

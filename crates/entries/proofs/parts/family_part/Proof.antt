@@ -9,7 +9,7 @@ use Rattle.notation.specs.Tree.{Span}
 use Rattle.notation.specs.Packed.{RECORD}
 use Rattle.notation.specs.WellFormed.{inside}
 use Rattle.notation.specs.Entries.{outcome}
-use Rattle.sound.proofs.Outcomes.{known}
+use Rattle.checked.proofs.Outcomes.{known}
 use Rattle.entries.specs.Parts.{partOutcome, Inside, Fits}
 use Rattle.entries.proofs.Naming.{found, family-low, family-high, family-named, family-inside, family-unsound, family-none, sound-record, family-is}
 use Rattle.entries.proofs.parts.family_part.Statement.{statement}

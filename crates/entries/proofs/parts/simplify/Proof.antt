@@ -11,7 +11,7 @@ use Rattle.notation.specs.Packed.{RECORD}
 use Rattle.notation.specs.WellFormed.{layersOk}
 use Rattle.notation.specs.Entries.{outcome}
 use Rattle.record.specs.Meaning.{layersAt}
-use Rattle.sound.proofs.Outcomes.{known}
+use Rattle.checked.proofs.Outcomes.{known}
 use Rattle.entries.proofs.Naming.{
   found, sound-record, no-prefix, some-prefix, layers-inside, simplify-unsound, simplify-no-layers, simplify-many-layers, simplify-none, simplify-no-move, simplify-move
 }

@@ -2,7 +2,7 @@
 use mathlib.Core.Path.{ap}
 use borrow.Author.Needs.{needs}
 use Rattle.notation.specs.Entries.{outcome}
-use Rattle.sound.proofs.Outcomes.{known}
+use Rattle.checked.proofs.Outcomes.{known}
 use Rattle.entries.proofs.Stepping.{count-unsound, count-refused, count-many, count-done}
 use Rattle.entries.proofs.steps.count_steps.Statement.{statement}
 use Rattle.entries.proofs.steps.count_steps.Tie as tie

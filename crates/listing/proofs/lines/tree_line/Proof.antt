@@ -5,7 +5,7 @@ use native.Mathlib.Omega.{arith}
 use Rattle.notation.specs.Packed.{unpack}
 use Rattle.notation.specs.Entries.{display, outcome}
 use Rattle.notation.specs.Lister.{field}
-use Rattle.sound.proofs.Outcomes.{refused}
+use Rattle.checked.proofs.Outcomes.{refused}
 use Rattle.listing.proofs.Fields.{wrote-line, wrote-field, display-given, display-refused}
 use Rattle.listing.proofs.lines.tree_line.Statement.{statement}
 use Rattle.listing.proofs.lines.tree_line.Tie as tie

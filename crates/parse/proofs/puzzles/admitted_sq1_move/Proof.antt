@@ -1,6 +1,6 @@
 -- `admitted_sq1_move` meets its contract. Assumes nothing.
 use lib.ListN.{drop}
-use Rattle.parse.proofs.Leaves.{sq1-on, sq1-off}
+use Rattle.parse.proofs.LeafReaders.{sq1-on, sq1-off}
 use borrow.Author.Needs.{needs}
 use Rattle.parse.proofs.puzzles.admitted_sq1_move.Statement.{statement}
 use Rattle.parse.proofs.puzzles.admitted_sq1_move.Tie as tie

@@ -8,7 +8,7 @@ use Rattle.notation.specs.Packed.{leafFields}
 use Rattle.notation.specs.Grammar.{read}
 use Rattle.notation.specs.declared.common.MegaminxScrambleMove.{MegaminxScrambleMove}
 use Rattle.parse.specs.Meaning.{scrambleKind}
-use Rattle.parse.proofs.Leaves.{scramble-stands}
+use Rattle.parse.proofs.LeafReaders.{scramble-stands}
 use borrow.Author.Needs.{needs}
 use Rattle.parse.proofs.puzzles.megaminx_scramble_move.Statement.{statement}
 use Rattle.parse.proofs.puzzles.megaminx_scramble_move.Tie as tie

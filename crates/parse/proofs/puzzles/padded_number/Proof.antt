@@ -5,7 +5,7 @@ use Rattle.notation.specs.Chars.{whiteSpace}
 use Rattle.charsets.proofs.Runs.{end-length}
 use Rattle.parse.proofs.Past.{within}
 use Rattle.parse.proofs.Rules.{takes-sint}
-use Rattle.parse.proofs.Leaves.{padded-none, padded-some}
+use Rattle.parse.proofs.LeafReaders.{padded-none, padded-some}
 use borrow.Author.Needs.{needs}
 use Rattle.parse.proofs.puzzles.padded_number.Statement.{statement}
 use Rattle.parse.proofs.puzzles.padded_number.Tie as tie

@@ -6,7 +6,7 @@ use lib.ListN.{drop}
 use Rattle.notation.specs.Grammar.{read}
 use native.Mathlib.Omega.{arith}
 use Rattle.parse.proofs.Bytes.{seen}
-use Rattle.parse.proofs.Leaves.{no-u, no-comma, no-d, a-pair, no-close}
+use Rattle.parse.proofs.LeafReaders.{no-u, no-comma, no-d, a-pair, no-close}
 use borrow.Author.Needs.{needs}
 use Rattle.parse.proofs.puzzles.pair.Statement.{statement}
 use Rattle.parse.proofs.puzzles.pair.Tie as tie

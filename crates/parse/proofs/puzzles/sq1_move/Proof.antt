@@ -4,7 +4,7 @@ use mathlib.Core.List.{List}
 use Prim.Native.Nat.{ℕ, _+_}
 use lib.ListN.{drop}
 use Rattle.notation.specs.Grammar.{read}
-use Rattle.parse.proofs.Leaves.{a-slash, from-parenthesis, no-sq1}
+use Rattle.parse.proofs.LeafReaders.{a-slash, from-parenthesis, no-sq1}
 use borrow.Author.Needs.{needs}
 use Rattle.parse.proofs.puzzles.sq1_move.Statement.{statement}
 use Rattle.parse.proofs.puzzles.sq1_move.Tie as tie

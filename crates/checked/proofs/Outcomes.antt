@@ -1,0 +1,96 @@
+-- What every entry comes to, case by case: a text or a tree that is refused, a buffer too short, a result. Assumes nothing.
+use Prim.Native.Nat.{ℕ, _≤_, _<_}
+use mathlib.Core.Path.{_≡_, refl, sym, ap, _∙_}
+use mathlib.Core.Bool.{true, false}
+use mathlib.Core.List.{List, _++_}
+use borrow.Author.Tests.{le-leb, lt-leb}
+use lib.ListN.{length, drop}
+use Rattle.notation.specs.Utf8.{utf8}
+use Rattle.notation.specs.Refusals.{Outcome, refusal, result, TOO-LONG, NOT-UTF8, NOT-WELL-FORMED, NO-ROOM}
+use Rattle.notation.specs.Tree.{Tree}
+use Rattle.notation.specs.Packed.{unpack}
+use Rattle.notation.specs.Counts.{hold, count}
+use Rattle.notation.specs.WellFormed.{wellFormed}
+use Rattle.notation.specs.Entries.{lend, checked, refusalNumber, value, MAX-TEXT}
+use Rattle.numbers.proofs.Positional.{Below}
+use Rattle.laws.proofs.Bools.{no-refusal}
+use Rattle.laws.proofs.Packing.{well-formed-below}
+use Rattle.laws.proofs.Accepting.{checked-tree}
+use Rattle.well_formed.proofs.Bytes.{accepted}
+use Rattle.checked.specs.Sound.{Sound, stepsIn}
+
+-- What `check` promises of its answer.
+abbrev pub Checks : List ℕ → List ℕ → Outcome ℕ → Type 0
+Checks text tree o = (o ≡ stepsIn text tree) × ((n : ℕ) → o ≡ result n → Sound text tree)
+
+module _ (text tree : List ℕ) where
+  refuses : (r : ℕ) → checked text tree ≡ refusal r → Checks text tree (refusal r)
+  refuses r e = (rw e, λ n q. no-refusal q)
+
+  pub too-long : MAX-TEXT < length text → Checks text tree (refusal TOO-LONG)
+  unfolding checked
+  too-long h = refuses TOO-LONG (rw (lt-leb (length text) MAX-TEXT h))
+
+  pub not-utf8 : length text ≤ MAX-TEXT → utf8 text ≡ false → Checks text tree (refusal NOT-UTF8)
+  unfolding checked
+  not-utf8 h u = refuses NOT-UTF8 (rw (le-leb (length text) MAX-TEXT h, u))
+
+  pub not-well-formed : length text ≤ MAX-TEXT → utf8 text ≡ true → wellFormed text tree ≡ false → Checks text tree (refusal NOT-WELL-FORMED)
+  unfolding checked
+  not-well-formed h u w = refuses NOT-WELL-FORMED (rw (le-leb (length text) MAX-TEXT h, u, w))
+
+  is-checked : length text ≤ MAX-TEXT → utf8 text ≡ true → wellFormed text tree ≡ true → checked text tree ≡ result (unpack tree)
+  unfolding checked
+  is-checked h u w = rw (le-leb (length text) MAX-TEXT h, u, w)
+
+  pub is-sound : Below 256 tree → length text ≤ MAX-TEXT → utf8 text ≡ true → wellFormed text tree ≡ true → (n : ℕ) → n ≡ hold (count (unpack tree)) → Checks text tree (result n)
+  is-sound b h u w n e =
+      let is = is-checked h u w in
+      let a = accepted text tree b w in
+      (rw (is, e), λ k q. record { short = h; packed = a .packed; ok = a .ok; is = is })
+
+  -- a tree that the rule accepts is sound
+  pub checked-sound : (t : Tree) → checked text tree ≡ result t → Sound text tree
+  checked-sound t e =
+      let c = checked-tree text tree t e in
+      let a = accepted text tree (well-formed-below text tree (c .formed)) (c .formed) in
+      record { short = c .short; packed = a .packed; ok = a .ok; is = is-checked (c .short) (c .isUtf8) (c .formed) }
+
+-- What an entry learns by taking that answer apart.
+pub record Known (text tree : List ℕ) (n : ℕ) : Type 0 where
+  pub sound : Sound text tree
+  pub steps : n ≡ hold (count (unpack tree))
+
+module _ {text tree : List ℕ} {o : Outcome ℕ} (c : Checks text tree o) where
+  pub known : {n : ℕ} → o ≡ result n → Known text tree n
+  known {n} q =
+      let s = c .1 n q in
+      let w : o ≡ result (hold (count (unpack tree))) = rw (s .is) at (c .0) in
+      record { sound = s; steps = ap value (sym q ∙ w) }
+
+  pub refused : {r : ℕ} → o ≡ refusal r → checked text tree ≡ refusal r
+  refused {r} q = go (checked text tree) refl
+    where
+      go : (p : Outcome Tree) → checked text tree ≡ p → checked text tree ≡ refusal r
+      go (refusal k) z =
+          let w : o ≡ refusal k = rw z at (c .0) in
+          z ∙ ap refusal (ap refusalNumber (sym w ∙ q))
+      go (result t) z =
+          let w : o ≡ result (hold (count t)) = rw z at (c .0) in
+          no-refusal (sym q ∙ w)
+
+-- Lent buffers.
+module _ {A : Type 0} (o : Outcome (List A)) (buffer : List A) where
+  pub lend-refused : (r : ℕ) → o ≡ refusal r → record { answer = refusal r; buffer = buffer } ≡ lend o buffer
+  lend-refused r e = rw e
+
+  -- a refusal that is handed on as it was answered
+  pub lend-handed : {a : Outcome ℕ} {r : ℕ} → a ≡ refusal r → o ≡ refusal r → record { answer = a; buffer = buffer } ≡ lend o buffer
+  lend-handed {a} {r} q e = rw q (lend-refused r e)
+
+  pub lend-short : (l : List A) → o ≡ result l → length buffer < length l → record { answer = refusal NO-ROOM; buffer = buffer } ≡ lend o buffer
+  lend-short l e h = rw (e, lt-leb (length l) (length buffer) h)
+
+  pub lend-fits : (l : List A) → o ≡ result l → length l ≤ length buffer →
+      record { answer = result (length l); buffer = l ++ drop (length l) buffer } ≡ lend o buffer
+  lend-fits l e h = rw (e, le-leb (length l) (length buffer) h)

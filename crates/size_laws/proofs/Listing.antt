@@ -1,0 +1,167 @@
+-- The lister's listing always fits 4 MiB: a line of a step has at most 3,857 bytes, and there are at most 1,000 of them; the printed text and its inverse
+-- have at most 22,272 bytes each. Assumes nothing.
+use Prim.Native.Nat.{ℕ, zero, suc, _+_, _*_, _≤_}
+use mathlib.Core.Path.{_≡_, refl, _∙_, subst}
+use mathlib.Core.Bool.{Bool, true, false, not}
+use mathlib.Core.List.{List, [], _∷_, _++_}
+use mathlib.Core.Option.{Option, none, some}
+use native.Mathlib.Omega.{arith}
+use borrow.Author.Tests.{leb-true}
+use lib.Dec.{leb}
+use lib.ListN.{length, take, drop, length-append}
+use Rattle.notation.specs.Basics.{pick, choose, sameList}
+use Rattle.notation.specs.Features.{WCA, MAXIMAL}
+use Rattle.notation.specs.Numbers.{show}
+use Rattle.notation.specs.Refusals.{Outcome, refusal, result, _>>=_, _>>_, unless, TOO-MANY-STEPS, OVERFLOW}
+use Rattle.notation.specs.Tree.{Leaf, leaf, block, nil, cons, append, Tree}
+use Rattle.notation.specs.Packed.{size, pack}
+use Rattle.notation.specs.Meaning.{stepOf}
+use Rattle.notation.specs.WellFormed.{treeOk, depth}
+use Rattle.notation.specs.Invert.{undo, overflows}
+use Rattle.notation.specs.Unroll.{flatten}
+use Rattle.notation.specs.Print.{put, putStep, printed}
+use Rattle.notation.specs.Entries.{MAX-STEPS, reading, checked, inverse, display, steps}
+use Rattle.notation.specs.Lister.{MAX-INPUT, line, field, stepLines, stepsPart, treePart, listing, lister}
+use Rattle.notation.specs.declared.features.Features.{Features}
+use Rattle.laws.proofs.Bools.{and-left, and-right, and-both, no-some}
+use Rattle.laws.proofs.Unrolling.{verdict}
+use Rattle.laws.proofs.Fits.{leafFits, nodeFits, bodyFits, treeFits}
+use Rattle.laws.proofs.Packing.{tree-fits, unpack-pack, packed-well-formed}
+use Rattle.laws.proofs.Inverses.{inverted, invertedNode, leafRefusal, invRefusal, inv-is}
+use Rattle.laws.proofs.WellFormedInverses.{inverted-ok, inverted-size, inverted-depth}
+use Rattle.laws.proofs.Reached.{negatable, cleanNode, cleanNodes, first-left, first-right, unrolled-list}
+use Rattle.laws.proofs.Parens.{parens-depth}
+use Rattle.laws.proofs.Accepting.{accepted-tree, checks}
+use Rattle.laws.proofs.ReadingYields.{reading-size}
+use Rattle.laws.proofs.DemandThree.{Tidy, tidy, inverted-fits}
+use Rattle.size_laws.proofs.Digits.{ten-digits}
+use Rattle.size_laws.proofs.Bytes.{bytes, leafBytes, inverted-bytes, reading-bytes}
+use Rattle.size_laws.proofs.Printed.{printed-step, printed-tree}
+use Rattle.size_laws.proofs.Unrolled.{Within, empty, one, unrolled-within}
+
+-- 4 MiB
+abbrev pub MAX-LISTING : ℕ
+MAX-LISTING = 4194304
+
+-- Lines.
+line-long : (label field rest : List ℕ) → length (line label field rest) ≡ length label + (length field + (2 + length rest))
+line-long label field rest = omega (arith, length-append label (32 ∷ (field ++ (10 ∷ rest))), length-append field (10 ∷ rest))
+
+refused-long : (r : ℕ) → length (field (refusal r)) ≤ 18
+refused-long r = omega (arith, ten-digits r)
+
+pub step-line-long : (text : List ℕ) (k : ℕ) (x : Leaf) (rest : List ℕ) → leafBytes x ≤ MAX-INPUT →
+    length (line (show k []) (putStep (stepOf text x) []) rest) ≤ 3857 + length rest
+step-line-long text k x rest h =
+    omega (arith, line-long (show k []) (putStep (stepOf text x) []) rest, ten-digits k, printed-step text x [])
+
+step-lines-long : (text : List ℕ) (m k : ℕ) {l : List Leaf} → Within MAX-INPUT l → length (stepLines text m k l) ≤ m * 3857
+unfolding stepLines
+step-lines-long text zero k w = omega arith
+step-lines-long text (suc m) k empty = omega arith
+step-lines-long text (suc m) k (one {x} {l} h w) =
+    omega (arith, step-line-long text k x (stepLines text m (suc k) l) h, step-lines-long text m (suc k) w)
+
+steps-long : (text : List ℕ) (o : Outcome (List Leaf)) → ((l : List Leaf) → o ≡ result l → Within MAX-INPUT l) → length (stepsPart text o) ≤ 3857025
+steps-long text (refusal r) h = omega (arith, line-long (put "steps" []) (field (refusal r)) [], refused-long r)
+steps-long text (result l) h =
+    omega (arith, line-long (put "steps" []) (show (length l) []) (stepLines text 1000 0 l), ten-digits (length l), step-lines-long text 1000 0 (h l refl))
+
+-- The shallow inverse of a tree that fits its records, where it is not refused, fits them too.
+undo-fits : (x : Leaf) → leafRefusal x ≡ none → leafFits x ≡ true → leafFits (undo x) ≡ true
+unfolding inverted append treeFits nodeFits cleanNodes cleanNode
+undo-fits x r h =
+    and-left (leafFits (undo x)) true
+    (inverted-fits (cons (leaf x) nil) (and-both (negatable x) true (go (overflows x) r) refl) (and-both (leafFits x) true h refl))
+  where
+    go : (b : Bool) → pick b (some OVERFLOW) none ≡ none → not b ≡ true
+    go true h = no-some h
+    go false h = refl
+
+fits-append : (a b : Tree) → treeFits a ≡ true → treeFits b ≡ true → treeFits (append a b) ≡ true
+unfolding append treeFits
+fits-append nil b p q = q
+fits-append (cons n a) b p q = and-both (nodeFits n) _ (and-left _ _ p) (fits-append a b (and-right (nodeFits n) _ p) q)
+
+inverse-fits : (t : Tree) → invRefusal t ≡ none → treeFits t ≡ true → treeFits (inverted t) ≡ true
+unfolding inverted invRefusal treeFits nodeFits
+inverse-fits nil r h = refl
+inverse-fits (cons (leaf x) l) r h =
+    fits-append (inverted l) (cons (leaf (undo x)) nil) (inverse-fits l (first-left _ _ r) (and-right (leafFits x) _ h))
+    (and-both (leafFits (undo x)) true (undo-fits x (first-right (invRefusal l) _ r) (and-left _ _ h)) refl)
+inverse-fits (cons (block b m) l) r h =
+    fits-append (inverted l) (cons (invertedNode (block b m)) nil) (inverse-fits l (first-left _ _ r) (and-right (bodyFits b) _ h))
+    (and-both (bodyFits b) true (and-left _ _ h) refl)
+
+-- What an accepted text's tree and its inverse print.
+module _ (f : Features) (text : List ℕ) (t : Tree) (short : length text ≤ MAX-INPUT) (good : Tidy f text t) where
+  checks-as : (t′ : Tree) → treeOk text t′ ≡ true → treeFits t′ ≡ true → size t′ ≡ size t → depth t′ ≡ depth t → checked text (pack t′) ≡ result t′
+  checks-as t′ o h z d =
+      let fits = tree-fits text (good .accepted .short) t′ o h (omega (arith, good .small)) in
+      checks text (pack t′) t′ (good .accepted .short) (good .accepted .isUtf8)
+      (packed-well-formed text t′ fits o (omega (arith, parens-depth t, good .nested))) (unpack-pack t′ fits)
+
+  tree-checks : checked text (pack t) ≡ result t
+  tree-checks = checks-as t (good .inBounds) (good .fits) refl refl
+
+  tree-long : (t′ : Tree) → bytes t′ ≡ bytes t → size t′ ≡ size t → length (printed text t′) ≤ 22272
+  tree-long t′ b z =
+      omega (arith, printed-tree text t′, reading-bytes f text t (good .accepted .reads), reading-size f text t (good .accepted .reads))
+
+  text-long : length (field (display text (pack t))) ≤ 22272
+  text-long = rw tree-checks (tree-long t refl refl)
+
+  inverse-long : length (field (do t′ ← inverse text (pack t); display text t′)) ≤ 22272
+  inverse-long = rw (tree-checks, inv-is t) (go (invRefusal t) refl)
+    where
+      go : (r : Option ℕ) → invRefusal t ≡ r →
+          length (field (_>>=_ (_>>=_ (verdict r (inverted t)) (λ t′. result (pack t′))) (λ l. display text l))) ≤ 22272
+      go (some r) i = omega (arith, refused-long r)
+      go none i =
+          let c = checks-as (inverted t) (inverted-ok text t (good .inBounds)) (inverse-fits t i (good .fits)) (inverted-size t) (inverted-depth t) in
+          rw c (tree-long (inverted t) (inverted-bytes t) (inverted-size t))
+
+  steps-within : (l : List Leaf) → steps text (pack t) ≡ result l → Within MAX-INPUT l
+  unfolding steps
+  steps-within l i = go (flatten t) refl (rw tree-checks at i)
+    where
+      after : Bool → List Leaf → Outcome (List Leaf)
+      after b l′ = do unless TOO-MANY-STEPS b; result l′
+      counted : (b : Bool) (l′ : List Leaf) → flatten t ≡ result l′ → after b l′ ≡ result l → Within MAX-INPUT l
+      counted false l′ j i = absurd (let n : _≡_ {A = ℕ} 0 1 = cc in omega arith)
+      counted true l′ j i =
+          let same : l′ ≡ l = cc in
+          subst (Within MAX-INPUT) (unrolled-list t l′ j .1 ∙ same) (unrolled-within t false (omega (arith, reading-bytes f text t (good .accepted .reads))))
+      go : (o : Outcome (List Leaf)) → flatten t ≡ o → _>>=_ o (λ l′. after (leb (length l′) MAX-STEPS) l′) ≡ result l → Within MAX-INPUT l
+      go (refusal r) j i = absurd (let n : _≡_ {A = ℕ} 0 1 = cc in omega arith)
+      go (result l′) j i = counted (leb (length l′) MAX-STEPS) l′ j i
+
+  tree-part-long : length (treePart text (result (pack t))) ≤ MAX-LISTING
+  tree-part-long =
+      let last = stepsPart text (steps text (pack t)) in
+      let shown = field (do t′ ← inverse text (pack t); display text t′) in
+      omega (arith, line-long (put "text" []) (field (display text (pack t))) (line (put "inverse" []) shown last), text-long,
+      line-long (put "inverse" []) shown last, inverse-long, steps-long text (steps text (pack t)) steps-within)
+
+-- The whole listing.
+listing-long : (f : Features) (text : List ℕ) → length (listing f text) ≤ MAX-LISTING
+listing-long f text = go (leb (length text) MAX-INPUT) refl (reading f text) refl
+  where
+    go : (b : Bool) → leb (length text) MAX-INPUT ≡ b → (o : Outcome (List ℕ)) → reading f text ≡ o →
+        length (pick b (treePart text o) (put "refused input\n" [])) ≤ MAX-LISTING
+    go false h o e = omega arith
+    go true h (refusal r) e = omega (arith, line-long (put "text" []) (field (refusal r)) [], refused-long r)
+    go true h (result tree) e =
+        let a = accepted-tree f text tree e in
+        rw (← a .2) (tree-part-long f text (a .0) (leb-true (length text) MAX-INPUT h) (tidy f text (a .0) (a .1)))
+
+pub listing-fits : (input : List ℕ) → length (lister input) ≤ MAX-LISTING
+unfolding lister
+listing-fits input = go (sameList (take 2 input) (put "w\n" [])) (sameList (take 2 input) (put "m\n" []))
+  where
+    go : (w m : Bool) →
+        length (choose w (λ _. listing WCA (drop 2 input)) (λ _. choose m (λ _. listing MAXIMAL (drop 2 input)) (λ _. put "refused input\n" [])))
+        ≤ MAX-LISTING
+    go true m = listing-long WCA (drop 2 input)
+    go false true = listing-long MAXIMAL (drop 2 input)
+    go false false = omega arith

@@ -1,0 +1,134 @@
+-- The modulo of the C functions' answers never bites: no value reaches 2^56. Assumes nothing.
+use Prim.Native.Nat.{ℕ, _*_, _/_, _≤_, _<_}
+use mathlib.Core.Path.{_≡_, refl, ap, subst}
+use mathlib.Core.Bool.{Bool, true, false}
+use mathlib.Core.List.{List, _++_}
+use native.Mathlib.Omega.{arith}
+use borrow.Author.Tests.{leb-true}
+use lib.Dec.{leb, ltb}
+use lib.ListN.{length, drop, getElem?}
+use Rattle.notation.specs.Basics.{pick}
+use Rattle.notation.specs.Refusals.{Outcome, refusal, result, _>>=_, unless, orRefuse, NO-ROOM, TOO-MANY-STEPS, NO-SUCH-PLACE, NO-SUCH-RECORD}
+use Rattle.notation.specs.Tree.{Span, Leaf, rotation, move, pause, pair, slash, megaminx}
+use Rattle.notation.specs.Packed.{RECORD, Head, leafHead, groupHead, binaryHead}
+use Rattle.notation.specs.Unroll.{flatten}
+use Rattle.notation.specs.Entries.{
+  kept, lend, MAX-TEXT, reading, checked, inverse, deepInverse, display, MAX-STEPS, steps, unrolled, countSteps, stepAt, recordAt, layerRanges, rangeBytes, familyOf, familySpan
+}
+use Rattle.notation.specs.Demands.{AtMost}
+use Rattle.notation.specs.Host.{VALUES, partNumber, Small, Whole, NeverBites}
+use Rattle.notation.specs.declared.features.Features.{Features}
+use Rattle.numbers.proofs.Positional.{below-drop}
+use Rattle.record.specs.Range.{FitsSpan, FitsHead}
+use Rattle.record.proofs.RoundTrip.{length-headRecord}
+use Rattle.laws.proofs.Bools.{no-refusal}
+use Rattle.laws.proofs.Outcomes.{same-result, after, held}
+use Rattle.laws.proofs.Packing.{length-pack, well-formed-below}
+use Rattle.laws.proofs.ReadingYields.{reading-size}
+use Rattle.laws.proofs.Accepting.{accepted-tree, checked-tree}
+use Rattle.well_formed.proofs.Bytes.{head-fits}
+use Rattle.simplify.proofs.Few.{few}
+use Rattle.simplify.proofs.Sweep.{length-rangeBytes}
+use Rattle.expand.proofs.Steps.{length-records}
+
+-- What is lent: a result that fits the buffer.
+small : (o : Outcome (List ℕ)) (buffer : List ℕ) → ((l : List ℕ) → o ≡ result l → length l ≤ length buffer → length l < VALUES) →
+    Small (lend o buffer .answer)
+small (refusal r) buffer h = omega arith
+small (result l) buffer h = go (leb (length l) (length buffer)) refl
+  where
+    go : (t : Bool) → leb (length l) (length buffer) ≡ t →
+        Small (pick t (record { answer = result (length l); buffer = l ++ drop (length l) buffer }) (kept NO-ROOM buffer) .answer)
+    go true e = h l refl (leb-true (length l) (length buffer) e)
+    go false e = omega arith
+
+-- Reading: a record for each byte at most.
+reading-at-most : (f : Features) (text : List ℕ) → AtMost (RECORD * MAX-TEXT) (reading f text)
+reading-at-most f text tree e =
+    let a = accepted-tree f text tree e in
+    omega (arith, ap length (a .2), length-pack (a .0), reading-size f text (a .0) (a .1 .reads), a .1 .short)
+
+-- Steps: as many as can be counted.
+few-steps : (text tree : List ℕ) (l : List Leaf) → steps text tree ≡ result l → length l ≤ MAX-STEPS
+unfolding steps
+few-steps text tree l e =
+    let c = after (checked text tree) e in
+    let u = after (flatten (c .0)) (c .2) in
+    let h = after (unless TOO-MANY-STEPS (leb (length (u .0)) MAX-STEPS)) (u .2) in
+    omega (arith, ap length (same-result (h .2)), leb-true (length (u .0)) MAX-STEPS (held TOO-MANY-STEPS (leb (length (u .0)) MAX-STEPS) (h .1)))
+
+counted : (text tree : List ℕ) → Small (countSteps text tree)
+counted text tree = go (steps text tree) refl
+  where
+    go : (o : Outcome (List Leaf)) → steps text tree ≡ o → Small (_>>=_ o (λ l. result (length l)))
+    go (refusal r) e = omega arith
+    go (result l) e = omega (arith, few-steps text tree l e)
+
+unrolled-at-most : (text tree : List ℕ) → AtMost (RECORD * MAX-STEPS) (unrolled text tree)
+unrolled-at-most text tree l e =
+    let s = after (steps text tree) e in
+    omega (arith, ap length (same-result (s .2)), length-records (s .0), few-steps text tree (s .0) (s .1))
+
+step-at-most : (text tree : List ℕ) (k : ℕ) → AtMost RECORD (stepAt text tree k)
+step-at-most text tree k l e =
+    let s = after (steps text tree) e in
+    let x = after (orRefuse NO-SUCH-PLACE (getElem? (s .0) k)) (s .2) in
+    omega (arith, ap length (same-result (x .2)), length-headRecord (leafHead (x .0)))
+
+-- Layer ranges: at most 16,384, counted in entries of four bytes.
+in-entries : (o : Outcome ℕ) → Small o → Small (_>>=_ o (λ n. result (n / 4)))
+in-entries (refusal r) h = omega arith
+in-entries (result n) h = omega arith
+
+ranges-at-most : (text tree : List ℕ) (k n : ℕ) (neg : Bool) → AtMost 65536 (do l ← layerRanges text tree k n neg; result (rangeBytes l))
+ranges-at-most text tree k n neg bytes e =
+    let r = after (layerRanges text tree k n neg) e in
+    omega (arith, ap length (same-result (r .2)), length-rangeBytes (r .0), few text tree k n neg (r .0) (r .1) .many)
+
+-- Families: both numbers of a part fit their fields.
+family-fits : (h : Head) (p : Span) → FitsHead h → familyOf h ≡ result p → FitsSpan p
+family-fits (leafHead (rotation f c m)) p h e = let z : f ≡ p = cc in subst FitsSpan z (h .0 .span)
+family-fits (leafHead (move t l f c m)) p h e = let z : f ≡ p = cc in subst FitsSpan z (h .1 .span)
+family-fits (leafHead pause) p h e = no-refusal e
+family-fits (leafHead (pair u d)) p h e = no-refusal e
+family-fits (leafHead slash) p h e = no-refusal e
+family-fits (leafHead (megaminx k)) p h e = no-refusal e
+family-fits (groupHead k n m c) p h e = no-refusal e
+family-fits (binaryHead k n n′ m c) p h e = no-refusal e
+
+part-fits : (text tree : List ℕ) (k : ℕ) (p : Span) → familySpan text tree k ≡ result p → FitsSpan p
+unfolding familySpan
+part-fits text tree k p e =
+    let c = after (checked text tree) e in
+    let r = after (recordAt tree k) (c .2) in
+    let h = after (unless NO-SUCH-RECORD (ltb k (length tree / RECORD))) (r .1) in
+    let b = well-formed-below text tree (checked-tree text tree (c .0) (c .1) .formed) in
+    family-fits (r .0) p (subst FitsHead (same-result (h .2)) (head-fits (drop (RECORD * k) tree) (below-drop 256 (RECORD * k) tree b))) (r .2)
+
+named : (text tree : List ℕ) (k : ℕ) → Small (partNumber (familySpan text tree k))
+named text tree k = go (familySpan text tree k) refl
+  where
+    go : (o : Outcome Span) → familySpan text tree k ≡ o → Small (partNumber o)
+    go (refusal r) e = omega arith
+    go (result p) e = let f = part-fits text tree k p e in omega (arith, f .offset, f .size)
+
+-- A value below 2^56, told whole.
+whole : (o : Outcome ℕ) → Small o → Whole o
+whole o h = record { sum = omega arith; refusedBy = omega arith; valued = omega arith }
+
+pub never-bites : NeverBites
+never-bites =
+    record {
+      whole = whole;
+      reading = λ f text buffer. small (reading f text) buffer (λ l e h. omega (arith, reading-at-most f text l e));
+      counting = counted;
+      seeking = λ text tree k buffer. small (stepAt text tree k) buffer (λ l e h. omega (arith, step-at-most text tree k l e));
+      unrolling = λ text tree buffer. small (unrolled text tree) buffer (λ l e h. omega (arith, unrolled-at-most text tree l e));
+      layering = λ text tree k n neg buffer.
+          let o : Outcome (List ℕ) = (do l ← layerRanges text tree k n neg; result (rangeBytes l)) in
+          in-entries (lend o buffer .answer) (small o buffer (λ l e h. omega (arith, ranges-at-most text tree k n neg l e)));
+      naming = named;
+      inverting = λ text tree buffer b. small (inverse text tree) buffer (λ l e h. omega arith);
+      invertingDeeply = λ text tree buffer b. small (deepInverse text tree) buffer (λ l e h. omega arith);
+      printing = λ text tree buffer b. small (display text tree) buffer (λ l e h. omega arith)
+    }

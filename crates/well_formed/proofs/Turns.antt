@@ -1,0 +1,457 @@
+-- The walk: what each way out of a turn says of the list, and of its first node. Assumes nothing.
+use Prim.Native.Nat.{ℕ, _+_, _-_, _*_, _/_, _≤_, _<_}
+use mathlib.Core.Path.{_≡_, refl, sym, ap, ap₂, _∙_, subst}
+use mathlib.Core.Bool.{Bool, true, false, _&&_, _||_}
+use mathlib.Core.List.{List, [], _∷_}
+use mathlib.Core.Option.{Option, none, some}
+use native.Mathlib.Omega.{arith}
+use borrow.Author.Tests.{leb-true, leb-false, eqb-true, eqb-false, lt-ltb}
+use lib.Dec.{leb, ltb, eqb}
+use lib.ListN.{length, take, drop, getD, length-drop}
+use lib.Seq.{take-all}
+use Rattle.notation.specs.Basics.{pick, sameList}
+use Rattle.notation.specs.Numbers.{fromBits}
+use Rattle.notation.specs.Tree.{Leaf, Node, Tree}
+use Rattle.notation.specs.Counts.{HELD, hold, countNode, count, stored}
+use Rattle.notation.specs.Packed.{RECORD, widths, cut, inOrder, nowhere, Head, leafHead, headFields, headRecord, headAt, unpackFrom, unpack}
+use Rattle.notation.specs.WellFormed.{leafOk, multiplierOk}
+use Rattle.numbers.proofs.Positional.{Below, below-drop}
+use Rattle.laws.proofs.Bools.{and-left, and-right, and-both, false-true}
+use Rattle.laws.proofs.Walking.{leaf-stored}
+use Rattle.record.specs.Meaning.{field, uncounted, listed}
+use Rattle.record.specs.declared.encode.Fields.{Fields}
+use Rattle.record.proofs.Same.{same-refl, same-eq, refuted}
+use Rattle.counts.specs.Held.{groupCount}
+use Rattle.well_formed.specs.Formed.{formed, formedCount, headOk, first, second, both, firstBytes, secondBytes, restBytes, countOk, firstOk}
+use Rattle.well_formed.proofs.Opening.{both-sum, nodeOf, unpack-view}
+use Rattle.well_formed.proofs.Heads.{GroupSays, group-says, leaf-says, asks-nothing, by-fields, compared, field-written, first-written, second-written, count-written}
+use Rattle.well_formed.proofs.Formed.{formed-fact, fact-formed, formed-nil, Parts, formed-parts, parts-formed}
+
+-- two tests that hold together
+alike : (a b : Bool) → (a ≡ true → b ≡ true) → (b ≡ true → a ≡ true) → a ≡ b
+alike true true f g = refl
+alike true false f g = sym (f refl)
+alike false true f g = g refl
+alike false false f g = refl
+
+and-true : (a b : Bool) → b ≡ true → a ≡ (a && b)
+and-true true b e = sym e
+and-true false b e = refl
+
+and-false : (a b : Bool) → b ≡ false → false ≡ (a && b)
+and-false true b e = sym e
+and-false false b e = refl
+
+-- whether the first record is what packing writes
+abbrev same : List ℕ → Bool
+same bs = sameList (headRecord (headAt bs)) (take RECORD bs)
+
+-- the lists that it says, and the node that it is with them
+abbrev firstIn : List ℕ → Tree
+firstIn bs = unpack (firstBytes (headAt bs) bs)
+
+abbrev secondIn : List ℕ → Tree
+secondIn bs = unpack (secondBytes (headAt bs) bs)
+
+abbrev firstNode : List ℕ → Node Leaf
+firstNode bs = nodeOf (headAt bs) (firstIn bs) (secondIn bs)
+
+-- if these bytes are well formed, so many steps and theirs, held
+abbrev countFrom : List ℕ → ℕ → ℕ → List ℕ → Option ℕ
+countFrom text d n bs = pick (formed text d bs) (some (hold (n + count (unpack bs)))) none
+
+-- Lists that are not empty.
+module _ (text : List ℕ) (d : ℕ) (bs : List ℕ) (below : Below 256 bs) (some : 0 < length bs) where
+  parts : formed text d bs ≡ true → Parts text d (headAt bs) bs
+  parts e = formed-parts text d bs below some (formed-fact text d bs e)
+
+  same-part : Parts text d (headAt bs) bs → same bs ≡ true
+  same-part p = subst (λ (s : List ℕ). sameList (headRecord (headAt bs)) s ≡ true) (p .exact) (same-refl (headRecord (headAt bs)))
+
+  -- too short for a record
+  pub too-short : length bs < RECORD → false ≡ formed text d bs
+  too-short s = refuted (formed text d bs) λ e. let l = parts e .long in omega arith
+
+  -- too short for the lists that the record counts
+  pub too-long : (end : ℕ) → RECORD ≤ length bs → end ≡ RECORD + RECORD * (field 1 bs + field 2 bs) → length bs < end → false ≡ formed text d bs
+  too-long end l z s = refuted (formed text d bs) λ e.
+      let p = parts e in
+      let w = same-part p in
+      omega (arith, p .long, both-sum (headAt bs), first-written bs below l w, second-written bs below l w)
+
+  -- a node that is refused
+  pub bad-node : (ok : Bool) → ok ≡ firstOk text d bs → ok ≡ false → false ≡ formed text d bs
+  bad-node ok o fails = refuted (formed text d bs) λ e.
+      let p = parts e in
+      false-true
+      (sym fails ∙ o
+      ∙ and-both (same bs) _ (same-part p)
+      (and-both (headOk text d (headAt bs)) _ (p .head)
+      (and-both _ _ (fact-formed text (d - 1) (firstBytes (headAt bs) bs) (p .list))
+      (and-both _ _ (fact-formed text (d - 1) (secondBytes (headAt bs) bs) (p .list′)) (p .count)))))
+
+  -- a node that is passed
+  module _ (ok : Bool) (o : ok ≡ firstOk text d bs) (holds : ok ≡ true) where
+    abbrev h : Head
+    h = headAt bs
+
+    below-head : (headOk text d h && (formed text (d - 1) (firstBytes h bs) && (formed text (d - 1) (secondBytes h bs) && countOk h (firstIn bs) (secondIn bs)))) ≡ true
+    below-head = and-right (same bs) _ (sym o ∙ holds)
+
+    in-lists : (formed text (d - 1) (firstBytes h bs) && (formed text (d - 1) (secondBytes h bs) && countOk h (firstIn bs) (secondIn bs))) ≡ true
+    in-lists = and-right (headOk text d h) _ below-head
+
+    in-second : (formed text (d - 1) (secondBytes h bs) && countOk h (firstIn bs) (secondIn bs)) ≡ true
+    in-second = and-right (formed text (d - 1) (firstBytes h bs)) _ in-lists
+
+    right-count : countOk h (firstIn bs) (secondIn bs) ≡ true
+    right-count = and-right (formed text (d - 1) (secondBytes h bs)) _ in-second
+
+    -- the rest decides
+    good-node : RECORD + RECORD * both h ≤ length bs → formed text d (restBytes h bs) ≡ formed text d bs
+    good-node long = alike (formed text d (restBytes h bs)) (formed text d bs) up (λ e. fact-formed text d (restBytes h bs) (parts e .rest))
+      where
+        up : formed text d (restBytes h bs) ≡ true → formed text d bs ≡ true
+        up r =
+            fact-formed text d bs
+            (parts-formed text d bs some
+            (record {
+              exact = same-eq (headRecord h) (take RECORD bs) (and-left _ _ (sym o ∙ holds));
+              long = long;
+              head = and-left _ _ below-head;
+              list = formed-fact text (d - 1) (firstBytes h bs) (and-left _ _ in-lists);
+              list′ = formed-fact text (d - 1) (secondBytes h bs) (and-left _ _ in-second);
+              count = right-count;
+              rest = formed-fact text d (restBytes h bs) r;
+            }))
+
+-- What a turn leaves: the steps that are counted, n of them, and the bytes that are left decide. A step that is not held took a byte or more.
+pub record Left (text : List ℕ) (d : ℕ) (list bs : List ℕ) (n : ℕ) : Type 0 where
+  pub below : Below 256 bs
+  pub within : length bs ≤ length list
+  pub few : n + length bs ≤ HELD + length list
+  pub same : countFrom text d n bs ≡ formedCount text d list
+
+pub at-first : (text : List ℕ) (d : ℕ) (list : List ℕ) → Below 256 list → Left text d list list 0
+at-first text d list b =
+    let z : 0 + count (unpack list) ≡ count (unpack list) = omega arith in
+    record { below = b; within = omega arith; few = omega arith; same = ap (λ (k : ℕ). pick (formed text d list) (some (hold k)) none) z }
+
+pub no-more : (text : List ℕ) (d : ℕ) (list bs : List ℕ) (n : ℕ) → Left text d list bs n → length bs ≤ 0 → (r : ℕ) → r ≡ hold n → some r ≡ formedCount text d list
+unfolding unpackFrom count
+no-more text d list [] n left h r e =
+    let same : r ≡ hold (n + count (unpack [])) = omega arith in
+    ap₂ (λ (b : Bool) (k : ℕ). pick b (some k) none) (sym (formed-nil text d)) same ∙ left .same
+no-more text d list (b ∷ bs) n left h r e = absurd (omega arith)
+
+pub refused : (text : List ℕ) (d : ℕ) (list bs : List ℕ) (n : ℕ) → Left text d list bs n → false ≡ formed text d bs → none ≡ formedCount text d list
+refused text d list bs n left e = ap (λ (b : Bool). pick b (some (hold (n + count (unpack bs)))) none) e ∙ left .same
+
+rest-is : (bs : List ℕ) (end : ℕ) → take (length bs - end) (drop end bs) ≡ drop end bs
+rest-is bs end = take-all (length bs - end) (drop end bs) (omega (arith, length-drop end bs))
+
+pub shorter : (bs : List ℕ) (end : ℕ) → 0 < end → end ≤ length bs → length (take (length bs - end) (drop end bs)) < length bs
+shorter bs end p l = omega (arith, ap length (rest-is bs end), length-drop end bs)
+
+-- the first node's steps, c of them as it stores them, are added to n and give n′, held or not; with those of the rest
+count-on : (bs : List ℕ) (n c n′ : ℕ) → 0 < length bs → c ≡ stored (firstNode bs) → hold n′ ≡ hold (n + c) → hold (n′ + count (unpack (restBytes (headAt bs) bs))) ≡ hold (n + count (unpack bs))
+unfolding count
+count-on bs n c n′ p e s =
+    let whole : count (unpack bs) ≡ countNode (firstNode bs) + count (unpack (restBytes (headAt bs) bs)) = ap count (unpack-view bs p) in
+    omega arith
+
+go-on : (text : List ℕ) (d : ℕ) (list bs : List ℕ) (n : ℕ) → Left text d list bs n → (ok : Bool) → ok ≡ firstOk text d bs → ok ≡ true →
+    (end : ℕ) → end ≡ RECORD + RECORD * both (headAt bs) → end ≤ length bs → (c n′ : ℕ) → c ≡ stored (firstNode bs) → hold n′ ≡ hold (n + c) →
+    n′ + (length bs - end) ≤ HELD + length list → Left text d list (take (length bs - end) (drop end bs)) n′
+go-on text d list bs n left ok o holds end z l c n′ e s few =
+    let p : 0 < length bs = omega arith in
+    let rest = length-drop end bs in
+    let steps : hold (n′ + count (unpack (drop end bs))) ≡ hold (n + count (unpack bs)) =
+    (λ i. hold (n′ + count (unpack (drop (z i) bs)))) ∙ count-on bs n c n′ p e s
+    in
+    subst (λ (r : List ℕ). Left text d list r n′) (sym (rest-is bs end))
+    (record {
+      below = below-drop 256 end bs (left .below);
+      within = omega (arith, left .within);
+      few = omega arith;
+      same =
+        ap₂ (λ (b : Bool) (k : ℕ). pick b (some k) none)
+        (ap (λ (k : ℕ). formed text d (drop k bs)) z ∙ good-node text d bs (left .below) p ok o holds (omega arith)) steps
+        ∙ left .same;
+    })
+
+-- the end of a group by the counts that are read
+pub counted : (bs : List ℕ) {n n′ : ℕ} → n ≡ field 1 bs → n′ ≡ field 2 bs → RECORD + RECORD * (n + n′) ≡ RECORD + RECORD * (field 1 bs + field 2 bs)
+counted bs e e′ = omega arith
+
+pub past-group : (text : List ℕ) (d : ℕ) (list bs : List ℕ) (n : ℕ) → Left text d list bs n → (ok : Bool) → ok ≡ firstOk text d bs → ok ≡ true →
+    (end : ℕ) → end ≡ RECORD + RECORD * (field 1 bs + field 2 bs) → end ≤ length bs → (c n′ : ℕ) → c ≡ field 11 bs → n′ ≡ hold (n + c) →
+    Left text d list (take (length bs - end) (drop end bs)) n′
+past-group text d list bs n left ok o holds end z l c n′ e s =
+    let w : same bs ≡ true = and-left _ _ (sym o ∙ holds) in
+    let long : RECORD ≤ length bs = omega arith in
+    let right = right-count text d bs (left .below) (omega arith) ok o holds in
+    go-on text d list bs n left ok o holds end
+    (omega (arith, both-sum (headAt bs), first-written bs (left .below) long w, second-written bs (left .below) long w)) l
+    c n′ (e ∙ count-written bs (left .below) long w (firstIn bs) (secondIn bs) right) (omega arith) (omega (arith, left .within))
+
+-- so that the sum has room
+pub count-held : (text : List ℕ) (d : ℕ) (bs : List ℕ) → Below 256 bs → RECORD ≤ length bs → (ok : Bool) → ok ≡ firstOk text d bs → ok ≡ true → (c : ℕ) → c ≡ field 11 bs → c ≤ HELD
+count-held text d bs below long ok o holds c e =
+    let w = count-written bs below long (and-left _ _ (sym o ∙ holds)) (firstIn bs) (secondIn bs) (right-count text d bs below (omega arith) ok o holds) in
+    omega arith
+
+pub past-leaf : (text : List ℕ) (d : ℕ) (list bs : List ℕ) (n : ℕ) → Left text d list bs n → (ok : Bool) → ok ≡ firstOk text d bs → ok ≡ true →
+    6 ≤ field 0 bs / 16 → RECORD ≤ length bs → Left text d list (take (length bs - RECORD) (drop RECORD bs)) (n + 1)
+unfolding countNode
+past-leaf text d list bs n left ok o holds k l =
+    let leaf = leaf-says bs (field 0 bs / 16) refl k .1 in
+    go-on text d list bs n left ok o holds RECORD (ap (λ (h : Head). RECORD + RECORD * both h) leaf) l
+    1 (n + 1) (ap (λ (h : Head). stored (nodeOf h (firstIn bs) (secondIn bs))) leaf) refl (omega (arith, left .few))
+
+-- A leaf has no lists.
+leaf-lists : (text : List ℕ) (d : ℕ) (r b : Bool) → r ≡ b → r ≡ (b && (formed text d [] && (formed text d [] && true)))
+leaf-lists text d r true e = e ∙ rw (formed-nil text d)
+leaf-lists text d r false e = e
+
+leaf-decides : (text bs : List ℕ) (x : Leaf) → leafHead x ≡ headAt bs → (s : Bool) → s ≡ same bs → (d : ℕ) → (s && leafOk text x) ≡ firstOk text d bs
+leaf-decides text bs x e s p d =
+    ap (λ (b : Bool). s && b) (leaf-lists text (d - 1) (leafOk text x) (leafOk text x) refl)
+    ∙ ap (λ (h : Head). s && (headOk text d h && (formed text (d - 1) (firstBytes h bs) && (formed text (d - 1) (secondBytes h bs) && countOk h (unpack (firstBytes h bs)) (unpack (secondBytes h bs)))))) e
+    ∙ rw p
+
+-- a record of a leaf, of kind k
+pub record LeafRead (bs : List ℕ) (k : ℕ) : Type 0 where
+  pub below : Below 256 bs
+  pub long : RECORD ≤ length bs
+  pub kind : k ≡ field 0 bs / 16
+  pub leaf : 6 ≤ k
+  pub one : field 11 bs ≡ 1
+
+-- it counts 1
+pub leaf-not-one : (text bs : List ℕ) → Below 256 bs → RECORD ≤ length bs → 6 ≤ field 0 bs / 16 → (one : Bool) → one ≡ eqb (field 11 bs) 1 → one ≡ false →
+    (d : ℕ) → false ≡ firstOk text d bs
+leaf-not-one text bs below long k one e f d =
+    let x = leaf-says bs (field 0 bs / 16) refl k in
+    let other : same bs ≡ false = sym (refuted (same bs) λ w.
+    eqb-false (field 11 bs) 1 (sym e ∙ f) (field-written bs below long w 11 ∙ ap (λ (h : Head). getD (headFields h) 11 0) (sym (x .1)) ∙ leaf-stored (x .0)))
+    in
+    rw other
+
+module _ {bs : List ℕ} {k : ℕ} (read : LeafRead bs k) (text : List ℕ) (s : Bool) (w : s ≡ sameList (headFields (headAt bs)) (cut widths (take RECORD bs))) where
+  decides : (x : Leaf) → leafHead x ≡ headAt bs → (d : ℕ) → (s && leafOk text x) ≡ firstOk text d bs
+  decides x e d = leaf-decides text bs x e s (w ∙ by-fields bs (read .below) (read .long)) d
+
+  pub leaf-passed : (x : Leaf) → leafHead x ≡ headAt bs → s ≡ true → (ok : Bool) → ok ≡ leafOk text x → (d : ℕ) → ok ≡ firstOk text d bs
+  leaf-passed x e t ok z d = z ∙ ap (λ (b : Bool). b && leafOk text x) (sym t) ∙ decides x e d
+
+  pub leaf-refused : s ≡ false → (d : ℕ) → false ≡ firstOk text d bs
+  leaf-refused f d =
+      let x = leaf-says bs k (read .kind) (read .leaf) in
+      ap (λ (b : Bool). b && leafOk text (x .0)) (sym f) ∙ decides (x .0) (x .1) d
+
+  -- neither a rotation nor a move
+  pub leaf-alone : (k ≡ 6 → ⊥) → (k ≡ 7 → ⊥) → s ≡ true → (d : ℕ) → true ≡ firstOk text d bs
+  leaf-alone six seven t =
+      let x = leaf-says bs k (read .kind) (read .leaf) in
+      leaf-passed (x .0) (x .1) t true (sym (asks-nothing text bs k (read .kind) (read .leaf) six seven) ∙ ap (headOk text 0) (sym (x .1)))
+
+-- A group's record, from what is read of it.
+-- the step count that was read with the other fields
+count-of : {f : Fields} {l : List ℕ} → listed f ≡ l → f .count ≡ getD l 11 0
+count-of p = ap (λ (l : List ℕ). getD l 11 0) p
+
+-- only a binary group has a second list
+second-is : (bs : List ℕ) (k n : ℕ) → GroupSays bs k (headAt bs) → n ≡ field 2 bs → (q : Bool) → q ≡ (leb 4 k || eqb n 0) → q ≡ true → n ≡ second (headAt bs)
+second-is bs k n g z q e t = go (leb 4 k) refl (sym e ∙ t)
+  where
+    go : (b : Bool) → leb 4 k ≡ b → (b || eqb n 0) ≡ true → n ≡ second (headAt bs)
+    go true p h = z ∙ sym (g .two (leb-true 4 k p))
+    go false p h = eqb-true n 0 h ∙ sym (g .one (leb-false 4 k p))
+
+second-is-not : (bs : List ℕ) (k n : ℕ) → GroupSays bs k (headAt bs) → (q : Bool) → q ≡ (leb 4 k || eqb n 0) → q ≡ false → n ≡ second (headAt bs) → ⊥
+second-is-not bs k n g q e f z = go (leb 4 k) refl (sym e ∙ f)
+  where
+    go : (b : Bool) → leb 4 k ≡ b → (b || eqb n 0) ≡ false → ⊥
+    go true p h = false-true (sym h)
+    go false p h = eqb-false n 0 h (z ∙ g .one (leb-false 4 k p))
+
+abbrev multiplier : List ℕ → Bool
+multiplier bs = multiplierOk (fromBits 32 (field 3 bs))
+
+pub multiplier-read : (bs : List ℕ) (m : ℕ) (r : Bool) → m ≡ field 3 bs → r ≡ multiplierOk (fromBits 32 m) → r ≡ multiplier bs
+multiplier-read bs m r z e = e ∙ ap (λ (n : ℕ). multiplierOk (fromBits 32 n)) z
+
+-- a record of kind k, with n records in its second list, and whether it may have them
+pub record GroupRead (bs : List ℕ) (k n : ℕ) (q : Bool) : Type 0 where
+  pub below : Below 256 bs
+  pub long : RECORD ≤ length bs
+  pub says : GroupSays bs k (headAt bs)
+  pub count : n ≡ field 2 bs
+  pub may : q ≡ (leb 4 k || eqb n 0)
+
+pub group-written : {bs : List ℕ} {k n : ℕ} {q : Bool} → GroupRead bs k n q → q ≡ true → (m : Bool) → m ≡ multiplier bs → m ≡ true →
+    {n′ number steps : ℕ} {f f′ : Fields} (r : Bool) → n′ ≡ field 1 bs → number ≡ field 3 bs → steps ≡ field 11 bs →
+    listed f ≡ inOrder k 0 0 0 n′ n number 0 nowhere nowhere nowhere steps → listed f′ ≡ cut widths (take RECORD bs) → r ≡ sameList (uncounted f) (uncounted f′) → r ≡ (same bs && multiplier bs)
+group-written {bs} {k} {n} {q} g t m e h {n′} {number} {steps} {f} {f′} r a b c p o s =
+    let z = second-is bs k n (g .says) (g .count) q (g .may) t in
+    compared bs (g .below) (g .long) f f′ r (p ∙ (λ i. inOrder k 0 0 0 (a i) (z i) (b i) 0 nowhere nowhere nowhere (c i)) ∙ sym (g .says .fields)) o
+    (count-of {f = f} p ∙ c ∙ sym (count-of {f = f′} o)) s
+    ∙ and-true (same bs) (multiplier bs) (sym e ∙ h)
+
+pub second-refused : {bs : List ℕ} {k n : ℕ} {q : Bool} → GroupRead bs k n q → q ≡ false → false ≡ (same bs && multiplier bs)
+second-refused {bs} {k} {n} {q} g f =
+    ap (λ (b : Bool). b && multiplier bs) (refuted (same bs) λ w. second-is-not bs k n (g .says) q (g .may) f (g .count ∙ second-written bs (g .below) (g .long) w))
+
+pub multiplier-refused : (bs : List ℕ) (m : Bool) → m ≡ multiplier bs → m ≡ false → m ≡ (same bs && multiplier bs)
+multiplier-refused bs m e f = f ∙ and-false (same bs) (multiplier bs) (sym e ∙ f)
+
+-- A group and its lists.
+record-passed : (s l m b : Bool) → l ≡ true → (s && m) ≡ true → b ≡ (s && ((l && m) && b))
+record-passed s l m b p e = rw (p, and-left s m e, and-right s m e)
+
+record-refused : (s l m b : Bool) → (s && m) ≡ false → false ≡ (s && ((l && m) && b))
+record-refused true true m b e = rw e
+record-refused true false m b e = refl
+record-refused false l m b e = refl
+
+pub record GroupTold (bs : List ℕ) : Type 0 where
+  pub below : Below 256 bs
+  pub long : RECORD ≤ length bs
+  pub asks : (text : List ℕ) (d : ℕ) → headOk text d (headAt bs) ≡ (ltb 0 d && multiplier bs)
+  pub one : field 0 bs / 16 < 4 → second (headAt bs) ≡ 0
+  pub counts : (a b : Tree) → countOk (headAt bs) a b ≡ eqb (field 11 bs) (groupCount (field 0 bs / 16) (fromBits 32 (field 3 bs)) (hold (count a)) (hold (count b)))
+
+pub group-told : (bs : List ℕ) → Below 256 bs → RECORD + RECORD * (field 1 bs + field 2 bs) ≤ length bs → field 0 bs / 16 < 6 → GroupTold bs
+group-told bs b l k =
+    let says = group-says bs b (field 0 bs / 16) refl k in
+    record { below = b; long = omega arith; asks = says .asks; one = says .one; counts = says .counts }
+
+-- what a list's answer tells
+pub list-refused : (b : Bool) (k : ℕ) → none ≡ pick b (some k) none → b ≡ false
+list-refused true k e = cc
+list-refused false k e = refl
+
+pub list-passed : (b : Bool) (k n : ℕ) → some n ≡ pick b (some k) none → (b ≡ true) × (n ≡ k)
+list-passed true k n e = (refl, cc)
+list-passed false k n e = (cc, cc)
+
+list-held : (text : List ℕ) (d : ℕ) (bs : List ℕ) (n : ℕ) → some n ≡ formedCount text d bs → n ≤ HELD
+list-held text d bs n e =
+    let z = list-passed (formed text d bs) (hold (count (unpack bs))) n e .1 in
+    omega arith
+
+-- a group's lists and its count
+abbrev lists : List ℕ → ℕ → List ℕ → Bool
+lists text d bs =
+    formed text (d - 1) (firstBytes (headAt bs) bs)
+    && (formed text (d - 1) (secondBytes (headAt bs) bs) && countOk (headAt bs) (firstIn bs) (secondIn bs))
+
+module _ (text : List ℕ) (d : ℕ) (bs : List ℕ) (g : GroupTold bs) where
+  as-group : (same bs && ((ltb 0 d && multiplier bs) && lists text d bs)) ≡ firstOk text d bs
+  as-group = ap (λ (b : Bool). same bs && (b && lists text d bs)) (sym (g .asks text d))
+
+  pub no-level : d ≡ 0 → false ≡ firstOk text d bs
+  no-level z =
+      let none : ltb 0 d ≡ false = rw z in
+      and-false (same bs) ((ltb 0 d && multiplier bs) && lists text d bs) (rw none) ∙ as-group
+
+  pub group-refused : (r : Bool) → r ≡ (same bs && multiplier bs) → r ≡ false → false ≡ firstOk text d bs
+  group-refused r e f = record-refused (same bs) (ltb 0 d) (multiplier bs) (lists text d bs) (sym e ∙ f) ∙ as-group
+
+-- A group whose record is passed, with n records in its first list, and what was answered of that list.
+pub record FirstRead (text : List ℕ) (d : ℕ) (bs : List ℕ) (n : ℕ) (a : Option ℕ) : Type 0 where
+  pub told : GroupTold bs
+  pub level : 0 < d
+  pub passed : (same bs && multiplier bs) ≡ true
+  pub size : n ≡ field 1 bs
+  pub answer : a ≡ formedCount text (d - 1) (take (RECORD + RECORD * n - RECORD) (drop RECORD bs))
+
+module _ {text : List ℕ} {d : ℕ} {bs : List ℕ} {n : ℕ} {a : Option ℕ} (one : FirstRead text d bs n a) where
+  first-size : field 1 bs ≡ first (headAt bs)
+  first-size = first-written bs (one .told .below) (one .told .long) (and-left (same bs) (multiplier bs) (one .passed))
+
+  second-size : field 2 bs ≡ second (headAt bs)
+  second-size = second-written bs (one .told .below) (one .told .long) (and-left (same bs) (multiplier bs) (one .passed))
+
+  by-lists : lists text d bs ≡ firstOk text d bs
+  by-lists =
+      record-passed (same bs) (ltb 0 d) (multiplier bs) (lists text d bs) (lt-ltb 0 d (one .level)) (one .passed)
+      ∙ as-group text d bs (one .told)
+
+  first-told : a ≡ formedCount text (d - 1) (firstBytes (headAt bs) bs)
+  first-told =
+      let c : RECORD + RECORD * n - RECORD ≡ RECORD * first (headAt bs) = omega (arith, one .size, first-size) in
+      one .answer ∙ ap (λ (i : ℕ). formedCount text (d - 1) (take i (drop RECORD bs))) c
+
+  pub first-refused : a ≡ none → false ≡ firstOk text d bs
+  first-refused fails =
+      ap (λ (b : Bool). b && (formed text (d - 1) (secondBytes (headAt bs) bs) && countOk (headAt bs) (firstIn bs) (secondIn bs)))
+      (sym (list-refused (formed text (d - 1) (firstBytes (headAt bs) bs)) _ (sym fails ∙ first-told)))
+      ∙ by-lists
+
+  pub first-held : (k : ℕ) → a ≡ some k → k ≤ HELD
+  first-held k e = list-held text (d - 1) (firstBytes (headAt bs) bs) k (sym e ∙ first-told)
+
+-- The first list has k steps; the second, with n′ records, was answered too.
+pub record SecondRead (text : List ℕ) (d : ℕ) (bs : List ℕ) (k : ℕ) (b : Option ℕ) : Type 0 where
+  pub n : ℕ
+  pub n′ : ℕ
+  pub one : FirstRead text d bs n (some k)
+  pub size : n′ ≡ field 2 bs
+  pub answer : b ≡ formedCount text (d - 1) (take (RECORD + RECORD * n + RECORD * n′ - (RECORD + RECORD * n)) (drop (RECORD + RECORD * n) bs))
+
+-- A group that is not binary has an empty second list, which needs no walk to be answered.
+pub no-second : {text : List ℕ} {d : ℕ} {bs : List ℕ} {n k : ℕ} → FirstRead text d bs n (some k) → field 0 bs / 16 < 4 → SecondRead text d bs k (some 0)
+unfolding unpackFrom count
+no-second {text} {d} {bs} {n} {k} one l =
+    let empty : field 2 bs ≡ 0 = second-size one ∙ one .told .one l in
+    let z : 0 ≡ RECORD + RECORD * n + RECORD * field 2 bs - (RECORD + RECORD * n) = omega arith in
+    record {
+      n = n;
+      n′ = field 2 bs;
+      one = one;
+      size = refl;
+      answer =
+        ap (λ (b : Bool). pick b (some 0) none) (sym (formed-nil text (d - 1)))
+        ∙ ap (λ (i : ℕ). formedCount text (d - 1) (take i (drop (RECORD + RECORD * n) bs))) z;
+    }
+
+module _ {text : List ℕ} {d : ℕ} {bs : List ℕ} {k : ℕ} {b : Option ℕ} (two : SecondRead text d bs k b) where
+  first-count : (formed text (d - 1) (firstBytes (headAt bs) bs) ≡ true) × (k ≡ hold (count (firstIn bs)))
+  first-count = list-passed (formed text (d - 1) (firstBytes (headAt bs) bs)) _ k (first-told (two .one))
+
+  second-told : b ≡ formedCount text (d - 1) (secondBytes (headAt bs) bs)
+  second-told =
+      let n = two .n in
+      let n′ = two .n′ in
+      let c : RECORD + RECORD * n ≡ RECORD + RECORD * first (headAt bs) = omega (arith, two .one .size, first-size (two .one)) in
+      let c′ : RECORD + RECORD * n + RECORD * n′ - (RECORD + RECORD * n) ≡ RECORD * second (headAt bs) = omega (arith, two .size, second-size (two .one)) in
+      two .answer ∙ (λ i. formedCount text (d - 1) (take (c′ i) (drop (c i) bs)))
+
+  -- the second list and the count are left
+  by-second : (formed text (d - 1) (secondBytes (headAt bs) bs) && countOk (headAt bs) (firstIn bs) (secondIn bs)) ≡ firstOk text d bs
+  by-second =
+      ap (λ (x : Bool). x && (formed text (d - 1) (secondBytes (headAt bs) bs) && countOk (headAt bs) (firstIn bs) (secondIn bs))) (sym (first-count .0))
+      ∙ by-lists (two .one)
+
+  pub second-list-refused : b ≡ none → false ≡ firstOk text d bs
+  second-list-refused fails =
+      ap (λ (x : Bool). x && countOk (headAt bs) (firstIn bs) (secondIn bs))
+      (sym (list-refused (formed text (d - 1) (secondBytes (headAt bs) bs)) _ (sym fails ∙ second-told)))
+      ∙ by-second
+
+  pub second-held : (k′ : ℕ) → b ≡ some k′ → k′ ≤ HELD
+  second-held k′ e = list-held text (d - 1) (secondBytes (headAt bs) bs) k′ (sym e ∙ second-told)
+
+  -- the count as it is compared
+  pub count-compared : (k′ : ℕ) → b ≡ some k′ → (kind number stored′ whole : ℕ) → kind ≡ field 0 bs / 16 → number ≡ field 3 bs →
+      stored′ ≡ field 11 bs → whole ≡ groupCount kind (fromBits 32 number) k k′ → eqb stored′ whole ≡ firstOk text d bs
+  count-compared k′ e kind number stored′ whole zk zn zs zw =
+      let p = first-count .1 in
+      let q = list-passed (formed text (d - 1) (secondBytes (headAt bs) bs)) _ k′ (sym e ∙ second-told) in
+      ap (eqb stored′) zw
+      ∙ (λ i. eqb (zs i) (groupCount (zk i) (fromBits 32 (zn i)) (p i) (q .1 i)))
+      ∙ sym (two .one .told .counts (firstIn bs) (secondIn bs))
+      ∙ ap (λ (x : Bool). x && countOk (headAt bs) (firstIn bs) (secondIn bs)) (sym (q .0))
+      ∙ by-second
