@@ -28,8 +28,8 @@
  *
  * Refusals: 1 text too long, 2 not UTF-8, 3 nested too deep, 4 not notation, 5 buffer too short, 6 not a tree over this text (a wrong count is
  * one reason), 7 a NISS group stands in the way, 8 a Square-1 number that cannot be negated, 9 more than 4,294,967,295 steps, 10 no such place,
- * 11 no such number of layers, 12 no such record. Where several apply, the first of 1, 2, 3, 4 (reading) or 1, 2, 6, 11, 12, 7 or 8 (whichever
- * the walk meets first), 9, 10, 5 is given.
+ * 11 no such number of layers, 12 no such record. Where several apply, the first of 1, 2, 3, 4, 5 (reading) or 1, 2, 6, 11, 12, 7 or 8
+ * (whichever the walk meets first), 9, 10, 5 is given.
  */
 #ifndef HYPUZ_NOTATION_H
 #define HYPUZ_NOTATION_H

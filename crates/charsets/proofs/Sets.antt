@@ -6,7 +6,7 @@ use Prim.Native.Nat.{ℕ, _≤_}
 use borrow.Author.Tests.{le-leb, ne-eqb}
 use denote.Enum.Declared.{tagOf}
 use lib.Dec.{eqb, leb}
-use Rattle.notation.proofs.charsets.CharSet.{the-type}
+use Rattle.notation.proofs.char_set.CharSet.{the-type}
 use Rattle.notation.specs.declared.char_set.CharSet.{CharSet}
 use Rattle.notation.specs.declared.char_set.CharSet.the-variants.{LowercaseLatin, UppercaseLatin, UppercaseGreek, TallLowercaseGreek, ShortLowercaseGreek, Underscore, Prime}
 use Rattle.notation.specs.declared.char_set.Class.{Class}

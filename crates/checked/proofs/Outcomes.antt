@@ -9,7 +9,7 @@ use Rattle.notation.specs.Utf8.{utf8}
 use Rattle.notation.specs.Refusals.{Outcome, refusal, result, TOO-LONG, NOT-UTF8, NOT-WELL-FORMED, NO-ROOM}
 use Rattle.notation.specs.Tree.{Tree}
 use Rattle.notation.specs.Packed.{unpack}
-use Rattle.notation.specs.Counts.{hold, count}
+use Rattle.notation.specs.Counts.{cap, count}
 use Rattle.notation.specs.WellFormed.{wellFormed}
 use Rattle.notation.specs.Entries.{lend, checked, refusalNumber, value, MAX-TEXT}
 use Rattle.numbers.proofs.Positional.{Below}
@@ -17,11 +17,11 @@ use Rattle.laws.proofs.Bools.{no-refusal}
 use Rattle.laws.proofs.Packing.{well-formed-below}
 use Rattle.laws.proofs.Accepting.{checked-tree}
 use Rattle.well_formed.proofs.Bytes.{accepted}
-use Rattle.checked.specs.Sound.{Sound, stepsIn}
+use Rattle.checked.specs.Checked.{Accepted, checkedSteps}
 
 -- What `check` promises of its answer.
 abbrev pub Checks : List ℕ → List ℕ → Outcome ℕ → Type 0
-Checks text tree o = (o ≡ stepsIn text tree) × ((n : ℕ) → o ≡ result n → Sound text tree)
+Checks text tree o = (o ≡ checkedSteps text tree) × ((n : ℕ) → o ≡ result n → Accepted text tree)
 
 module _ (text tree : List ℕ) where
   refuses : (r : ℕ) → checked text tree ≡ refusal r → Checks text tree (refusal r)
@@ -43,14 +43,14 @@ module _ (text tree : List ℕ) where
   unfolding checked
   is-checked h u w = rw (le-leb (length text) MAX-TEXT h, u, w)
 
-  pub is-sound : Below 256 tree → length text ≤ MAX-TEXT → utf8 text ≡ true → wellFormed text tree ≡ true → (n : ℕ) → n ≡ hold (count (unpack tree)) → Checks text tree (result n)
+  pub is-sound : Below 256 tree → length text ≤ MAX-TEXT → utf8 text ≡ true → wellFormed text tree ≡ true → (n : ℕ) → n ≡ cap (count (unpack tree)) → Checks text tree (result n)
   is-sound b h u w n e =
       let is = is-checked h u w in
       let a = accepted text tree b w in
       (rw (is, e), λ k q. record { short = h; packed = a .packed; ok = a .ok; is = is })
 
   -- a tree that the rule accepts is sound
-  pub checked-sound : (t : Tree) → checked text tree ≡ result t → Sound text tree
+  pub checked-sound : (t : Tree) → checked text tree ≡ result t → Accepted text tree
   checked-sound t e =
       let c = checked-tree text tree t e in
       let a = accepted text tree (well-formed-below text tree (c .formed)) (c .formed) in
@@ -58,14 +58,14 @@ module _ (text tree : List ℕ) where
 
 -- What an entry learns by taking that answer apart.
 pub record Known (text tree : List ℕ) (n : ℕ) : Type 0 where
-  pub sound : Sound text tree
-  pub steps : n ≡ hold (count (unpack tree))
+  pub sound : Accepted text tree
+  pub steps : n ≡ cap (count (unpack tree))
 
 module _ {text tree : List ℕ} {o : Outcome ℕ} (c : Checks text tree o) where
   pub known : {n : ℕ} → o ≡ result n → Known text tree n
   known {n} q =
       let s = c .1 n q in
-      let w : o ≡ result (hold (count (unpack tree))) = rw (s .is) at (c .0) in
+      let w : o ≡ result (cap (count (unpack tree))) = rw (s .is) at (c .0) in
       record { sound = s; steps = ap value (sym q ∙ w) }
 
   pub refused : {r : ℕ} → o ≡ refusal r → checked text tree ≡ refusal r
@@ -76,7 +76,7 @@ module _ {text tree : List ℕ} {o : Outcome ℕ} (c : Checks text tree o) where
           let w : o ≡ refusal k = rw z at (c .0) in
           z ∙ ap refusal (ap refusalNumber (sym w ∙ q))
       go (result t) z =
-          let w : o ≡ result (hold (count t)) = rw z at (c .0) in
+          let w : o ≡ result (cap (count t)) = rw z at (c .0) in
           no-refusal (sym q ∙ w)
 
 -- Lent buffers.

@@ -22,7 +22,7 @@ use Rattle.record.proofs.RoundTrip.{length-headRecord, headAt-headRecord}
 use Rattle.laws.proofs.Bools.{no-refusal, and-left, and-right}
 use Rattle.laws.proofs.Outcomes.{same-result}
 use Rattle.laws.proofs.Packing.{FitsNode, FitsBody, FitsTree, length-packNode, length-pack}
-use Rattle.checked.specs.Sound.{Sound}
+use Rattle.checked.specs.Checked.{Accepted}
 
 abbrev pub HeadOk : List ℕ → Head → Type 0
 HeadOk text (leafHead x) = leafOk text x ≡ true
@@ -87,7 +87,7 @@ mutual
       each-append (length-packNode n) (each-node n text (f .0) (and-left _ _ ok)) (each-tree l text (f .1) (and-right (nodeOk text n) _ ok))
 
 -- the record at a number of a sound tree
-pub record-ok : (text tree : List ℕ) → Sound text tree → (k : ℕ) → k < length tree / RECORD → HeadOk text (headAt (drop (RECORD * k) tree))
+pub record-ok : (text tree : List ℕ) → Accepted text tree → (k : ℕ) → k < length tree / RECORD → HeadOk text (headAt (drop (RECORD * k) tree))
 record-ok text tree s k h =
     let p = s .packed in
     let long : length tree ≡ RECORD * size (unpack tree) = sym (ap length (p .whole)) ∙ length-pack (unpack tree) in

@@ -1,2 +1,2 @@
 -- What is known of a text and a tree that an entry does not refuse.
-pub mod Sound
+pub mod Checked

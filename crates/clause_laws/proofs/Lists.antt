@@ -13,7 +13,7 @@ use lib.Seq.{length-take-le, drop-drop}
 use Rattle.notation.specs.Basics.{pick, sameList}
 use Rattle.notation.specs.Numbers.{fromBits}
 use Rattle.notation.specs.Tree.{Tree}
-use Rattle.notation.specs.Counts.{hold, countNode, countBody, stored}
+use Rattle.notation.specs.Counts.{cap, countNode, countBody, stored}
 use Rattle.notation.specs.Counts as counts
 use Rattle.notation.specs.Packed.{RECORD, Head, leafHead, groupHead, binaryHead, headFields, headRecord, headAt, unpackFrom, unpack}
 use Rattle.notation.specs.Clauses.{
@@ -75,10 +75,10 @@ abbrev stepsAs : (kind number a b : ℕ) → ℕ
 stepsAs k n a b = pick (leb k 5) (pick (eqb k 3) 0 (natAbs (fromBits 32 n)) * pick (eqb k 4) (2 * (a + b)) (pick (eqb k 5) (2 * a + b) a)) 1
 
 -- what a leaf stores is 1
-leaf-is-one : (r : Fields) (a b : ℕ) → eqb (count r) (hold (stepsOf r a b)) ≡ true → LeafIsOne r
+leaf-is-one : (r : Fields) (a b : ℕ) → eqb (count r) (cap (stepsOf r a b)) ≡ true → LeafIsOne r
 leaf-is-one r a b = go (isGroup r) _
   where
-    go : (t : Bool) (n : ℕ) → eqb (count r) (hold (pick t n 1)) ≡ true → pick t (count r) 1 ≡ count r
+    go : (t : Bool) (n : ℕ) → eqb (count r) (cap (pick t n 1)) ≡ true → pick t (count r) 1 ≡ count r
     go true n e = refl
     go false n e = sym (eqb-true (count r) 1 e)
 
@@ -188,7 +188,7 @@ record Walked (k d : ℕ) (r : Fields) (rs : List Fields) (u x y : ℕ) : Type 0
   first-deep : u + groupsDeep k (take x rs) ≤ d
   second-deep : u + groupsDeep k (take y (drop x rs)) ≤ d
   rest-deep : groupsDeep k (drop (x + y) rs) ≤ d
-  own-count : eqb (count r) (hold (stepsOf r (stepsIn k (take x rs)) (stepsIn k (take y (drop x rs))))) ≡ true
+  own-count : eqb (count r) (cap (stepsOf r (stepsIn k (take x rs)) (stepsIn k (take y (drop x rs))))) ≡ true
   first-counted : countsOk k (take x rs) ≡ true
   second-counted : countsOk k (take y (drop x rs)) ≡ true
   rest-counted : countsOk k (drop (x + y) rs) ≡ true
@@ -394,7 +394,7 @@ module _ (text : List ℕ) (k : ℕ) (ih : Agree text k) (n d : ℕ) (bs : List 
         head = deep-enough text d head (s .head) (omega arith);
         list = one;
         list′ = two;
-        count = count-said text bs below long listOne listTwo (eqb-true (count (fieldsAt bs)) _ (w .own-count) ∙ ap hold (node-steps fit one two));
+        count = count-said text bs below long listOne listTwo (eqb-true (count (fieldsAt bs)) _ (w .own-count) ∙ ap cap (node-steps fit one two));
         rest =
             ih (n - (said.first head + said.second head)) d (restBytes head bs) (omega arith) (rest-size n bs head size fit) rest-below .0
             (subst (ListOk text k d) (sym (rest-fields n bs head size fit))
@@ -440,7 +440,7 @@ module _ (text : List ℕ) (k : ℕ) (ih : Agree text k) (n d : ℕ) (bs : List 
         rest-deep = z .deep;
         own-count =
             eq-eqb (count (fieldsAt bs)) _
-            (count-written bs below long exact listOne listTwo (p .count) ∙ sym (ap hold (node-steps fit (p .list) (p .list′))));
+            (count-written bs below long exact listOne listTwo (p .count) ∙ sym (ap cap (node-steps fit (p .list) (p .list′))));
         first-counted = x .counted;
         second-counted = y .counted;
         rest-counted = z .counted;

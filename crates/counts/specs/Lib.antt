@@ -1,2 +1,2 @@
 -- What the contracts of this crate cite beside the rules of `notation`.
-pub mod Held
+pub mod Groups

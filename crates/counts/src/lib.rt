@@ -4,42 +4,42 @@ ghost use mathlib.Core.Path.{_≡_};
 ghost use Prim.Native.Nat.{_+_, _^_, _≤_, _<_};
 ghost use Rattle.notation.specs.Numbers.{fromBits};
 ghost use Rattle.notation.specs.Counts as rule;
-ghost use Rattle.counts.specs.Held.{inside as insideOf, groupCount};
+ghost use Rattle.counts.specs.Groups.{contents as contentsOf, groupCount};
 use numbers::signed::magnitude;
 use record::kinds;
 
-const HELD: u64 = 4294967296;
+const CAP: u64 = 4294967296;
 
 // Of one list after another.
 pub fn sum(a: u64, b: u64) -> u64
     requires { ⌜ a + b < 2 ^ 64 ⌝ }
-    ensures { λ r. ⌜ r ≡ rule.hold (a + b) ⌝ }
+    ensures { λ r. ⌜ r ≡ rule.cap (a + b) ⌝ }
 {
-    hold(a + b)
+    cap(a + b)
 }
 
 // Of a group by those of its lists; one that is no binary group has one list. A NISS group counts 0.
 pub fn of_group(kind: u8, multiplier: u32, a: u64, b: u64) -> u64
-    requires { ⌜ (a ≤ rule.HELD) × (b ≤ rule.HELD) ⌝ }
+    requires { ⌜ (a ≤ rule.CAP) × (b ≤ rule.CAP) ⌝ }
     ensures { λ r. ⌜ r ≡ groupCount kind (fromBits 32 multiplier) a b ⌝ }
 {
     if kind == kinds::NISS {
         return 0;
     }
-    hold(magnitude(multiplier) as u64 * inside(kind, a, b))
+    cap(magnitude(multiplier) as u64 * contents(kind, a, b))
 }
 
 // Of the contents once. Kinds follow each other in no order that the machine could guess, so they choose numbers and not ways.
-fn inside(kind: u8, a: u64, b: u64) -> u64
-    requires { ⌜ (a ≤ rule.HELD) × (b ≤ rule.HELD) ⌝ }
-    ensures { λ r. ⌜ r ≡ rule.hold (insideOf kind a b) ⌝ }
+fn contents(kind: u8, a: u64, b: u64) -> u64
+    requires { ⌜ (a ≤ rule.CAP) × (b ≤ rule.CAP) ⌝ }
+    ensures { λ r. ⌜ r ≡ rule.cap (contentsOf kind a b) ⌝ }
 {
-    hold(times_first(kind) * a + times_second(kind) * b)
+    cap(times_first(kind) * a + times_second(kind) * b)
 }
 
 // How often each list is played: A B A' B' in a commutator, A B A' in a conjugate.
 fn times_first(kind: u8) -> u64
-    ensures { λ r. ⌜ (r ≡ insideOf kind 1 0) × (r ≤ 2) ⌝ }
+    ensures { λ r. ⌜ (r ≡ contentsOf kind 1 0) × (r ≤ 2) ⌝ }
 {
     match kind {
         kinds::COMMUTATOR => 2,
@@ -49,7 +49,7 @@ fn times_first(kind: u8) -> u64
 }
 
 fn times_second(kind: u8) -> u64
-    ensures { λ r. ⌜ (r ≡ insideOf kind 0 1) × (r ≤ 2) ⌝ }
+    ensures { λ r. ⌜ (r ≡ contentsOf kind 0 1) × (r ≤ 2) ⌝ }
 {
     match kind {
         kinds::COMMUTATOR => 2,
@@ -59,8 +59,8 @@ fn times_second(kind: u8) -> u64
 }
 
 // Of any sum or product that has room.
-pub fn hold(n: u64) -> u64
-    ensures { λ r. ⌜ r ≡ rule.hold n ⌝ }
+pub fn cap(n: u64) -> u64
+    ensures { λ r. ⌜ r ≡ rule.cap n ⌝ }
 {
-    if n < HELD { n } else { HELD }
+    if n < CAP { n } else { CAP }
 }

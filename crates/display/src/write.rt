@@ -12,7 +12,7 @@ use numbers::signed::magnitude;
 // Places are held here, past the end of every slice, so that no sum wraps.
 const MOST: usize = 0x8000_0000_0000_0000;
 
-fn hold(n: usize) -> usize
+fn cap_position(n: usize) -> usize
     ensures { λ r. ⌜ r ≡ min n most ⌝ }
 {
     if n < MOST { n } else { MOST }
@@ -25,7 +25,7 @@ pub fn put_between(out: &mut [u8], at: usize, bytes: &[u8], from: usize, to: usi
     requires { ⌜ to ≤ length (now bytes) ⌝ }
     ensures { λ r. ⌜ Wrote (now (out .entry)) (now (out .exit)) at r (λ rest. take (to - from) (drop from (now (bytes .entry))) ++ rest) ⌝ }
 {
-    let end = hold(at + (to - from));
+    let end = cap_position(at + (to - from));
     if out.len() < end {
         return end;
     }
@@ -55,7 +55,7 @@ pub fn put(out: &mut [u8], at: usize, byte: u8) -> usize
         out[at] = byte;
         return at + 1;
     }
-    hold(at + 1)
+    cap_position(at + 1)
 }
 
 // A number in decimal. Most have one digit.

@@ -10,14 +10,14 @@ use Rattle.notation.specs.Packed.{unpack}
 use Rattle.notation.specs.Print.{printed}
 use Rattle.notation.specs.Entries.{Lent, display, displayEntry}
 use Rattle.display.specs.Written.{MOST}
-use Rattle.checked.specs.Sound.{Sound}
+use Rattle.checked.specs.Checked.{Accepted}
 use Rattle.checked.proofs.Outcomes.{Checks, refused, lend-handed, lend-short, lend-fits}
 
 module _ (text tree buffer : List ℕ) where
   pub display-unsound : {a : Outcome ℕ} {r : ℕ} → Checks text tree a → a ≡ refusal r → record { answer = a; buffer = buffer } ≡ displayEntry text tree buffer
   display-unsound c q = lend-handed (display text tree) buffer q (rw (refused c q))
 
-  module _ (sound : Sound text tree) (size : ℕ) (counts : size ≡ min (length (printed text (unpack tree))) MOST) where
+  module _ (sound : Accepted text tree) (size : ℕ) (counts : size ≡ min (length (printed text (unpack tree))) MOST) where
     given : display text tree ≡ result (printed text (unpack tree))
     given = rw (sound .is)
 

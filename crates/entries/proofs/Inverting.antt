@@ -24,7 +24,7 @@ use Rattle.laws.proofs.Packing.{length-pack}
 use Rattle.laws.proofs.WellFormedInverses.{inverted-size, deeply-size}
 use Rattle.laws.proofs.Walking.{Packed}
 use Rattle.invert.specs.Nodes.{over}
-use Rattle.checked.specs.Sound.{Sound}
+use Rattle.checked.specs.Checked.{Accepted}
 use Rattle.entries.specs.Inverses.{refusing, written, ruled}
 use Rattle.checked.proofs.Outcomes.{Checks, refused, lend-refused, lend-handed, lend-short, lend-fits}
 
@@ -118,24 +118,24 @@ module _ {text tree : List ℕ} {o : Outcome (List ℕ)} {refuses : Option ℕ} 
   pub inverse-unsound : {a : Outcome ℕ} {r : ℕ} → Checks text tree a → a ≡ refusal r → record { answer = a; buffer = buffer } ≡ lend o buffer
   inverse-unsound {a} {r} c q = lend-handed o buffer q (i .passes r (refused c q))
 
-  pub inverse-refused : Sound text tree → (r : ℕ) → r ≡ over refuses 0 → (r ≡ 0 → ⊥) → record { answer = refusal r; buffer = buffer } ≡ lend o buffer
+  pub inverse-refused : Accepted text tree → (r : ℕ) → r ≡ over refuses 0 → (r ≡ 0 → ⊥) → record { answer = refusal r; buffer = buffer } ≡ lend o buffer
   inverse-refused s r e h = lend-refused o buffer r (i .is (s .is) ∙ go refuses e)
     where
       go : (q : Option ℕ) → r ≡ over q 0 → verdict q bytes ≡ refusal r
       go none e = absurd (h e)
       go (some k) e = ap refusal (sym e)
 
-  given : Sound text tree → over refuses 0 ≡ 0 → o ≡ result bytes
+  given : Accepted text tree → over refuses 0 ≡ 0 → o ≡ result bytes
   given s e = i .is (s .is) ∙ go (i .numbered) e
     where
       go : {q : Option ℕ} → Numbered q → over q 0 ≡ 0 → verdict q bytes ≡ result bytes
       go is-none e = refl
       go is-some e = absurd (omega arith)
 
-  pub inverse-short : Sound text tree → over refuses 0 ≡ 0 → length buffer < length tree → record { answer = refusal NO-ROOM; buffer = buffer } ≡ lend o buffer
+  pub inverse-short : Accepted text tree → over refuses 0 ≡ 0 → length buffer < length tree → record { answer = refusal NO-ROOM; buffer = buffer } ≡ lend o buffer
   inverse-short s e h = lend-short o buffer bytes (given s e) (let l = i .long (s .packed) in omega arith)
 
-  pub inverse-written : Sound text tree → over refuses 0 ≡ 0 → length tree ≤ length buffer → (written : List ℕ) → written ≡ bytes →
+  pub inverse-written : Accepted text tree → over refuses 0 ≡ 0 → length tree ≤ length buffer → (written : List ℕ) → written ≡ bytes →
       record { answer = result (length tree); buffer = written ++ drop (length tree - 0) buffer } ≡ lend o buffer
   inverse-written s e h written w =
       let l = i .long (s .packed) in

@@ -20,7 +20,7 @@ use Rattle.notation.specs.Entries.{
 use Rattle.record.specs.Meaning.{field, layersAt}
 use Rattle.record.proofs.Packed.{by-kind}
 use Rattle.laws.proofs.Bools.{and-left, and-right}
-use Rattle.checked.specs.Sound.{Sound}
+use Rattle.checked.specs.Checked.{Accepted}
 use Rattle.checked.proofs.Outcomes.{Checks, refused}
 use Rattle.checked.proofs.Records.{HeadOk, prefix-ok, record-ok}
 
@@ -85,7 +85,7 @@ module _ (text tree : List ℕ) (k : ℕ) where
   unfolding familySpan
   family-unsound c q = rw (refused c q)
 
-  module _ (s : Sound text tree) where
+  module _ (s : Accepted text tree) where
     pub family-none : length tree / RECORD ≤ k → refusal NO-SUCH-RECORD ≡ familySpan text tree k
     unfolding familySpan
     family-none h = rw (s .is, le-ltb k (length tree / RECORD) h)
@@ -125,7 +125,7 @@ module _ (text tree : List ℕ) (k n : ℕ) (neg : Bool) (buffer : List ℕ) whe
   unfolding layerRanges
   simplify-unsound c q = rw (q, refused c q)
 
-  module _ (s : Sound text tree) where
+  module _ (s : Accepted text tree) where
     pub simplify-no-layers : n ≡ 0 → Refused NO-SUCH-LAYER-COUNT
     unfolding layerRanges
     simplify-no-layers z = rw (s .is, z)

@@ -12,7 +12,7 @@ use Rattle.notation.specs.Tree.{Leaf, Tree}
 use Rattle.notation.specs.Packed.{RECORD, leafHead, leafRecord, unpack}
 use Rattle.notation.specs.Invert.{undo}
 use Rattle.notation.specs.Unroll.{flatten}
-use Rattle.notation.specs.Counts.{hold, count}
+use Rattle.notation.specs.Counts.{cap, count}
 use Rattle.notation.specs.Entries.{Lent, lend, steps, records, unrolled, flattenEntry, countSteps, stepAt, seekStep, refusalNumber, value, MAX-STEPS}
 use Rattle.record.proofs.RoundTrip.{length-headRecord}
 use Rattle.laws.proofs.ListEntries.{get-past, get-within}
@@ -21,9 +21,9 @@ use Rattle.laws.proofs.Counting.{count-is}
 use Rattle.expand.specs.declared.visit.Refusals.{Refusals}
 use Rattle.expand.specs.Meaning.{told, refuses}
 use Rattle.expand.specs.Places.{stepIn, found}
-use Rattle.expand.specs.Steps.{Wrote}
+use Rattle.expand.specs.Steps.{WroteSteps}
 use Rattle.expand.proofs.Steps.{length-records}
-use Rattle.checked.specs.Sound.{Sound, Counted}
+use Rattle.checked.specs.Checked.{Accepted, Counted}
 use Rattle.laws.proofs.Bools.{no-refusal}
 use Rattle.checked.proofs.Outcomes.{Checks, refused, lend-refused, lend-handed, lend-short, lend-fits}
 
@@ -39,7 +39,7 @@ pub count-unsound : {text tree : List ℕ} {o : Outcome ℕ} {r : ℕ} → Check
 unfolding steps
 count-unsound {text} {tree} {o} {r} c q = refused-as text tree r q (rw (refused c q))
 
-module _ (text tree : List ℕ) (sound : Sound text tree) (s : Refusals) (e : refuses s ≡ (λ (d : Bool). firstRefusal d (unpack tree))) where
+module _ (text tree : List ℕ) (sound : Accepted text tree) (s : Refusals) (e : refuses s ≡ (λ (d : Bool). firstRefusal d (unpack tree))) where
   met : told (s .forward) ≡ firstRefusal false (unpack tree)
   met = ap (λ (f : Bool → Option ℕ). f false) e
 
@@ -57,7 +57,7 @@ module _ (text tree : List ℕ) (sound : Sound text tree) (s : Refusals) (e : re
   unfolding steps
   count-refused h = refused-as text tree (s .forward) refl (rw (sound .is, flatten-is (unpack tree) false, met-some h))
 
-  module _ (n : ℕ) (held : n ≡ hold (count (unpack tree))) (z : s .forward ≡ 0) where
+  module _ (n : ℕ) (capped : n ≡ cap (count (unpack tree))) (z : s .forward ≡ 0) where
     pub count-many : MAX-STEPS < n → Counts text tree (refusal TOO-MANY-STEPS)
     unfolding steps
     count-many h =
@@ -108,7 +108,7 @@ module _ (text tree : List ℕ) (n : ℕ) (c : Counted text tree n) (buffer : Li
   pub flatten-short : length buffer < RECORD * n → record { answer = refusal NO-ROOM; buffer = buffer } ≡ flattenEntry text tree buffer
   flatten-short h = lend-short (unrolled text tree) buffer (records (flat undo false (unpack tree))) all (omega (arith, long))
 
-  pub flatten-written : RECORD * n ≤ length buffer → (after : List ℕ) (r : ℕ) → Wrote buffer after (flat undo false (unpack tree)) r →
+  pub flatten-written : RECORD * n ≤ length buffer → (after : List ℕ) (r : ℕ) → WroteSteps buffer after (flat undo false (unpack tree)) r →
       record { answer = result (RECORD * n); buffer = after } ≡ flattenEntry text tree buffer
   flatten-written h after r w =
       let size : r ≡ RECORD * n = w .size ∙ sym (length-records (flat undo false (unpack tree))) ∙ long in

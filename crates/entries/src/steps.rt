@@ -3,7 +3,7 @@ ghost use mathlib.Core.Path.{_≡_};
 ghost use Prim.Native.Nat.{ℕ};
 ghost use Rattle.notation.specs.Refusals.{result};
 ghost use Rattle.notation.specs.Entries as rule;
-ghost use Rattle.checked.specs.Sound.{Counted};
+ghost use Rattle.checked.specs.Checked.{Counted};
 use expand::visit::visit;
 use notation::answer::Answer;
 use notation::limits::MAX_STEPS;

@@ -20,7 +20,7 @@ use Rattle.notation.specs.Counts.{countBinary}
 use Rattle.notation.specs.declared.common.BinaryGroupKind.the-variants.{Commutator}
 use Rattle.expand.specs.Meaning.{binaryKind}
 use Rattle.nodes.specs.Nodes.{part}
-use Rattle.expand.specs.Steps.{held, Holds, Wrote, completed, repeats, Pair, Room}
+use Rattle.expand.specs.Steps.{asSteps, AreSteps, WroteSteps, completed, repeats, BothLists, Room}
 use Rattle.expand.proofs.Parts.{Three, the-part, put-part}
 use Rattle.expand.proofs.Steps.{length-records, records-append, records-copies}
 
@@ -30,15 +30,15 @@ Repeated s size total s₁ = (n : ℕ) → total ≤ n * size → s₁ ≡ take 
 
 -- what `turn` leaves of x
 abbrev Backward : List ℕ → List ℕ
-Backward x = records (backwards (held x))
+Backward x = records (backwards (asSteps x))
 
-held-long : {x : List ℕ} → Holds x → RECORD * length (held x) ≡ length x
-held-long {x} h = sym (length-records (held x)) ∙ ap length (h .bytes)
+asSteps-long : {x : List ℕ} → AreSteps x → RECORD * length (asSteps x) ≡ length x
+asSteps-long {x} h = sym (length-records (asSteps x)) ∙ ap length (h .bytes)
 
-backward-long : {x : List ℕ} → Holds x → length (Backward x) ≡ length x
-backward-long {x} h = length-records (backwards (held x)) ∙ ap (λ (n : ℕ). RECORD * n) (long-backwards (held x)) ∙ held-long h
+backward-long : {x : List ℕ} → AreSteps x → length (Backward x) ≡ length x
+backward-long {x} h = length-records (backwards (asSteps x)) ∙ ap (λ (n : ℕ). RECORD * n) (long-backwards (asSteps x)) ∙ asSteps-long h
 
-module _ {s : List ℕ} {k : Bool} {a b : ℕ} (p : Pair s k a b) where
+module _ {s : List ℕ} {k : Bool} {a b : ℕ} (p : BothLists s k a b) where
   -- the bytes of both lists
   abbrev x : List ℕ
   x = take a s
@@ -93,8 +93,8 @@ module _ {s : List ℕ} {k : Bool} {a b : ℕ} (p : Pair s k a b) where
         end = ap (λ (n : ℕ). a + b + n) long-x;
       }
 
-  pub first-held : {s₁ q : List ℕ} → Three s₁ (x ++ y) x q (a + b) (a + b + a) → Holds (part (a + b) (a + b + a) s₁)
-  first-held t = subst Holds (sym (the-part t)) (p .first)
+  pub first-asSteps : {s₁ q : List ℕ} → Three s₁ (x ++ y) x q (a + b) (a + b + a) → AreSteps (part (a + b) (a + b + a) s₁)
+  first-asSteps t = subst AreSteps (sym (the-part t)) (p .first)
 
   -- of a commutator, once A is turned, B is next
   pub second-of : {s₁ z : List ℕ} → Three s₁ (x ++ y) x (y ++ drop (a + b + (a + b)) s) (a + b) (a + b + a) → z ≡ Backward (part (a + b) (a + b + a) s₁) →
@@ -107,30 +107,30 @@ module _ {s : List ℕ} {k : Bool} {a b : ℕ} (p : Pair s k a b) where
         end = omega (arith, long-y);
       }
 
-  pub second-held : {s₂ f q : List ℕ} → Three s₂ f y q (a + b + a) (a + b + (a + b)) → Holds (part (a + b + a) (a + b + (a + b)) s₂)
-  second-held t = subst Holds (sym (the-part t)) (p .second)
+  pub second-asSteps : {s₂ f q : List ℕ} → Three s₂ f y q (a + b + a) (a + b + (a + b)) → AreSteps (part (a + b + a) (a + b + (a + b)) s₂)
+  second-asSteps t = subst AreSteps (sym (the-part t)) (p .second)
 
-  sizes : (RECORD * length (held x) ≡ a) × (RECORD * length (held y) ≡ b)
-  sizes = (held-long (p .first) ∙ long-x, held-long (p .second) ∙ long-y)
+  sizes : (RECORD * length (asSteps x) ≡ a) × (RECORD * length (asSteps y) ≡ b)
+  sizes = (asSteps-long (p .first) ∙ long-x, asSteps-long (p .second) ∙ long-y)
 
   pub commutator-written : k ≡ true → {s₂ z : List ℕ} → Three s₂ ((x ++ y) ++ Backward x) y (drop (a + b + (a + b)) s) (a + b + a) (a + b + (a + b)) →
       z ≡ Backward (part (a + b + a) (a + b + (a + b)) s₂) →
-      Wrote s (putMid (a + b + a) (a + b + (a + b) - (a + b + a)) s₂ z) (completed k (held x) (held y)) (a + b + (a + b))
+      WroteSteps s (putMid (a + b + a) (a + b + (a + b) - (a + b + a)) s₂ z) (completed k (asSteps x) (asSteps y)) (a + b + (a + b))
   commutator-written h {s₂} {z} t e =
       rw h (record {
-        size = let u = length-append (held x) (held y ++ (backwards (held x) ++ backwards (held y))) in let u′ = length-append (held y) (backwards (held x) ++ backwards (held y)) in
-            omega (arith, length-append (backwards (held x)) (backwards (held y)), long-backwards (held x), long-backwards (held y), sizes);
+        size = let u = length-append (asSteps x) (asSteps y ++ (backwards (asSteps x) ++ backwards (asSteps y))) in let u′ = length-append (asSteps y) (backwards (asSteps x) ++ backwards (asSteps y)) in
+            omega (arith, length-append (backwards (asSteps x)) (backwards (asSteps y)), long-backwards (asSteps x), long-backwards (asSteps y), sizes);
         bytes = put-part t z ∙ ap (λ (u : List ℕ). ((x ++ y) ++ Backward x) ++ (u ++ drop (a + b + (a + b)) s)) (e ∙ ap Backward (the-part t))
             ∙ ap₂ (λ (u v : List ℕ). ((u ++ v) ++ Backward x) ++ (Backward y ++ drop (a + b + (a + b)) s)) (sym (p .first .bytes)) (sym (p .second .bytes))
             ∙ simp (records-append, append-assoc);
       })
 
   pub conjugate-written : k ≡ false → {s₁ z : List ℕ} → Three s₁ (x ++ y) x (drop (a + b + a) s) (a + b) (a + b + a) → z ≡ Backward (part (a + b) (a + b + a) s₁) →
-      Wrote s (putMid (a + b) (a + b + a - (a + b)) s₁ z) (completed k (held x) (held y)) (a + b + a)
+      WroteSteps s (putMid (a + b) (a + b + a - (a + b)) s₁ z) (completed k (asSteps x) (asSteps y)) (a + b + a)
   conjugate-written h {s₁} {z} t e =
       rw h (record {
-        size = let u = length-append (held x) (held y ++ backwards (held x)) in
-            omega (arith, length-append (held y) (backwards (held x)), long-backwards (held x), sizes);
+        size = let u = length-append (asSteps x) (asSteps y ++ backwards (asSteps x)) in
+            omega (arith, length-append (asSteps y) (backwards (asSteps x)), long-backwards (asSteps x), sizes);
         bytes = put-part t z ∙ ap (λ (u : List ℕ). (x ++ y) ++ (u ++ drop (a + b + a) s)) (e ∙ ap Backward (the-part t))
             ∙ ap₂ (λ (u v : List ℕ). (u ++ v) ++ (Backward x ++ drop (a + b + a) s)) (sym (p .first .bytes)) (sym (p .second .bytes))
             ∙ simp (records-append, append-assoc);
@@ -148,22 +148,22 @@ module _ {s : List ℕ} {size n : ℕ} (r : Room s size n) where
   long-front : length (take size s) ≡ size
   long-front = length-take-le size s (omega (arith, one-repeat, r .room))
 
-  contents-long : RECORD * length (held (take size s)) ≡ size
-  contents-long = held-long (r .contents) ∙ long-front
+  contents-long : RECORD * length (asSteps (take size s)) ≡ size
+  contents-long = asSteps-long (r .contents) ∙ long-front
 
-  total-is : size * n ≡ RECORD * (n * length (held (take size s)))
+  total-is : size * n ≡ RECORD * (n * length (asSteps (take size s)))
   total-is =
-      ap (λ (z : ℕ). z * n) (sym contents-long) ∙ mul-assoc RECORD (length (held (take size s))) n
-      ∙ ap (λ (z : ℕ). RECORD * z) (mul-comm (length (held (take size s))) n)
+      ap (λ (z : ℕ). z * n) (sym contents-long) ∙ mul-assoc RECORD (length (asSteps (take size s))) n
+      ∙ ap (λ (z : ℕ). RECORD * z) (mul-comm (length (asSteps (take size s))) n)
 
   contents : Three s [] (take size s) (drop size s) 0 size
   contents = record { bytes = sym (take-append-drop size s); start = refl; end = omega (arith, long-front) }
 
-  pub contents-held : Holds (part 0 size s)
-  contents-held = subst Holds (sym (the-part contents)) (r .contents)
+  pub contents-asSteps : AreSteps (part 0 size s)
+  contents-asSteps = subst AreSteps (sym (the-part contents)) (r .contents)
 
-  block-written : (l : List Leaf) (s₁ : List ℕ) {s₂ : List ℕ} → length l ≡ length (held (take size s)) → s₁ ≡ records l ++ drop size s → Repeated s₁ size (size * n) s₂ →
-      Wrote s s₂ (copies n l) (size * n)
+  block-written : (l : List Leaf) (s₁ : List ℕ) {s₂ : List ℕ} → length l ≡ length (asSteps (take size s)) → s₁ ≡ records l ++ drop size s → Repeated s₁ size (size * n) s₂ →
+      WroteSteps s s₂ (copies n l) (size * n)
   block-written l s₁ {s₂} h e c =
       record {
         size = whole;
@@ -196,14 +196,14 @@ keeps (negsuc n) g = absurd (let y : _≡_ {A = ℕ} 0 1 = cc in omega arith)
 
 module _ (m : ℤ) {s : List ℕ} {size times : ℕ} (e : times ≡ natAbs m) (r : Room s size (natAbs m)) where
   pub turned-written : isNegative m ≡ true → {s₁ y s₂ : List ℕ} → y ≡ Backward (part 0 size s) → s₁ ≡ putMid 0 (size - 0) s y → Repeated s₁ size (size * times) s₂ →
-      Wrote s s₂ (repeats m (held (take size s))) (size * times)
+      WroteSteps s s₂ (repeats m (asSteps (take size s))) (size * times)
   turned-written g {s₁} {y} {s₂} h p c =
       rw (turns m g, e)
-      (block-written r (backwards (held (take size s))) s₁ (long-backwards (held (take size s)))
+      (block-written r (backwards (asSteps (take size s))) s₁ (long-backwards (asSteps (take size s)))
       (p ∙ put-part (contents r) y ∙ ap (λ (z : List ℕ). z ++ drop size s) (h ∙ ap Backward (the-part (contents r))))
       (rw e at c))
 
-  pub kept-written : isNegative m ≡ false → {s₂ : List ℕ} → Repeated s size (size * times) s₂ → Wrote s s₂ (repeats m (held (take size s))) (size * times)
+  pub kept-written : isNegative m ≡ false → {s₂ : List ℕ} → Repeated s size (size * times) s₂ → WroteSteps s s₂ (repeats m (asSteps (take size s))) (size * times)
   kept-written g c =
       rw (keeps m g, e)
-      (block-written r (held (take size s)) s refl (contents r .bytes ∙ ap (λ (z : List ℕ). z ++ drop size s) (sym (r .contents .bytes))) (rw e at c))
+      (block-written r (asSteps (take size s)) s refl (contents r .bytes ∙ ap (λ (z : List ℕ). z ++ drop size s) (sym (r .contents .bytes))) (rw e at c))

@@ -25,20 +25,20 @@ use Rattle.laws.proofs.Unrolling.{flatBinary, flatNode, flatBody, flat, flatBod
 use Rattle.laws.proofs.Counting.{countNode-is, countBody-is, count-is, stored-none}
 use Rattle.expand.specs.Meaning.{binaryKind}
 use Rattle.nodes.specs.Nodes.{IsNode, part, FirstNode, firstList, secondList, Lists}
-use Rattle.expand.specs.Steps.{Undoable, All, held, Wrote, IsGroup, either, completed, repeats, Pair, Room}
+use Rattle.expand.specs.Steps.{Undoable, All, asSteps, WroteSteps, IsGroup, either, completed, repeats, BothLists, Room}
 use Rattle.nodes.proofs.Nodes.{part-rest, part-length, FirstLeaf, leaf-node}
 use Rattle.expand.proofs.Shapes.{Shape, shape-of, bodyOf, at-least, both-within, block-is, group-body, binary-body, times-are, steps-are, repeats-some, first-stored, one-count, one-flat}
 use Rattle.expand.proofs.Steps.{length-records, records-append, all-flat, all-flatBody}
-use Rattle.expand.proofs.Held.{holds, same-repeats, same-completed}
+use Rattle.expand.proofs.AsSteps.{holds, same-repeats, same-completed}
 
 -- Writing after writing: over what was written, or behind it.
-written-front : {s s₁ : List ℕ} {l : List Leaf} {a : ℕ} → Wrote s s₁ l a → take a s₁ ≡ records l
+written-front : {s s₁ : List ℕ} {l : List Leaf} {a : ℕ} → WroteSteps s s₁ l a → take a s₁ ≡ records l
 written-front {s} {s₁} {l} {a} w = ap (take a) (w .bytes) ∙ take-at (records l) (drop a s) a (length-records l ∙ sym (w .size))
 
-written-rest : {s s₁ : List ℕ} {l : List Leaf} {a : ℕ} → Wrote s s₁ l a → drop a s₁ ≡ drop a s
+written-rest : {s s₁ : List ℕ} {l : List Leaf} {a : ℕ} → WroteSteps s s₁ l a → drop a s₁ ≡ drop a s
 written-rest {s} {s₁} {l} {a} w = ap (drop a) (w .bytes) ∙ drop-at (records l) (drop a s) a (length-records l ∙ sym (w .size))
 
-over : {s s₁ s₂ : List ℕ} {l l′ : List Leaf} {a r : ℕ} → Wrote s s₁ l a → Wrote s₁ s₂ l′ r → a ≤ r → Wrote s s₂ l′ r
+over : {s s₁ s₂ : List ℕ} {l l′ : List Leaf} {a r : ℕ} → WroteSteps s s₁ l a → WroteSteps s₁ s₂ l′ r → a ≤ r → WroteSteps s s₂ l′ r
 over {s} {s₁} {s₂} {l} {l′} {a} {r} w w′ h =
     let e : a + (r - a) ≡ r = omega arith in
     record {
@@ -47,18 +47,18 @@ over {s} {s₁} {s₂} {l} {l′} {a} {r} w w′ h =
           (ap (λ (j : ℕ). drop j s₁) (sym e) ∙ sym (drop-drop (r - a) a s₁) ∙ ap (drop (r - a)) (written-rest w) ∙ drop-drop (r - a) a s ∙ ap (λ (j : ℕ). drop j s) e);
     }
 
-pub wrote-fits : {s s₁ : List ℕ} {l : List Leaf} {a : ℕ} → Wrote s s₁ l a → a ≤ length s₁
+pub wrote-fits : {s s₁ : List ℕ} {l : List Leaf} {a : ℕ} → WroteSteps s s₁ l a → a ≤ length s₁
 wrote-fits {s} {s₁} {l} {a} w = omega (arith, ap length (w .bytes), length-append (records l) (drop a s), length-records l, w .size)
 
-wrote-longer : {s s₁ : List ℕ} {l : List Leaf} {a : ℕ} → Wrote s s₁ l a → length s ≤ length s₁
+wrote-longer : {s s₁ : List ℕ} {l : List Leaf} {a : ℕ} → WroteSteps s s₁ l a → length s ≤ length s₁
 wrote-longer {s} {s₁} {l} {a} w = omega (arith, ap length (w .bytes), length-append (records l) (drop a s), length-drop a s, length-records l, w .size)
 
-wrote-same : {s s₁ : List ℕ} {l l′ : List Leaf} {a : ℕ} → records l ≡ records l′ → Wrote s s₁ l a → Wrote s s₁ l′ a
+wrote-same : {s s₁ : List ℕ} {l l′ : List Leaf} {a : ℕ} → records l ≡ records l′ → WroteSteps s s₁ l a → WroteSteps s s₁ l′ a
 wrote-same {s} {s₁} {l} {l′} {a} e w =
     record { size = omega (arith, w .size, ap length e, length-records l, length-records l′); bytes = w .bytes ∙ ap (λ (x : List ℕ). x ++ drop a s) e }
 
-behind : {s s₁ y : List ℕ} {l m : List Leaf} {a b : ℕ} → a ≤ length s₁ → Wrote s s₁ l a → Wrote (part a (length s₁) s₁) y m b →
-    Wrote s (putMid a (length s₁ - a) s₁ y) (l ++ m) (a + b)
+behind : {s s₁ y : List ℕ} {l m : List Leaf} {a b : ℕ} → a ≤ length s₁ → WroteSteps s s₁ l a → WroteSteps (part a (length s₁) s₁) y m b →
+    WroteSteps s (putMid a (length s₁ - a) s₁ y) (l ++ m) (a + b)
 behind {s} {s₁} {y} {l} {m} {a} {b} h w w′ =
     record {
       size = omega (arith, w .size, w′ .size, length-append l m);
@@ -87,16 +87,16 @@ pub leaf-room : {bs : List ℕ} {out : ℕ} (l : FirstLeaf bs) → RECORD * coun
 unfolding countNode
 leaf-room l r = omega (arith, ap countNode (l .isStep))
 
-pub leaf-written : {bs out out′ : List ℕ} (l : FirstLeaf bs) → out′ ≡ part 0 RECORD bs ++ drop RECORD out → Wrote out out′ (flatNode undo false (l .first .node)) RECORD
+pub leaf-written : {bs out out′ : List ℕ} (l : FirstLeaf bs) → out′ ≡ part 0 RECORD bs ++ drop RECORD out → WroteSteps out out′ (flatNode undo false (l .first .node)) RECORD
 unfolding flatNode packNode records
 leaf-written {bs} {out} {out′} l q =
-    subst (λ (n : Node Leaf). Wrote out out′ (flatNode undo false n) RECORD) (sym (l .isStep)) (record {
+    subst (λ (n : Node Leaf). WroteSteps out out′ (flatNode undo false n) RECORD) (sym (l .isStep)) (record {
       size = refl;
       bytes = q ∙ ap (λ (a : List ℕ). a ++ drop RECORD out) (sym (leaf-node l .bytes) ∙ sym (append-nil (leafRecord (l .step))));
     })
 
-pub node-written : {bs s s₁ : List ℕ} {n : Node Leaf} {r : ℕ} → IsNode bs n → Wrote s s₁ (flat undo false (unpack bs)) r → Wrote s s₁ (flatNode undo false n) r
-node-written {bs} {s} {s₁} {n} {r} i w = subst (λ (l : List Leaf). Wrote s s₁ l r) (one-flat i) w
+pub node-written : {bs s s₁ : List ℕ} {n : Node Leaf} {r : ℕ} → IsNode bs n → WroteSteps s s₁ (flat undo false (unpack bs)) r → WroteSteps s s₁ (flatNode undo false n) r
+node-written {bs} {s} {s₁} {n} {r} i w = subst (λ (l : List Leaf). WroteSteps s s₁ l r) (one-flat i) w
 
 -- A group that has steps: it is repeated at least once.
 module _ {bs : List ℕ} (g : IsGroup bs) (some : 0 < count (unpack bs)) {k m : ℕ} (e : k ≡ field 0 bs / 16) (f : m ≡ field 3 bs) where
@@ -142,7 +142,7 @@ module _ {bs : List ℕ} (g : IsGroup bs) (some : 0 < count (unpack bs)) {k m : 
   body-room r = omega (arith, block-count, at-least (natAbs (fromBits 32 m)) (countBody (bodyOf (g .node))) repeated)
 
   -- its contents, written once, and their repeats
-  module _ {out s₁ : List ℕ} {l : List Leaf} {a : ℕ} (w : Wrote out s₁ l a) (q : l ≡ flatBody undo false (bodyOf (g .node))) (r : RECORD * count (unpack bs) ≤ length out) where
+  module _ {out s₁ : List ℕ} {l : List Leaf} {a : ℕ} (w : WroteSteps out s₁ l a) (q : l ≡ flatBody undo false (bodyOf (g .node))) (r : RECORD * count (unpack bs) ≤ length out) where
     l-undoable : All Undoable l
     l-undoable = subst (All Undoable) (sym q) body-undoable
 
@@ -161,10 +161,10 @@ module _ {bs : List ℕ} (g : IsGroup bs) (some : 0 < count (unpack bs)) {k m : 
         total = ap (λ (j : ℕ). j * natAbs (fromBits 32 m)) (w .size ∙ ap (λ (j : ℕ). RECORD * j) l-count) ∙ mul-assoc RECORD (countBody (bodyOf (g .node))) (natAbs (fromBits 32 m))
             ∙ ap (λ (j : ℕ). RECORD * j) (mul-comm (countBody (bodyOf (g .node))) (natAbs (fromBits 32 m)))
 
-    block-done : {s₂ : List ℕ} {r₂ : ℕ} → Wrote s₁ s₂ (repeats (fromBits 32 m) (held (take a s₁))) r₂ → Wrote out s₂ (flat undo false (unpack bs)) r₂
+    block-done : {s₂ : List ℕ} {r₂ : ℕ} → WroteSteps s₁ s₂ (repeats (fromBits 32 m) (asSteps (take a s₁))) r₂ → WroteSteps out s₂ (flat undo false (unpack bs)) r₂
     block-done {s₂} {r₂} w′ =
         let c = ap (copies (natAbs (fromBits 32 m))) (ap (λ (x : List Leaf). either x (turned (fromBits 32 m) false)) q ∙ either-body (bodyOf (g .node)) (turned (fromBits 32 m) false)) ∙ sym block-flat in
-        let w″ = subst (λ (x : List Leaf). Wrote s₁ s₂ x r₂) c (wrote-same (same-repeats (written-front w) l-undoable (fromBits 32 m)) w′) in
+        let w″ = subst (λ (x : List Leaf). WroteSteps s₁ s₂ x r₂) c (wrote-same (same-repeats (written-front w) l-undoable (fromBits 32 m)) w′) in
         over w w″ (omega (arith, w .size, w″ .size, l-count, count-is (unpack bs) false, block-count, at-least (natAbs (fromBits 32 m)) (countBody (bodyOf (g .node))) repeated))
 
   -- given where its lists lie
@@ -187,7 +187,7 @@ module _ {bs : List ℕ} (g : IsGroup bs) (some : 0 < count (unpack bs)) {k m : 
     pub first-room : {out : ℕ} → RECORD * count (unpack bs) ≤ out → RECORD * count t ≤ out
     first-room r = omega (arith, body-room r, counts)
 
-    module _ {out s₁ : List ℕ} {a : ℕ} (w : Wrote out s₁ (flat undo false t) a) (r : RECORD * count (unpack bs) ≤ length out) where
+    module _ {out s₁ : List ℕ} {a : ℕ} (w : WroteSteps out s₁ (flat undo false t) a) (r : RECORD * count (unpack bs) ≤ length out) where
       -- a plain group
       module _ (l : k < 4) where
         group-flat : flat undo false t ≡ flatBody undo false (bodyOf (g .node))
@@ -197,18 +197,18 @@ module _ {bs : List ℕ} (g : IsGroup bs) (some : 0 < count (unpack bs)) {k m : 
         pub group-room : Room s₁ a (natAbs (fromBits 32 m))
         group-room = block-room w group-flat r
 
-        pub group-written : {s₂ : List ℕ} {r₂ : ℕ} → Wrote s₁ s₂ (repeats (fromBits 32 m) (held (take a s₁))) r₂ → Wrote out s₂ (flat undo false (unpack bs)) r₂
+        pub group-written : {s₂ : List ℕ} {r₂ : ℕ} → WroteSteps s₁ s₂ (repeats (fromBits 32 m) (asSteps (take a s₁))) r₂ → WroteSteps out s₂ (flat undo false (unpack bs)) r₂
         group-written w′ = block-done w group-flat r w′
 
       -- a commutator or a conjugate
       pub second-room : RECORD * count t′ ≤ length (part a (length s₁) s₁)
       second-room = omega (arith, body-room r, counts, w .size, count-is t false, wrote-longer w, ap length (part-rest a s₁), length-drop a s₁)
 
-      module _ (l : 4 ≤ k) {y : List ℕ} {b : ℕ} (w′ : Wrote (part a (length s₁) s₁) y (flat undo false t′) b) where
+      module _ (l : 4 ≤ k) {y : List ℕ} {b : ℕ} (w′ : WroteSteps (part a (length s₁) s₁) y (flat undo false t′) b) where
         abbrev s₂ : List ℕ
         s₂ = putMid a (length s₁ - a) s₁ y
 
-        both-wrote : Wrote out s₂ (flat undo false t ++ flat undo false t′) (a + b)
+        both-wrote : WroteSteps out s₂ (flat undo false t ++ flat undo false t′) (a + b)
         both-wrote = behind (wrote-fits w) w w′
 
         binary-count : countBody (bodyOf (g .node)) ≡ countBinary (binaryKind (eqb k 4)) (count t) (count t′)
@@ -241,7 +241,7 @@ module _ {bs : List ℕ} (g : IsGroup bs) (some : 0 < count (unpack bs)) {k m : 
         second-undoable : All Undoable (flat undo false t′)
         second-undoable = all-flat t′ false (p .packedSecond .fits)
 
-        pub binary-pair : Pair s₂ (eqb k 4) a b
+        pub binary-pair : BothLists s₂ (eqb k 4) a b
         binary-pair =
             record {
               first = holds first-bytes first-undoable;
@@ -253,16 +253,16 @@ module _ {bs : List ℕ} (g : IsGroup bs) (some : 0 < count (unpack bs)) {k m : 
             in-bytes true = omega (arith, w .size, w′ .size, count-is t false, count-is t′ false)
             in-bytes false = omega (arith, w .size, w′ .size, count-is t false, count-is t′ false)
 
-        module _ {s₃ : List ℕ} {size : ℕ} (c : Wrote s₂ s₃ (completed (eqb k 4) (held (take a s₂)) (held (take b (drop a s₂)))) size) where
-          body-wrote : Wrote out s₃ (flatBody undo false (bodyOf (g .node))) size
+        module _ {s₃ : List ℕ} {size : ℕ} (c : WroteSteps s₂ s₃ (completed (eqb k 4) (asSteps (take a s₂)) (asSteps (take b (drop a s₂)))) size) where
+          body-wrote : WroteSteps out s₃ (flatBody undo false (bodyOf (g .node))) size
           body-wrote =
-              let d = subst (λ (x : List Leaf). Wrote s₂ s₃ x size) binary-flat (wrote-same (same-completed (eqb k 4) first-bytes first-undoable second-bytes second-undoable) c) in
+              let d = subst (λ (x : List Leaf). WroteSteps s₂ s₃ x size) binary-flat (wrote-same (same-completed (eqb k 4) first-bytes first-undoable second-bytes second-undoable) c) in
               over both-wrote d (omega (arith, w .size, w′ .size, d .size, count-is t false, count-is t′ false, countBody-is (bodyOf (g .node)) false, counts))
 
           pub binary-room : Room s₃ size (natAbs (fromBits 32 m))
           binary-room = block-room body-wrote refl r
 
-          pub binary-written : {s₄ : List ℕ} {r₄ : ℕ} → Wrote s₃ s₄ (repeats (fromBits 32 m) (held (take size s₃))) r₄ → Wrote out s₄ (flat undo false (unpack bs)) r₄
+          pub binary-written : {s₄ : List ℕ} {r₄ : ℕ} → WroteSteps s₃ s₄ (repeats (fromBits 32 m) (asSteps (take size s₃))) r₄ → WroteSteps out s₄ (flat undo false (unpack bs)) r₄
           binary-written c′ = block-done body-wrote refl r c′
 
 none-or-some : (n : ℕ) → ((n ≡ 0) → ⊥) → 0 < n
@@ -275,7 +275,7 @@ pub record Flattening (tree before t out : List ℕ) (at : ℕ) : Type 0 where
   pub shorter : length t ≤ length tree
   pub long : length out ≡ length before
   pub done : List Leaf
-  pub wrote : Wrote before out done at
+  pub wrote : WroteSteps before out done at
   pub rest : flat undo false (unpack tree) ≡ done ++ flat undo false (unpack t)
   pub room : at + RECORD * count (unpack t) ≤ length out
 
@@ -295,10 +295,10 @@ module _ {tree before t out : List ℕ} {at e : ℕ} (w : Flattening tree before
   pub node-fits : RECORD * count (unpack (part 0 e t)) ≤ length (part at (length out) out)
   node-fits = omega (arith, leaf-fits, one-count (f .isNode))
 
-  pub next-fits : {y : List ℕ} {r : ℕ} → Wrote (part at (length out) out) y (flatNode undo false (f .node)) r → at + r ≤ length out
+  pub next-fits : {y : List ℕ} {r : ℕ} → WroteSteps (part at (length out) out) y (flatNode undo false (f .node)) r → at + r ≤ length out
   next-fits v = omega (arith, w .room, counted, v .size, countNode-is (f .node) false)
 
-  pub flattening-goes-on : {y : List ℕ} {r : ℕ} → Wrote (part at (length out) out) y (flatNode undo false (f .node)) r → length y ≡ length (midOf at (length out - at) out) →
+  pub flattening-goes-on : {y : List ℕ} {r : ℕ} → WroteSteps (part at (length out) out) y (flatNode undo false (f .node)) r → length y ≡ length (midOf at (length out - at) out) →
       Flattening tree before (part e (length t) t) (putMid at (length out - at) out y) (at + r)
   unfolding flat
   flattening-goes-on {y} {r} v h =
@@ -337,8 +337,8 @@ module _ {tree before t out : List ℕ} {at e : ℕ} (w : Flattening tree before
 pub flattening-carried : {tree before t out out′ : List ℕ} {at at′ : ℕ} → out′ ≡ out → at′ ≡ at → Flattening tree before t out at → Flattening tree before t out′ at′
 flattening-carried e q w = rw (e, q) w
 
-pub flattened : {tree before t out : List ℕ} {at : ℕ} → Flattening tree before t out at → length t ≤ 0 → Wrote before out (flat undo false (unpack tree)) at
+pub flattened : {tree before t out : List ℕ} {at : ℕ} → Flattening tree before t out at → length t ≤ 0 → WroteSteps before out (flat undo false (unpack tree)) at
 unfolding flat
 flattened {tree} {before} {t} {out} {at} w h =
     let e : flat undo false (unpack tree) ≡ w .done = w .rest ∙ ap (λ (x : Tree). w .done ++ flat undo false x) (no-node t (w .packed) (omega arith)) ∙ append-nil (w .done) in
-    subst (λ (x : List Leaf). Wrote before out x at) (sym e) (w .wrote)
+    subst (λ (x : List Leaf). WroteSteps before out x at) (sym e) (w .wrote)

@@ -4,7 +4,7 @@ pub mod Visiting
 pub mod Counting
 pub mod Steps
 pub mod Undoing
-pub mod Held
+pub mod AsSteps
 pub mod Parts
 pub mod Repeating
 pub mod Turning

@@ -16,10 +16,10 @@ use Rattle.record.proofs.RoundTrip.{length-headRecord}
 use Rattle.record.proofs.Undoing.{Undone, head-with, starts-with, undone-with}
 use Rattle.laws.proofs.Unrolling.{backwards, backwards-append, long-backwards}
 use Rattle.nodes.specs.Nodes.{part}
-use Rattle.expand.specs.Steps.{All, held, Holds, lastOf, undoneRecord}
+use Rattle.expand.specs.Steps.{All, asSteps, AreSteps, lastOf, undoneRecord}
 use Rattle.expand.proofs.Parts.{Three, from-part, the-part, put-part}
 use Rattle.expand.proofs.Steps.{length-records, records-append, all-head, all-tail, all-left, all-right}
-use Rattle.expand.proofs.Held.{records-backwards}
+use Rattle.expand.proofs.AsSteps.{records-backwards}
 
 -- Bytes with a record at either end.
 record Ends (s x m y : List ℕ) : Type 0 where
@@ -176,7 +176,7 @@ pub record Turning (entry steps : List ℕ) (from to : ℕ) : Type 0 where
   front : List Leaf
   todo : List Leaf
   back : List Leaf
-  splits : held entry ≡ front ++ (todo ++ back)
+  splits : asSteps entry ≡ front ++ (todo ++ back)
   at : from ≡ RECORD * length back
   up : to ≡ from + RECORD * length todo
   bytes : steps ≡ records (backwards back) ++ (records todo ++ records (backwards front))
@@ -184,17 +184,17 @@ pub record Turning (entry steps : List ℕ) (from to : ℕ) : Type 0 where
   pub order : from ≤ to
   pub within : to ≤ length steps
 
-pub turning-starts : (entry : List ℕ) → Holds entry → Turning entry entry 0 (length entry)
+pub turning-starts : (entry : List ℕ) → AreSteps entry → Turning entry entry 0 (length entry)
 unfolding records
 turning-starts entry h =
     record {
       front = [];
-      todo = held entry;
+      todo = asSteps entry;
       back = [];
-      splits = sym (append-nil (held entry));
+      splits = sym (append-nil (asSteps entry));
       at = refl;
-      up = omega (arith, ap length (h .bytes), length-records (held entry));
-      bytes = sym (h .bytes) ∙ sym (append-nil (records (held entry)));
+      up = omega (arith, ap length (h .bytes), length-records (asSteps entry));
+      bytes = sym (h .bytes) ∙ sym (append-nil (records (asSteps entry)));
       long = refl;
       order = omega arith;
       within = omega arith;
@@ -204,7 +204,7 @@ backwards-records : (l : List Leaf) (x : Leaf) → records (backwards (l ++ (x �
 unfolding records
 backwards-records l x = ap records (backwards-append l (x ∷ []))
 
-module _ {entry steps : List ℕ} {from to : ℕ} (h : Holds entry) (t : Turning entry steps from to) where
+module _ {entry steps : List ℕ} {from to : ℕ} (h : AreSteps entry) (t : Turning entry steps from to) where
   three : Three steps (records (backwards (t .back))) (records (t .todo)) (records (backwards (t .front))) from to
   three =
       record {
@@ -265,7 +265,7 @@ module _ {entry steps : List ℕ} {from to : ℕ} (h : Holds entry) (t : Turning
               ≡ records (backwards (two .last ∷ t .back)) ++ (records (two .middle) ++ records (backwards (t .front ++ (two .first ∷ []))))
           outer = rw (records-backwards (two .last) (t .back), backwards-records (t .front) (two .first)) (simp (append-assoc, append-nil))
 
-  whole : (l : List Leaf) → t .todo ≡ l → records (backwards (t .back)) ++ (records (backwards l) ++ records (backwards (t .front))) ≡ records (backwards (held entry))
+  whole : (l : List Leaf) → t .todo ≡ l → records (backwards (t .back)) ++ (records (backwards l) ++ records (backwards (t .front))) ≡ records (backwards (asSteps entry))
   whole l e =
       sym (ap (λ (k : List Leaf). records (backwards k)) (t .splits ∙ ap (λ (k : List Leaf). t .front ++ (k ++ t .back)) e)
       ∙ ap records (backwards-append (t .front) (l ++ t .back) ∙ ap (λ (k : List Leaf). k ++ backwards (t .front)) (backwards-append l (t .back)))
@@ -291,14 +291,14 @@ module _ {entry steps : List ℕ} {from to : ℕ} (h : Holds entry) (t : Turning
     pub only-starts : StartsRecord (part from to steps)
     only-starts = starts-with _ (leafHead (only .0)) [] only-fits only-is
 
-    pub turned-odd : {y : List ℕ} → Undone (part from to steps) y → putMid from (to - from) steps y ≡ records (backwards (held entry))
+    pub turned-odd : {y : List ℕ} → Undone (part from to steps) y → putMid from (to - from) steps y ≡ records (backwards (asSteps entry))
     unfolding records
     turned-odd {y} c =
         put-part three y
         ∙ ap (λ (z : List ℕ). records (backwards (t .back)) ++ (z ++ records (backwards (t .front)))) (undone-with _ (leafHead (only .0)) [] only-fits only-is c)
         ∙ whole (only .0 ∷ []) (only .1)
 
-  pub turned-even : to ≤ from → steps ≡ records (backwards (held entry))
+  pub turned-even : to ≤ from → steps ≡ records (backwards (asSteps entry))
   unfolding records
   turned-even k =
       let e : t .todo ≡ [] = none (t .todo) (omega (arith, t .up)) in

@@ -26,7 +26,7 @@ use Rattle.laws.proofs.Walking.{Packed, no-node}
 use Rattle.laws.proofs.Unrolling.{first, ifReached, firstInOrder, refusalBinary, refusalNode, refusalBody, firstRefusal}
 use Rattle.nodes.specs.Nodes.{IsNode, part, FirstNode, firstList, secondList, Lists}
 use Rattle.nodes.proofs.Nodes.{part-length, fields-of, kind-of, alone, front-field, FirstLeaf, leaf-node}
-use Rattle.expand.specs.Meaning.{told, refuses, leafRefuses, overflowsAt, binaryKind}
+use Rattle.expand.specs.Meaning.{refusalOf, refuses, leafRefuses, overflowsAt, binaryKind}
 use Rattle.expand.specs.Steps.{IsGroup}
 use Rattle.expand.specs.declared.visit.Refusals.{Refusals}
 use Rattle.expand.proofs.Shapes.{Shape, isLeaf, isGroup, isBinary, shape-of, bodyOf, block-is, group-body, binary-body}
@@ -55,7 +55,7 @@ either-way {f} {g} p q = fun-ext at
     at false = p
     at true = q
 
-pub first-taken : (a : ℕ) (q : Option ℕ) → ((a ≡ 0) → ⊥) → told a ≡ first (told a) q
+pub first-taken : (a : ℕ) (q : Option ℕ) → ((a ≡ 0) → ⊥) → refusalOf a ≡ first (refusalOf a) q
 first-taken zero q h = absurd (h refl)
 first-taken (suc a) q h = refl
 

@@ -12,13 +12,13 @@ use Rattle.record.specs.Meaning.{field}
 use Rattle.expand.specs.declared.visit.Refusals.{Refusals}
 
 -- 0 is no refusal
-abbrev pub told : ℕ → Option ℕ
-told zero = none
-told (suc r) = some (suc r)
+abbrev pub refusalOf : ℕ → Option ℕ
+refusalOf zero = none
+refusalOf (suc r) = some (suc r)
 
 -- the first refusal met in each direction
 abbrev pub refuses : Refusals → Bool → Option ℕ
-refuses s d = pick d (told (s .backward)) (told (s .forward))
+refuses s d = pick d (refusalOf (s .backward)) (refusalOf (s .forward))
 
 abbrev pub binaryKind : Bool → BinaryGroupKind
 binaryKind true = Commutator

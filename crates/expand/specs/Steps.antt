@@ -38,16 +38,16 @@ pub data All (P : Leaf → Type 0) : List Leaf → Type 0 where
   one : {x : Leaf} {l : List Leaf} → P x → All P l → All P (x ∷ l)
 
 -- the steps whose records bytes are, with the numbers that the records have: what the bytes unroll into, since a list of steps unrolls into itself
-abbrev pub held : List ℕ → List Leaf
-held bs = flat undo false (unpack bs)
+abbrev pub asSteps : List ℕ → List Leaf
+asSteps bs = flat undo false (unpack bs)
 
 -- bytes that are the records of steps
-pub record Holds (bs : List ℕ) : Type 0 where
-  pub bytes : records (held bs) ≡ bs
-  pub fits : All FitsLeaf (held bs)
+pub record AreSteps (bs : List ℕ) : Type 0 where
+  pub bytes : records (asSteps bs) ≡ bs
+  pub fits : All FitsLeaf (asSteps bs)
 
 -- the steps l written to the front of a buffer, in r bytes; the rest stays
-pub record Wrote (before after : List ℕ) (l : List Leaf) (r : ℕ) : Type 0 where
+pub record WroteSteps (before after : List ℕ) (l : List Leaf) (r : ℕ) : Type 0 where
   pub size : r ≡ RECORD * length l
   pub bytes : after ≡ records l ++ drop r before
 
@@ -70,14 +70,14 @@ abbrev pub repeats : ℤ → List Leaf → List Leaf
 repeats m l = copies (natAbs m) (either l (turned m false))
 
 -- The lists of a commutator or a conjugate in the first bytes of a buffer that has room for the whole.
-pub record Pair (out : List ℕ) (commutator : Bool) (a b : ℕ) : Type 0 where
-  pub first : Holds (take a out)
-  pub second : Holds (take b (drop a out))
+pub record BothLists (out : List ℕ) (commutator : Bool) (a b : ℕ) : Type 0 where
+  pub first : AreSteps (take a out)
+  pub second : AreSteps (take b (drop a out))
   pub room : countBinary (binaryKind commutator) a b ≤ length out
 
 -- The contents of a group in the first bytes of a buffer that has room for n repeats, at least one.
 pub record Room (out : List ℕ) (size n : ℕ) : Type 0 where
-  pub contents : Holds (take size out)
+  pub contents : AreSteps (take size out)
   pub some : 1 ≤ n
   pub room : size * n ≤ length out
 

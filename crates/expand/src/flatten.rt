@@ -15,7 +15,7 @@ ghost use Rattle.laws.proofs.Walking.{Packed};
 ghost use Rattle.laws.proofs.Unrolling.{backwards, flat};
 ghost use Rattle.notation.specs.Counts.{count};
 ghost use Rattle.nodes.specs.Nodes.{part};
-ghost use Rattle.expand.specs.Steps.{held, Holds, Wrote, IsGroup, completed, repeats, Pair, Room, lastOf, undoneRecord};
+ghost use Rattle.expand.specs.Steps.{asSteps, AreSteps, WroteSteps, IsGroup, completed, repeats, BothLists, Room, lastOf, undoneRecord};
 use nodes::first_end;
 use nodes::node_end;
 use numbers::signed::is_negative;
@@ -30,7 +30,7 @@ use record::undo::undo_record;
 pub fn flatten(tree: &[u8], out: &mut [u8]) -> usize
     requires { ⌜ Packed (now tree) ⌝ }
     requires { ⌜ recordSize * count (unpack (now tree)) ≤ length (now out) ⌝ }
-    ensures { λ r. ⌜ Wrote (now (out .entry)) (now (out .exit)) (flat undo false (unpack (now (tree .entry)))) r ⌝ }
+    ensures { λ r. ⌜ WroteSteps (now (out .entry)) (now (out .exit)) (flat undo false (unpack (now (tree .entry)))) r ⌝ }
 {
     let mut t = tree;
     let mut at = 0;
@@ -58,7 +58,7 @@ fn flatten_node(node: &[u8], out: &mut [u8]) -> usize
     requires { ⌜ IsGroup (now node) ⌝ }
     requires { ⌜ 0 < count (unpack (now node)) ⌝ }
     requires { ⌜ recordSize * count (unpack (now node)) ≤ length (now out) ⌝ }
-    ensures { λ r. ⌜ Wrote (now (out .entry)) (now (out .exit)) (flat undo false (unpack (now (node .entry)))) r ⌝ }
+    ensures { λ r. ⌜ WroteSteps (now (out .entry)) (now (out .exit)) (flat undo false (unpack (now (node .entry)))) r ⌝ }
 {
     let kind = fields::kind(node);
     let multiplier = fields::number(node);
@@ -74,8 +74,8 @@ fn flatten_node(node: &[u8], out: &mut [u8]) -> usize
 
 // A and B stand at the front: writes A' and, of a commutator, B' behind them.
 fn complete_binary(out: &mut [u8], commutator: bool, a: usize, b: usize) -> usize
-    requires { ⌜ Pair (now out) commutator a b ⌝ }
-    ensures { λ r. ⌜ Wrote (now (out .entry)) (now (out .exit)) (completed commutator (held (take a (now (out .entry)))) (held (take b (drop a (now (out .entry)))))) r ⌝ }
+    requires { ⌜ BothLists (now out) commutator a b ⌝ }
+    ensures { λ r. ⌜ WroteSteps (now (out .entry)) (now (out .exit)) (completed commutator (asSteps (take a (now (out .entry)))) (asSteps (take b (drop a (now (out .entry)))))) r ⌝ }
 {
     let size = a + b;
     let third = size + a;
@@ -94,7 +94,7 @@ fn complete_binary(out: &mut [u8], commutator: bool, a: usize, b: usize) -> usiz
 // The contents of a group stand in the first `size` bytes: turns them round if the multiplier is negative, and repeats them.
 fn repeat_block(out: &mut [u8], size: usize, multiplier: u32) -> usize
     requires { ⌜ Room (now out) size (natAbs (fromBits 32 multiplier)) ⌝ }
-    ensures { λ r. ⌜ Wrote (now (out .entry)) (now (out .exit)) (repeats (fromBits 32 multiplier) (held (take size (now (out .entry))))) r ⌝ }
+    ensures { λ r. ⌜ WroteSteps (now (out .entry)) (now (out .exit)) (repeats (fromBits 32 multiplier) (asSteps (take size (now (out .entry))))) r ⌝ }
 {
     let total = size * (magnitude(multiplier) as usize);
     if is_negative(multiplier) {
@@ -120,8 +120,8 @@ fn repeat(out: &mut [u8], size: usize, total: usize)
 
 // Turns a run of steps round and undoes each, from both ends inwards.
 fn turn(steps: &mut [u8])
-    requires { ⌜ Holds (now steps) ⌝ }
-    ensures { λ _. ⌜ now (steps .exit) ≡ records (backwards (held (now (steps .entry)))) ⌝ }
+    requires { ⌜ AreSteps (now steps) ⌝ }
+    ensures { λ _. ⌜ now (steps .exit) ≡ records (backwards (asSteps (now (steps .entry)))) ⌝ }
 {
     let mut from = 0;
     let mut to = steps.len();

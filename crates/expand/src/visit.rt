@@ -8,7 +8,7 @@ ghost use Rattle.notation.specs.Unroll.{turned as turnedBy};
 ghost use Rattle.notation.specs.Packed.{RECORD as recordSize, unpack};
 ghost use Rattle.laws.proofs.Walking.{Packed};
 ghost use Rattle.laws.proofs.Unrolling as unrolling;
-ghost use Rattle.expand.specs.Meaning.{told, refuses, leafRefuses, overflowsAt, binaryKind};
+ghost use Rattle.expand.specs.Meaning.{refusalOf, refuses, leafRefuses, overflowsAt, binaryKind};
 ghost use Rattle.expand.specs.Steps.{IsGroup};
 use nodes::first_end;
 use nodes::node_end;
@@ -98,7 +98,7 @@ fn of_leaf(overflows: bool) -> Refusals
 }
 
 fn first(a: u8, b: u8) -> u8
-    ensures { λ r. ⌜ told r ≡ unrolling.first (told a) (told b) ⌝ }
+    ensures { λ r. ⌜ refusalOf r ≡ unrolling.first (refusalOf a) (refusalOf b) ⌝ }
 {
     if a == 0 { b } else { a }
 }

@@ -1,5 +1,5 @@
 // The entries for a host that calls from C (include/hypuz_notation.h): byte slices and numbers only. Each answers one number, the refusal's
-// number times 2^56 plus the value modulo 2^56, which no value reaches (specs/Host of `notation`: `NeverBites`).
+// number times 2^56 plus the value modulo 2^56, which no value reaches (specs/Host of `notation`: `Lossless`).
 ghost use mathlib.Core.Path.{_≡_};
 ghost use mathlib.Core.Bool.{not};
 ghost use lib.Dec.{eqb};

@@ -7,7 +7,7 @@ use lib.ListN.{length, take, drop, length-append, length-drop}
 use lib.Seq.{take-at, length-take-le}
 use Rattle.notation.specs.Tree.{Leaf, Node, leaf, block, group, binaryGroup, append, Tree}
 use Rattle.notation.specs.Packed.{RECORD, binaryHead, headRecord, size, bodyHead, packNode, packBody, pack, unpack}
-use Rattle.notation.specs.Counts.{hold, stored}
+use Rattle.notation.specs.Counts.{cap, stored}
 use Rattle.notation.specs.declared.common.BinaryGroupKind.the-variants.{Commutator, Conjugate}
 use Rattle.record.specs.Meaning.{field, withLists}
 use Rattle.record.proofs.Copying.{copied-whole}
@@ -43,7 +43,7 @@ exchanged (block (binaryGroup Commutator a b) m) {bs} s kind l c c′ ec ec′ =
     (ap₂ (λ (x y : List ℕ). withLists (size b) (size a) (x ++ y)) (record-is s)
     (ap₂ (λ (x y : List ℕ). x ++ y) (list-is (l .packedSecond) (l .unpacksSecond _ s)) (list-is (l .packedFirst) (l .unpacksFirst _ s)))
     ∙ lists-set Commutator (size a) (size b) (size b) (size a) m (stored (block (binaryGroup Commutator a b) m)) (pack b ++ pack a)
-    ∙ ap (λ (z : ℕ). headRecord (binaryHead Commutator (size b) (size a) m (hold z)) ++ (pack b ++ pack a)) (sym (deeplyNode-count (block (binaryGroup Commutator a b) m)))
+    ∙ ap (λ (z : ℕ). headRecord (binaryHead Commutator (size b) (size a) m (cap z)) ++ (pack b ++ pack a)) (sym (deeplyNode-count (block (binaryGroup Commutator a b) m)))
     ∙ sym (append-nil (headRecord (bodyHead (binaryGroup Commutator b a) m) ++ (pack b ++ pack a)))
     ∙ sym (ap (λ (t : Tree). pack (deeply t)) (alone s)))
 

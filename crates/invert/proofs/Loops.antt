@@ -85,7 +85,7 @@ module _ {t : List ℕ} {e : ℕ} (s : FirstNode t e) where
   front-low q h = subst (λ (l : List ℕ). field 0 l / 16 ≤ 5) (part-front e t) (first-low s q h)
 
 -- t is what is left of tree, and out holds what is done from `at` on.
-pub record Wrote (f : Tree → Tree) (tree t : List ℕ) (at : ℕ) (out : List ℕ) : Type 0 where
+pub record WroteNodes (f : Tree → Tree) (tree t : List ℕ) (at : ℕ) (out : List ℕ) : Type 0 where
   pub reverses : Reverses f
   pub packed : Packed t
   pub short : length t ≤ length tree
@@ -93,7 +93,7 @@ pub record Wrote (f : Tree → Tree) (tree t : List ℕ) (at : ℕ) (out : List 
   pub long : length out ≡ length tree
   pub done : pack (f (unpack t)) ++ drop at out ≡ pack (f (unpack tree))
 
-pub wrote-none : {f : Tree → Tree} → Reverses f → (tree out : List ℕ) → Packed tree → length out ≡ length tree → Wrote f tree tree (length out) out
+pub wrote-none : {f : Tree → Tree} → Reverses f → (tree out : List ℕ) → Packed tree → length out ≡ length tree → WroteNodes f tree tree (length out) out
 wrote-none {f} r tree out p e =
     record {
       reverses = r;
@@ -105,16 +105,16 @@ wrote-none {f} r tree out p e =
     }
 
 -- a node's place in out is as long as the node
-pub node-place : {f : Tree → Tree} {tree t : List ℕ} {at : ℕ} {out : List ℕ} {e : ℕ} → Wrote f tree t at out → FirstNode t e
+pub node-place : {f : Tree → Tree} {tree t : List ℕ} {at : ℕ} {out : List ℕ} {e : ℕ} → WroteNodes f tree t at out → FirstNode t e
     → length (take (at - (at - e)) (drop (at - e) out)) ≡ length (take e t)
 node-place {f} {tree} {t} {at} {out} {e} w s =
     length-take-le (at - (at - e)) (drop (at - e) out) (omega (arith, length-drop (at - e) out, w .place, w .short, w .long, s .most))
     ∙ omega (arith, w .place, s .most)
     ∙ sym (front-long s)
 
-pub wrote-more : {f : Tree → Tree} {tree t : List ℕ} {at : ℕ} {out : List ℕ} {e : ℕ} → Wrote f tree t at out → FirstNode t e
+pub wrote-more : {f : Tree → Tree} {tree t : List ℕ} {at : ℕ} {out : List ℕ} {e : ℕ} → WroteNodes f tree t at out → FirstNode t e
     → (new : List ℕ) → length new ≡ length (take (at - (at - e)) (drop (at - e) out)) → new ≡ pack (f (unpack (take e t)))
-    → Wrote f tree (part e (length t) t) (at - e) (putPart (at - e) at out new)
+    → WroteNodes f tree (part e (length t) t) (at - e) (putPart (at - e) at out new)
 wrote-more {f} {tree} {t} {at} {out} {e} w s new h q =
     let l : Tree = unpack (part e (length t) t) in
     let one : Tree = cons (s .node) nil in
@@ -135,14 +135,14 @@ wrote-more {f} {tree} {t} {at} {out} {e} w s new h q =
           ∙ w .done;
     }
 
-pub wrote-leaf : {f : Tree → Tree} {tree t : List ℕ} {at : ℕ} {out : List ℕ} → Wrote f tree t at out → FirstLeaf t
+pub wrote-leaf : {f : Tree → Tree} {tree t : List ℕ} {at : ℕ} {out : List ℕ} → WroteNodes f tree t at out → FirstLeaf t
     → (new : List ℕ) → length new ≡ length (take (at - (at - RECORD)) (drop (at - RECORD) out)) → new ≡ pack (inverted (unpack (take RECORD t)))
-    → Wrote f tree (part RECORD (length t) t) (at - RECORD) (putPart (at - RECORD) at out new)
+    → WroteNodes f tree (part RECORD (length t) t) (at - RECORD) (putPart (at - RECORD) at out new)
 wrote-leaf {f} w l new h q =
     let one = alone (leaf-node l) in
     wrote-more w (l .first) new h (q ∙ ap pack (ap inverted one ∙ w .reverses .step (l .step) ∙ sym (ap f one)))
 
-pub wrote-all : {f : Tree → Tree} {tree t : List ℕ} {at : ℕ} {out : List ℕ} → Wrote f tree t at out → length t ≤ 0 → out ≡ pack (f (unpack tree))
+pub wrote-all : {f : Tree → Tree} {tree t : List ℕ} {at : ℕ} {out : List ℕ} → WroteNodes f tree t at out → length t ≤ 0 → out ≡ pack (f (unpack tree))
 unfolding pack
 wrote-all {f} {tree} {t} {at} {out} w h =
     let none : length t ≡ 0 = omega arith in

@@ -11,7 +11,7 @@ use lib.Seq.{take-at, take-add}
 use Rattle.notation.specs.Refusals.{NISS}
 use Rattle.notation.specs.Tree.{Leaf, Node, leaf, block, Body, group, binaryGroup, append, Tree}
 use Rattle.notation.specs.Packed.{RECORD, Head, groupHead, binaryHead, headRecord, groupNumber, size, bodyHead, packNode, packBody, pack, headAt, unpack}
-use Rattle.notation.specs.Counts.{hold, stored}
+use Rattle.notation.specs.Counts.{cap, stored}
 use Rattle.notation.specs.declared.common.GroupKind.{GroupKind}
 use Rattle.notation.specs.declared.common.GroupKind.the-variants.{Simple, Macro, Simultaneous, Niss}
 use Rattle.notation.specs.declared.common.BinaryGroupKind.the-variants.{Commutator, Conjugate}
@@ -36,8 +36,8 @@ packed-starts bs p h =
     (sym (p .whole) ∙ ap pack (f .unpacks) ∙ ap (λ (s : List ℕ). s ++ rest) (node-bytes n) ∙ append-assoc (headRecord (nodeHead n)) (inside n) rest)
 
 undone-body : (b : Body Leaf) (m : ℤ) → undoneHead (bodyHead b m) ≡ bodyHead b (negℤ m)
-undone-body (group k a) m = ap (groupHead k (size a) (negℤ m)) (ap hold (sym (node-count (block (group k a) m))))
-undone-body (binaryGroup k a b) m = ap (binaryHead k (size a) (size b) (negℤ m)) (ap hold (sym (node-count (block (binaryGroup k a b) m))))
+undone-body (group k a) m = ap (groupHead k (size a) (negℤ m)) (ap cap (sym (node-count (block (group k a) m))))
+undone-body (binaryGroup k a b) m = ap (binaryHead k (size a) (size b) (negℤ m)) (ap cap (sym (node-count (block (binaryGroup k a b) m))))
 
 undone-node : (n : Node Leaf) {bs : List ℕ} → IsNode bs n → headRecord (undoneHead (nodeHead n)) ++ inside n ≡ pack (inverted (unpack bs))
 unfolding pack packNode inverted append
@@ -96,7 +96,7 @@ group-inner (block (binaryGroup Conjugate a b) m) s h n4 n5 = absurd (n5 (kind-o
 group-inner (block (group g a) m) {bs} s h n4 n5 =
     let o = one-list bs g a m (s .fits) (s .bytes) in
     inner-of s (lit≤ tt) (node-room s) (subst Packed (sym (part-rest RECORD bs)) (o .packedList)) (ap unpack (part-rest RECORD bs) ∙ o .unpacksList)
-    (ap (λ (l : List ℕ). l ++ pack (deeply a)) (record-is s ∙ ap₂ (λ (z c : ℕ). headRecord (groupHead g z m c)) (sym (deeply-size a)) (ap hold (sym (deeplyNode-count (block (group g a) m))))))
+    (ap (λ (l : List ℕ). l ++ pack (deeply a)) (record-is s ∙ ap₂ (λ (z c : ℕ). headRecord (groupHead g z m c)) (sym (deeply-size a)) (ap cap (sym (deeplyNode-count (block (group g a) m))))))
     (λ n3. not-niss g (deepRefusal a) (λ z. n3 (kind-of s ∙ z)))
 
 pub conjugate-inner : (n : Node Leaf) {bs : List ℕ} {k : ℕ} → IsNode bs n → field 0 bs / 16 ≡ 5 → Lists bs k → Inner bs k
@@ -113,7 +113,7 @@ conjugate-inner (block (binaryGroup Conjugate a b) m) {bs} {k} s h l =
     inner-of s (l .least) (l .most) (l .packedSecond) (l .unpacksSecond _ s)
     (ap (λ (x : List ℕ). x ++ pack (deeply b)) front
     ∙ append-assoc hd (pack a) (pack (deeply b))
-    ∙ ap₂ (λ (z c : ℕ). headRecord (binaryHead Conjugate (size a) z m c) ++ (pack a ++ pack (deeply b))) (sym (deeply-size b)) (ap hold (sym (deeplyNode-count (block (binaryGroup Conjugate a b) m)))))
+    ∙ ap₂ (λ (z c : ℕ). headRecord (binaryHead Conjugate (size a) z m c) ++ (pack a ++ pack (deeply b))) (sym (deeply-size b)) (ap cap (sym (deeplyNode-count (block (binaryGroup Conjugate a b) m)))))
     (λ n3. refl)
 
 -- What one node is refused for.

@@ -75,9 +75,9 @@ checked-tree text tree t e =
     let u = outcomes.after (unless TOO-LONG (leb (length text) MAX-TEXT)) (ok .1) in
     let w = outcomes.after (unless NOT-WELL-FORMED (wellFormed text tree)) (ok .2) in
     record {
-      short = leb-true (length text) MAX-TEXT (outcomes.held TOO-LONG (leb (length text) MAX-TEXT) (u .1));
-      isUtf8 = outcomes.held NOT-UTF8 (utf8 text) (u .2);
-      formed = outcomes.held NOT-WELL-FORMED (wellFormed text tree) (w .1);
+      short = leb-true (length text) MAX-TEXT (outcomes.test-holds TOO-LONG (leb (length text) MAX-TEXT) (u .1));
+      isUtf8 = outcomes.test-holds NOT-UTF8 (utf8 text) (u .2);
+      formed = outcomes.test-holds NOT-WELL-FORMED (wellFormed text tree) (w .1);
     }
 
 -- unrolled steps that can be counted

@@ -14,7 +14,7 @@ use Rattle.notation.specs.Refusals.{result}
 use Rattle.notation.specs.Tree.{Leaf, Node, leaf, block, Body, group, binaryGroup, nil, cons, Tree}
 use Rattle.notation.specs.Invert.{undo, undone}
 use Rattle.notation.specs.Unroll.{turned, flattenNode}
-use Rattle.notation.specs.Counts.{HELD, hold, times, countBinary, countNode, countBody, count, stored}
+use Rattle.notation.specs.Counts.{CAP, cap, times, countBinary, countNode, countBody, count, stored}
 use Rattle.notation.specs.declared.common.BinaryGroupKind.{BinaryGroupKind}
 use Rattle.notation.specs.declared.common.BinaryGroupKind.the-variants.{Commutator, Conjugate}
 use Rattle.notation.proofs.Marked.{length-copies}
@@ -50,31 +50,31 @@ mutual
       length-order d (flatNode undo d n) (flat undo d l) ∙ ap₂ (λ (a b : ℕ). a + b) (countNode-is n d) (count-is l d)
 
 -- Held sums and products come to what holding the whole comes to.
-pub hold-times : (n c : ℕ) → hold (n * hold c) ≡ hold (n * c)
-hold-times zero c = rw (zero-mul (hold c), zero-mul c)
-hold-times (suc k) c = go (leb c HELD) refl
+pub cap-times : (n c : ℕ) → cap (n * cap c) ≡ cap (n * c)
+cap-times zero c = rw (zero-mul (cap c), zero-mul c)
+cap-times (suc k) c = go (leb c CAP) refl
   where
-    go : (b : Bool) → leb c HELD ≡ b → hold (suc k * hold c) ≡ hold (suc k * c)
+    go : (b : Bool) → leb c CAP ≡ b → cap (suc k * cap c) ≡ cap (suc k * c)
     go true e =
-        let h : c ≤ HELD = leb-true c HELD e in
-        let m : hold c ≡ c = omega arith in
+        let h : c ≤ CAP = leb-true c CAP e in
+        let m : cap c ≡ c = omega arith in
         rw m
     go false e =
-        let h : HELD < c = leb-false c HELD e in
-        let m : hold c ≡ HELD = omega arith in
+        let h : CAP < c = leb-false c CAP e in
+        let m : cap c ≡ CAP = omega arith in
         rw m (omega arith)
 
-pub hold-binary : (k : BinaryGroupKind) (a b : ℕ) → hold (countBinary k (hold a) (hold b)) ≡ hold (countBinary k a b)
-hold-binary Commutator a b = omega arith
-hold-binary Conjugate a b = omega arith
+pub cap-binary : (k : BinaryGroupKind) (a b : ℕ) → cap (countBinary k (cap a) (cap b)) ≡ cap (countBinary k a b)
+cap-binary Commutator a b = omega arith
+cap-binary Conjugate a b = omega arith
 
 -- The law of the field: whichever way the node is walked, it is the held length of the plain list. Where the node unrolls that is the unrolled list;
 -- where it does not, the list without what NISS groups hold, each step that cannot be undone still being one.
-pub stored-is : (n : Node Leaf) (d : Bool) → stored n ≡ hold (length (flatNode undo d n))
-stored-is n d = ap hold (sym (countNode-is n d))
+pub stored-is : (n : Node Leaf) (d : Bool) → stored n ≡ cap (length (flatNode undo d n))
+stored-is n d = ap cap (sym (countNode-is n d))
 
-pub stored-unrolled : (n : Node Leaf) (d : Bool) (l : List Leaf) → flattenNode undone d n ≡ result l → stored n ≡ hold (length l)
-stored-unrolled n d l e = stored-is n d ∙ ap (λ (s : List Leaf). hold (length s)) (unrolls (refusalNode d n) (sym (flattenNode-is n d) ∙ e))
+pub stored-unrolled : (n : Node Leaf) (d : Bool) (l : List Leaf) → flattenNode undone d n ≡ result l → stored n ≡ cap (length l)
+stored-unrolled n d l e = stored-is n d ∙ ap (λ (s : List Leaf). cap (length s)) (unrolls (refusalNode d n) (sym (flattenNode-is n d) ∙ e))
   where
     unrolls : (r : Option ℕ) → verdict r (flatNode undo d n) ≡ result l → flatNode undo d n ≡ l
     unrolls none h = cc
@@ -84,6 +84,6 @@ stored-unrolled n d l e = stored-is n d ∙ ap (λ (s : List Leaf). hold (length
 pub stored-none : (n : Node Leaf) (d : Bool) → stored n ≡ 0 → flatNode undo d n ≡ []
 stored-none n d e = go (flatNode undo d n) (sym (stored-is n d) ∙ e)
   where
-    go : (l : List Leaf) → hold (length l) ≡ 0 → l ≡ []
+    go : (l : List Leaf) → cap (length l) ≡ 0 → l ≡ []
     go [] h = refl
     go (x ∷ l) h = absurd (omega arith)

@@ -13,6 +13,6 @@ pub after : {A B : Type 0} (o : Outcome A) {f : A → Outcome B} {b : B} → _>>
 after (refusal r) e = no-refusal e
 after (result a) e = (a, refl, e)
 
-pub held : (r : ℕ) {u : Unit {0}} (t : Bool) → unless r t ≡ result u → t ≡ true
-held r true e = refl
-held r false e = no-refusal e
+pub test-holds : (r : ℕ) {u : Unit {0}} (t : Bool) → unless r t ≡ result u → t ≡ true
+test-holds r true e = refl
+test-holds r false e = no-refusal e

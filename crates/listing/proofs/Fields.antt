@@ -15,7 +15,7 @@ use Rattle.notation.specs.Demands.{printedInverse}
 use Rattle.laws.proofs.Unrolling.{flat}
 use Rattle.notation.specs.Counts.{count}
 use Rattle.laws.proofs.Counting.{count-is}
-use Rattle.checked.specs.Sound.{Counted}
+use Rattle.checked.specs.Checked.{Counted}
 use Rattle.entries.proofs.Stepping.{these}
 use Rattle.display.specs.Written.{Wrote}
 use Rattle.display.proofs.Writing.{wrote-as, wrote-then}

@@ -34,7 +34,7 @@ use Rattle.laws.proofs.Counting.{count-is}
 use Rattle.laws.proofs.Reached.{negatable, cleanNode, cleanNodes, first-left, first-right}
 use Rattle.laws.proofs.DemandThree.{inverted-fits}
 use Rattle.expand.specs.Places.{stepIn, found}
-use Rattle.checked.specs.Sound.{Counted}
+use Rattle.checked.specs.Checked.{Counted}
 
 pub record Good (text : List ℕ) (x : Leaf) : Type 0 where
   pub ok : leafOk text x ≡ true

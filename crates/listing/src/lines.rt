@@ -16,7 +16,7 @@ ghost use Rattle.notation.specs.Entries as entries;
 ghost use Rattle.notation.specs.Lister as rule;
 ghost use Rattle.notation.specs.Demands.{printedInverse};
 ghost use Rattle.laws.proofs.Unrolling.{flat};
-ghost use Rattle.checked.specs.Sound.{Counted};
+ghost use Rattle.checked.specs.Checked.{Counted};
 ghost use Rattle.display.specs.Written.{MOST as most, Wrote};
 ghost use Rattle.listing.specs.Listing.{MAX-TREE as maxTree};
 use display::unspanned::node_list;

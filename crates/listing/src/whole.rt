@@ -10,7 +10,7 @@ ghost use Rattle.notation.specs.Invert.{undo};
 ghost use Rattle.notation.specs.Entries as entries;
 ghost use Rattle.notation.specs.Lister as rule;
 ghost use Rattle.laws.proofs.Unrolling.{flat};
-ghost use Rattle.checked.specs.Sound.{Counted};
+ghost use Rattle.checked.specs.Checked.{Counted};
 ghost use Rattle.display.specs.Written.{MOST as most, Wrote};
 ghost use Rattle.listing.specs.Listing.{MAX-TREE as maxTree, AtFront};
 use crate::lines::MAX_INPUT;

@@ -14,7 +14,7 @@ use Rattle.notation.specs.Layers.{MAX-LAYER}
 use Rattle.notation.specs.Tree.{Span, span, partOf}
 use Rattle.notation.specs.Packed.{widths, RECORD, cut}
 use Rattle.notation.specs.Numbers.{fromBits}
-use Rattle.notation.specs.Counts.{hold}
+use Rattle.notation.specs.Counts.{cap}
 use Rattle.notation.specs.Meaning.{constraintsIn, layerSetIn}
 use Rattle.notation.specs.WellFormed.{MAX-NESTING, isSome, inside}
 
@@ -199,7 +199,7 @@ unfoldable pub countsOk : ℕ → List Fields → Bool
 countsOk zero rs = true
 countsOk (suc k) [] = true
 countsOk (suc k) (r ∷ rs) =
-    eqb (count r) (hold (stepsOf r (stepsIn k (take (first r) rs)) (stepsIn k (take (second r) (drop (first r) rs)))))
+    eqb (count r) (cap (stepsOf r (stepsIn k (take (first r) rs)) (stepsIn k (take (second r) (drop (first r) rs)))))
     && countsOk k (take (first r) rs)
     && countsOk k (take (second r) (drop (first r) rs))
     && countsOk k (drop (first r + second r) rs)

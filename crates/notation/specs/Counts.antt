@@ -8,11 +8,11 @@ use Rattle.notation.specs.declared.common.BinaryGroupKind.{BinaryGroupKi
 use Rattle.notation.specs.declared.common.BinaryGroupKind.the-variants.{Commutator, Conjugate}
 
 -- a count above 4,294,967,295 is stored as 4,294,967,296
-abbrev pub HELD : ℕ
-HELD = 4294967296
+abbrev pub CAP : ℕ
+CAP = 4294967296
 
-abbrev pub hold : ℕ → ℕ
-hold n = min n HELD
+abbrev pub cap : ℕ → ℕ
+cap n = min n CAP
 
 -- how many times a group plays its contents: as its multiplier says, and a NISS group never, since reaching it is refused anyway
 abbrev pub times : {L : Type 0} → Body L → ℤ → ℕ
@@ -38,4 +38,4 @@ unfoldable mutual
 
 -- what the record of a node has in its last field
 abbrev pub stored : {L : Type 0} → Node L → ℕ
-stored n = hold (countNode n)
+stored n = cap (countNode n)

@@ -34,9 +34,9 @@ pub record Hands (r : ℕ) (buffer : List ℕ) (rule : Lent ℕ) : Type 0 where
 
 -- Why nothing is lost by the modulo: a value below 2^56 is told whole, and no value reaches 2^56. Those of the inverses and of printing are at most
 -- the length of the buffer that is lent, and no machine has one of 2^56 bytes; the others are below 2^56 whatever is lent.
--- The theorem is `never-bites` in crates/values/proofs/Values.antt.
-abbrev pub Small : Outcome ℕ → Type 0
-Small o = value o < VALUES
+-- The theorem is `lossless` in crates/values/proofs/Values.antt.
+abbrev pub BelowValues : Outcome ℕ → Type 0
+BelowValues o = value o < VALUES
 
 -- the number as a sum, and taken apart again
 pub record Whole (o : Outcome ℕ) : Type 0 where
@@ -44,14 +44,14 @@ pub record Whole (o : Outcome ℕ) : Type 0 where
   pub refusedBy : coded o / VALUES ≡ refusalNumber o
   pub valued : coded o % VALUES ≡ value o
 
-pub record NeverBites : Type 0 where
-  pub whole : (o : Outcome ℕ) → Small o → Whole o
-  pub reading : (f : Features) (text buffer : List ℕ) → Small (parseNotation f text buffer .answer)
-  pub counting : (text tree : List ℕ) → Small (countSteps text tree)
-  pub seeking : (text tree : List ℕ) (k : ℕ) (buffer : List ℕ) → Small (seekStep text tree k buffer .answer)
-  pub unrolling : (text tree buffer : List ℕ) → Small (flattenEntry text tree buffer .answer)
-  pub layering : (text tree : List ℕ) (k n : ℕ) (neg : Bool) (buffer : List ℕ) → Small (simplifyBytes text tree k n neg buffer .answer)
-  pub naming : (text tree : List ℕ) (k : ℕ) → Small (partNumber (familySpan text tree k))
-  pub inverting : (text tree buffer : List ℕ) → length buffer < VALUES → Small (invEntry text tree buffer .answer)
-  pub invertingDeeply : (text tree buffer : List ℕ) → length buffer < VALUES → Small (invDeepEntry text tree buffer .answer)
-  pub printing : (text tree buffer : List ℕ) → length buffer < VALUES → Small (displayEntry text tree buffer .answer)
+pub record Lossless : Type 0 where
+  pub whole : (o : Outcome ℕ) → BelowValues o → Whole o
+  pub reading : (f : Features) (text buffer : List ℕ) → BelowValues (parseNotation f text buffer .answer)
+  pub counting : (text tree : List ℕ) → BelowValues (countSteps text tree)
+  pub seeking : (text tree : List ℕ) (k : ℕ) (buffer : List ℕ) → BelowValues (seekStep text tree k buffer .answer)
+  pub unrolling : (text tree buffer : List ℕ) → BelowValues (flattenEntry text tree buffer .answer)
+  pub layering : (text tree : List ℕ) (k n : ℕ) (neg : Bool) (buffer : List ℕ) → BelowValues (simplifyBytes text tree k n neg buffer .answer)
+  pub naming : (text tree : List ℕ) (k : ℕ) → BelowValues (partNumber (familySpan text tree k))
+  pub inverting : (text tree buffer : List ℕ) → length buffer < VALUES → BelowValues (invEntry text tree buffer .answer)
+  pub invertingDeeply : (text tree buffer : List ℕ) → length buffer < VALUES → BelowValues (invDeepEntry text tree buffer .answer)
+  pub printing : (text tree buffer : List ℕ) → length buffer < VALUES → BelowValues (displayEntry text tree buffer .answer)

@@ -20,7 +20,7 @@ use Rattle.notation.specs.declared.features.Features.{Features}
 use Rattle.tally.specs.Tallies.{tallyNode}
 use Rattle.parse.specs.declared.node.NodeAnswer.{NodeAnswer}
 use Rattle.parse.specs.declared.node.NodeAnswer.the-variants.{Took, Nothing}
-use Rattle.parse.specs.Nodes.{Kept, NodeRead, NoNode, Told, nested, repeated}
+use Rattle.parse.specs.Nodes.{Kept, NodeRead, NoNode, NodeAnswered, nested, repeated}
 use Rattle.parse.proofs.Buffers.{kept-all, kept-then}
 use Rattle.parse.proofs.Readings.{or-none, or-last}
 use Rattle.parse.proofs.Choices.{times, just-no, nothing-nested, node-choice}
@@ -41,13 +41,13 @@ no-group list at s = refl
 module _ (text : List ℕ) (at slot tally : ℕ) where
   -- a rule that says the same here
   pub told-as : (p q : ℕ → Reader (Node Leaf)) (old new : List ℕ) (r : NodeAnswer) →
-      ((k : ℕ) → length text - at ≤ k → q k at (drop at text) ≡ p k at (drop at text)) → Told p text at slot tally old new r → Told q text at slot tally old new r
+      ((k : ℕ) → length text - at ≤ k → q k at (drop at text) ≡ p k at (drop at text)) → NodeAnswered p text at slot tally old new r → NodeAnswered q text at slot tally old new r
   told-as p q old new (Took next end) e t =
       record { node = t .node; reads = λ k h. e k h ∙ t .reads k h; slots = t .slots; advances = t .advances; inside = t .inside; wrote = t .wrote }
   told-as p q old new Nothing e t = record { rejects = λ k h. e k h ∙ t .rejects k h; kept = t .kept }
 
   -- and a buffer of which nothing before the slot has changed
-  pub told-after : (p : ℕ → Reader (Node Leaf)) (old mid new : List ℕ) (r : NodeAnswer) → Kept (RECORD * slot) old mid → Told p text at slot tally mid new r → Told p text at slot tally old new r
+  pub told-after : (p : ℕ → Reader (Node Leaf)) (old mid new : List ℕ) (r : NodeAnswer) → Kept (RECORD * slot) old mid → NodeAnswered p text at slot tally mid new r → NodeAnswered p text at slot tally old new r
   told-after p old mid new (Took next end) k t =
       record {
         node = t .node;
@@ -102,13 +102,13 @@ module _ (text : List ℕ) (at slot tally : ℕ) where
           none (here 40 (λ q. e (inr (inr (inl q))))) (here 33 (λ q. e (inl q))) (here 38 (λ q. e (inr (inl q)))) (here 94 (λ q. e (inr (inr (inr q))))) (here 91 b) old
 
       -- or else what the one that can start returns.
-      pub a-group : (getD text at 0 ≡ 91 → ⊥) → (old new : List ℕ) (r : NodeAnswer) → Told groups text at slot tally old new r → Told either text at slot tally old new r
+      pub a-group : (getD text at 0 ≡ 91 → ⊥) → (old new : List ℕ) (r : NodeAnswer) → NodeAnswered groups text at slot tally old new r → NodeAnswered either text at slot tally old new r
       a-group e old new r =
           told-as groups either old new r
           (λ k _. ap (λ (r : Reading (ℤ → Node Leaf)). andThen r (times f))
           (or-last (groupNode (nodeList f k) at (drop at text)) (binaryGroupNode (nodeList f k)) at (drop at text) (no-binary (nodeList f k) at (drop at text) (here 91 e))))
 
-      pub a-bracket : getD text at 0 ≡ 91 → (old new : List ℕ) (r : NodeAnswer) → Told binaries text at slot tally old new r → Told either text at slot tally old new r
+      pub a-bracket : getD text at 0 ≡ 91 → (old new : List ℕ) (r : NodeAnswer) → NodeAnswered binaries text at slot tally old new r → NodeAnswered either text at slot tally old new r
       a-bracket e old new r =
           told-as binaries either old new r
           (λ k _. ap (λ (r : Reading (ℤ → Node Leaf)). andThen r (times f))
@@ -124,7 +124,7 @@ module _ (text : List ℕ) (at slot tally : ℕ) where
             ∙ ap (λ (r : Reading (ℤ → Node Leaf)). orElse (andThen r (times f)) (node f fail) at (drop at text))
             (no-nested f k at (drop at text) (t .node) next (drop next text) (t .reads k l))) t
 
-    pub group-instead : (old mid new : List ℕ) (r : NodeAnswer) → NoNode leaves text at slot old mid → Told either text at slot tally mid new r → Told nodes text at slot tally old new r
+    pub group-instead : (old mid new : List ℕ) (r : NodeAnswer) → NoNode leaves text at slot old mid → NodeAnswered either text at slot tally mid new r → NodeAnswered nodes text at slot tally old new r
     group-instead old mid new r g t =
         told-after nodes old mid new r (g .kept)
         (told-as either nodes mid new r

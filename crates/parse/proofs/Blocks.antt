@@ -16,18 +16,18 @@ use Rattle.notation.specs.declared.common.GroupKind.{GroupKind}
 use Rattle.notation.specs.declared.common.BinaryGroupKind.{BinaryGroupKind}
 use Rattle.tally.specs.Tallies.{tallyRecord, tallyNode, tallyBody, tallyList}
 use Rattle.tally.proofs.Sizes.{length-tallyRecord, length-tallyList}
-use Rattle.parse.specs.Nodes.{Kept, Wrote, put, ListRead, NodeRead, NoNode, CloseRead, repeated}
+use Rattle.parse.specs.Nodes.{Kept, WroteRecords, put, ListRead, NodeRead, NoNode, CloseRead, repeated}
 use Rattle.parse.proofs.Buffers.{kept-all, kept-less, wrote-then, header}
 use Rattle.parse.proofs.Bytes.{seen}
 use Rattle.parse.proofs.Groups.{group-unopened, group-unclosed, group-read, binary-unsigned, binary-unclosed, binary-read}
 
 -- the records of a group's lists, kept before the slot after its own
-inner-kept : (slot : ℕ) (xs old mid : List ℕ) → Wrote (RECORD * (slot + 1)) xs old mid → Kept (RECORD * slot) old mid
+inner-kept : (slot : ℕ) (xs old mid : List ℕ) → WroteRecords (RECORD * (slot + 1)) xs old mid → Kept (RECORD * slot) old mid
 inner-kept slot xs old mid w = kept-less (RECORD * slot) (RECORD * (slot + 1)) old mid (omega arith) (w .kept)
 
 -- a group's record, written by its fields, before those of its lists
-outer : (slot tally : ℕ) (fs : List ℕ) (h : Head) → set fs 11 (tally % 256) ≡ set (headFields h) 11 (tally % 256) → (xs old mid : List ℕ) → Wrote (RECORD * (slot + 1)) xs old mid →
-    Wrote (RECORD * slot) (tallyRecord tally h ++ xs) old (put (RECORD * slot) (layOut widths (set fs 11 (tally % 256))) mid)
+outer : (slot tally : ℕ) (fs : List ℕ) (h : Head) → set fs 11 (tally % 256) ≡ set (headFields h) 11 (tally % 256) → (xs old mid : List ℕ) → WroteRecords (RECORD * (slot + 1)) xs old mid →
+    WroteRecords (RECORD * slot) (tallyRecord tally h ++ xs) old (put (RECORD * slot) (layOut widths (set fs 11 (tally % 256))) mid)
 outer slot tally fs h e xs old mid w =
     rw e (header (RECORD * slot) (RECORD * (slot + 1)) (tallyRecord tally h) xs old mid (omega (arith, length-tallyRecord tally h)) w)
 
@@ -86,7 +86,7 @@ module _ (f : Features) (text : List ℕ) (at slot tally : ℕ) (old : List ℕ)
       second : (k : ℕ) → length text - at ≤ k → nodeList f k (sign + 1) (drop (sign + 1) text) ≡ read (b .tree) close (drop close text)
       second k h = b .reads k (omega (arith, seen text at 91 (omega arith) opens, a .advances))
 
-      both : Wrote (RECORD * (slot + 1)) (tallyList (tally + 2) (a .tree) ++ tallyList (tally + 1) (b .tree)) old last
+      both : WroteRecords (RECORD * (slot + 1)) (tallyList (tally + 2) (a .tree) ++ tallyList (tally + 1) (b .tree)) old last
       both =
           wrote-then (RECORD * (slot + 1)) (RECORD * middle) (tallyList (tally + 2) (a .tree)) old mid last
           (omega (arith, length-tallyList (tally + 2) (a .tree), a .slots)) (a .wrote) (tallyList (tally + 1) (b .tree)) (b .wrote)

@@ -11,7 +11,7 @@ use lib.ListN.{length, take, drop, length-append, length-take, length-drop, drop
 use lib.Seq.{take-at, drop-at, take-take, take-add, take-append-add, length-take-le}
 use borrow.Rule.Slice.PartMut.{midOf, postOf, putMid, post-is}
 use Rattle.notation.specs.Basics.{pick}
-use Rattle.parse.specs.Nodes.{Kept, Wrote, put}
+use Rattle.parse.specs.Nodes.{Kept, WroteRecords, put}
 
 pub kept-all : (p : ℕ) (l : List ℕ) → Kept p l l
 kept-all p l = record { long = refl; before = refl }
@@ -26,23 +26,23 @@ kept-less p q old new h k =
 pub kept-then : (p : ℕ) (old mid new : List ℕ) → Kept p old mid → Kept p mid new → Kept p old new
 kept-then p old mid new k l = record { long = l .long ∙ k .long; before = l .before ∙ k .before }
 
-pub wrote-none : (p : ℕ) (l : List ℕ) → Wrote p [] l l
+pub wrote-none : (p : ℕ) (l : List ℕ) → WroteRecords p [] l l
 wrote-none p l =
     record {
       kept = kept-all p l;
       holds = λ h. ap (λ (n : ℕ). take n l) (add-zero p) ∙ sym (append-nil (take p l));
     }
 
-module _ (p q : ℕ) (xs old mid new : List ℕ) (e : q ≡ p + length xs) (w : Wrote p xs old mid) where
+module _ (p q : ℕ) (xs old mid new : List ℕ) (e : q ≡ p + length xs) (w : WroteRecords p xs old mid) where
   -- what comes later is written behind it, or only tried there
-  pub wrote-kept : Kept q mid new → Wrote p xs old new
+  pub wrote-kept : Kept q mid new → WroteRecords p xs old new
   wrote-kept k =
       record {
         kept = kept-then p old mid new (w .kept) (kept-less p q mid new (omega arith) k);
         holds = λ h. ap (λ (n : ℕ). take n new) (sym e) ∙ k .before ∙ ap (λ (n : ℕ). take n mid) e ∙ w .holds h;
       }
 
-  pub wrote-then : (ys : List ℕ) → Wrote q ys mid new → Wrote p (xs ++ ys) old new
+  pub wrote-then : (ys : List ℕ) → WroteRecords q ys mid new → WroteRecords p (xs ++ ys) old new
   wrote-then ys v =
       record {
         kept = kept-then p old mid new (w .kept) (kept-less p q mid new (omega arith) (v .kept));
@@ -85,14 +85,14 @@ pub put-kept : (p : ℕ) (xs old : List ℕ) → Kept p old (put p xs old)
 put-kept p xs old = record { long = put-length p xs old; before = put-before p xs old }
 
 -- xs, which was written behind the place of hs
-module _ (p q : ℕ) (hs xs old mid : List ℕ) (e : q ≡ p + length hs) (w : Wrote q xs old mid) where
+module _ (p q : ℕ) (hs xs old mid : List ℕ) (e : q ≡ p + length hs) (w : WroteRecords q xs old mid) where
   behind : q + length xs ≤ length old → take (length xs) (drop q mid) ≡ xs
   behind h =
       sym (drop-at (take q mid) (take (length xs) (drop q mid)) q (length-take-le q mid (omega (arith, w .kept .long))))
       ∙ ap (drop q) (sym (take-add q (length xs) mid) ∙ w .holds h)
       ∙ drop-at (take q old) xs q (length-take-le q old (omega arith))
 
-  pub header : Wrote p (hs ++ xs) old (put p hs mid)
+  pub header : WroteRecords p (hs ++ xs) old (put p hs mid)
   header =
       record {
         kept = kept-then p old mid (put p hs mid) (kept-less p q old mid (omega arith) (w .kept)) (put-kept p hs mid);
@@ -112,7 +112,7 @@ module _ (p q : ℕ) (hs xs old mid : List ℕ) (e : q ≡ p + length hs) (w : W
           ∙ ap (λ (l : List ℕ). take p mid ++ (hs ++ l)) (behind h)
           ∙ ap (λ (l : List ℕ). l ++ (hs ++ xs)) (kept-less p q old mid (omega arith) (w .kept) .before)
 
-pub put-wrote : (p : ℕ) (xs old : List ℕ) → Wrote p xs old (put p xs old)
+pub put-wrote : (p : ℕ) (xs old : List ℕ) → WroteRecords p xs old (put p xs old)
 put-wrote p xs old =
     rw append-nil at (header p (p + length xs) xs [] old old refl (wrote-none (p + length xs) old))
 

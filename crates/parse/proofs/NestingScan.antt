@@ -48,16 +48,16 @@ pub neither-of : (b x y : ℕ) → (b ≡ x → ⊥) → (b ≡ y → ⊥) → 0
 neither-of b x y h k = rw (ne-eqb b x h, ne-eqb b y k)
 
 -- What counting keeps.
-pub record Counted (x y : ℕ) (s : List ℕ) (n at : ℕ) : Type 0 where
+pub record BracketsCounted (x y : ℕ) (s : List ℕ) (n at : ℕ) : Type 0 where
   pub inside : at ≤ length s
   pub few : n ≤ at
   pub same : n + among x y (drop at s) ≡ among x y s
 
-pub count-start : (x y : ℕ) (s : List ℕ) → Counted x y s 0 0
+pub count-start : (x y : ℕ) (s : List ℕ) → BracketsCounted x y s 0 0
 count-start x y s = record { inside = omega arith; few = omega arith; same = zero-add (among x y s) }
 
-module _ (x y : ℕ) (s : List ℕ) (n at : ℕ) (c : Counted x y s n at) where
-  pub count-on : at < length s → (o : ℕ) → (o ≡ bit (eqb (getD s at 0) x || eqb (getD s at 0) y)) × (o ≤ 1) → Counted x y s (n + o) (at + 1)
+module _ (x y : ℕ) (s : List ℕ) (n at : ℕ) (c : BracketsCounted x y s n at) where
+  pub count-on : at < length s → (o : ℕ) → (o ≡ bit (eqb (getD s at 0) x || eqb (getD s at 0) y)) × (o ≤ 1) → BracketsCounted x y s (n + o) (at + 1)
   unfolding among
   count-on h o k =
       let e : among x y (drop at s) ≡ bit (eqb (getD s at 0) x || eqb (getD s at 0) y) + among x y (drop (at + 1) s) = ap (among x y) (drop-cons s at 0 h) ∙ rw add-one in

@@ -18,7 +18,7 @@ use Rattle.notation.specs.Grammar.{Reading, read, Reader, done, andThen, node, 
 use Rattle.notation.specs.declared.features.Features.{Features}
 use Rattle.tally.specs.Tallies.{tallyNode, tallyList}
 use Rattle.tally.proofs.Sizes.{length-tallyList}
-use Rattle.parse.specs.Nodes.{Wrote, ListRead, NodeRead, NoNode}
+use Rattle.parse.specs.Nodes.{WroteRecords, ListRead, NodeRead, NoNode}
 use Rattle.parse.proofs.Buffers.{wrote-none, wrote-kept, wrote-then}
 use Rattle.parse.proofs.Lists.{rest, list-start, andThen-done, rest-none, rest-last, rest-more, then-append}
 
@@ -51,7 +51,7 @@ module _ (f : Features) (text : List ℕ) (at slot tally : ℕ) (old : List ℕ)
     pub advances : at + size front ≤ next
     pub inside : next ≤ length text
     pub skipped : run whiteSpace (drop next text) ≡ 0
-    pub wrote : Wrote (RECORD * slot) (tallyList tally front) old new
+    pub wrote : WroteRecords (RECORD * slot) (tallyList tally front) old new
 
   skips : (from next : ℕ) → next ≡ from + run whiteSpace (drop from text) → run whiteSpace (drop next text) ≡ 0
   skips from next e =
@@ -99,7 +99,7 @@ module _ (f : Features) (text : List ℕ) (at slot tally : ℕ) (old : List ℕ)
             ∙ ap (λ (t : Tree). read t next (drop next text)) (append-nil-nodes (g .front))
 
     module _ (after filled : ℕ) (took : NodeRead rule text next end tally mid new after filled) where
-      joined : Wrote (RECORD * slot) (tallyList tally (append (g .front) (cons (took .node) nil))) old new
+      joined : WroteRecords (RECORD * slot) (tallyList tally (append (g .front) (cons (took .node) nil))) old new
       joined =
           rw (tally-last tally (g .front) (took .node))
           (wrote-then (RECORD * slot) (RECORD * end) (tallyList tally (g .front)) old mid new (omega (arith, length-tallyList tally (g .front), g .slots)) (g .wrote) (tallyNode tally (took .node)) (took .wrote))

@@ -43,9 +43,9 @@ abbrev pub forget : {A : Type 0} → Reading A → Reading (Unit {0})
 forget rejected = rejected
 forget (read a next rest) = read tt next rest
 
-abbrev pub told : List ℕ → Taken → Reading (Unit {0})
-told text taken.Nothing = rejected
-told text (taken.To next) = read tt next (drop next text)
+abbrev pub endReading : List ℕ → Taken → Reading (Unit {0})
+endReading text taken.Nothing = rejected
+endReading text (taken.To next) = read tt next (drop next text)
 
 -- Elements of sets.
 -- the sign of a constraint: -> or <>

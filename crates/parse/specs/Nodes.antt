@@ -39,7 +39,7 @@ pub record Kept (p : ℕ) (old new : List ℕ) : Type 0 where
 abbrev pub put : ℕ → List ℕ → List ℕ → List ℕ
 put p xs old = pick (leb (p + length xs) (length old)) (take p old ++ (xs ++ drop (p + length xs) old)) old
 
-pub record Wrote (p : ℕ) (xs old new : List ℕ) : Type 0 where
+pub record WroteRecords (p : ℕ) (xs old new : List ℕ) : Type 0 where
   pub kept : Kept p old new
   pub holds : p + length xs ≤ length old → take (p + length xs) new ≡ take p old ++ xs
 
@@ -50,7 +50,7 @@ pub record ListRead (f : Features) (text : List ℕ) (at slot tally : ℕ) (old 
   pub slots : end ≡ slot + size tree
   pub advances : at + size tree ≤ next
   pub inside : next ≤ length text
-  pub wrote : Wrote (RECORD * slot) (tallyList tally tree) old new
+  pub wrote : WroteRecords (RECORD * slot) (tallyList tally tree) old new
 
 -- A node was read by a rule that is given some fuel, or none stands there.
 pub record NodeRead (rule : ℕ → Reader (Node Leaf)) (text : List ℕ) (at slot tally : ℕ) (old new : List ℕ) (next end : ℕ) : Type 0 where
@@ -59,15 +59,15 @@ pub record NodeRead (rule : ℕ → Reader (Node Leaf)) (text : List ℕ) (at sl
   pub slots : end ≡ slot + nodeSize node
   pub advances : at + nodeSize node ≤ next
   pub inside : next ≤ length text
-  pub wrote : Wrote (RECORD * slot) (tallyNode tally node) old new
+  pub wrote : WroteRecords (RECORD * slot) (tallyNode tally node) old new
 
 pub record NoNode (rule : ℕ → Reader (Node Leaf)) (text : List ℕ) (at slot : ℕ) (old new : List ℕ) : Type 0 where
   pub rejects : (k : ℕ) → length text - at ≤ k → rule k at (drop at text) ≡ rejected
   pub kept : Kept (RECORD * slot) old new
 
-abbrev pub Told : (ℕ → Reader (Node Leaf)) → List ℕ → (at slot tally : ℕ) → List ℕ → List ℕ → NodeAnswer → Type 0
-Told rule text at slot tally old new (Took next end) = NodeRead rule text at slot tally old new next end
-Told rule text at slot tally old new Nothing = NoNode rule text at slot old new
+abbrev pub NodeAnswered : (ℕ → Reader (Node Leaf)) → List ℕ → (at slot tally : ℕ) → List ℕ → List ℕ → NodeAnswer → Type 0
+NodeAnswered rule text at slot tally old new (Took next end) = NodeRead rule text at slot tally old new next end
+NodeAnswered rule text at slot tally old new Nothing = NoNode rule text at slot old new
 
 -- a group or a bracket
 abbrev pub nested : Reader Tree → Reader (ℤ → Node Leaf)

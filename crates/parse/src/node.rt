@@ -111,7 +111,7 @@ fn leaf_node(
     tally: u64,
 ) -> NodeAnswer
     requires { ⌜ nodes.Within (now text) at slot tally ⌝ }
-    ensures { λ r. ⌜ nodes.Told (λ _. rule.node features rule.fail) (now (text .entry)) at slot tally (now (tree .entry)) (now (tree .exit)) r ⌝ }
+    ensures { λ r. ⌜ nodes.NodeAnswered (λ _. rule.node features rule.fail) (now (text .entry)) at slot tally (now (tree .entry)) (now (tree .exit)) r ⌝ }
 {
     let LeafAnswer::Took(f, next) = leaf(text, at, features) else {
         return NodeAnswer::Nothing;
@@ -149,7 +149,7 @@ pub fn node_list(
 // A leaf is tried first: where one stands, no group does, so the rule's order does not matter, and most nodes are leaves.
 fn node(text: &[u8], at: usize, features: Features, tree: &mut [u8], slot: usize, tally: u64) -> NodeAnswer
     requires { ⌜ nodes.Within (now text) at slot tally ⌝ }
-    ensures { λ r. ⌜ nodes.Told (λ k. rule.node features (rule.nodeList features k)) (now (text .entry)) at slot tally (now (tree .entry)) (now (tree .exit)) r ⌝ }
+    ensures { λ r. ⌜ nodes.NodeAnswered (λ k. rule.node features (rule.nodeList features k)) (now (text .entry)) at slot tally (now (tree .entry)) (now (tree .exit)) r ⌝ }
 {
     let NodeAnswer::Took(next, end) = leaf_node(text, at, features, tree, slot, tally) else {
         return any_group(text, at, features, tree, slot, tally);
@@ -167,7 +167,7 @@ fn any_group(
     tally: u64,
 ) -> NodeAnswer
     requires { ⌜ nodes.Within (now text) at slot tally ⌝ }
-    ensures { λ r. ⌜ nodes.Told (λ k. nodes.repeated features (nodes.nested (rule.nodeList features k))) (now (text .entry)) at slot tally (now (tree .entry)) (now (tree .exit)) r ⌝ }
+    ensures { λ r. ⌜ nodes.NodeAnswered (λ k. nodes.repeated features (nodes.nested (rule.nodeList features k))) (now (text .entry)) at slot tally (now (tree .entry)) (now (tree .exit)) r ⌝ }
 {
     if text.len() <= at {
         return NodeAnswer::Nothing;
@@ -189,7 +189,7 @@ fn group(
     tally: u64,
 ) -> NodeAnswer
     requires { ⌜ nodes.Within (now text) at slot tally × (at < length (now text)) ⌝ }
-    ensures { λ r. ⌜ nodes.Told (λ k. nodes.repeated features (rule.groupNode (rule.nodeList features k))) (now (text .entry)) at slot tally (now (tree .entry)) (now (tree .exit)) r ⌝ }
+    ensures { λ r. ⌜ nodes.NodeAnswered (λ k. nodes.repeated features (rule.groupNode (rule.nodeList features k))) (now (text .entry)) at slot tally (now (tree .entry)) (now (tree .exit)) r ⌝ }
 {
     let start = group_kind(text, at);
     let kind = start.kind;
@@ -217,7 +217,7 @@ fn binary_group(
     tally: u64,
 ) -> NodeAnswer
     requires { ⌜ nodes.Within (now text) at slot tally × (at < length (now text)) × (getD (now text) at 0 ≡ 91) ⌝ }
-    ensures { λ r. ⌜ nodes.Told (λ k. nodes.repeated features (rule.binaryGroupNode (rule.nodeList features k))) (now (text .entry)) at slot tally (now (tree .entry)) (now (tree .exit)) r ⌝ }
+    ensures { λ r. ⌜ nodes.NodeAnswered (λ k. nodes.repeated features (rule.binaryGroupNode (rule.nodeList features k))) (now (text .entry)) at slot tally (now (tree .entry)) (now (tree .exit)) r ⌝ }
 {
     let a = node_list(text, at + 1, features, tree, slot + 1, tally + OF_FIRST);
     let BinaryKind::Is(kind) = binary_group_kind(text, a.next) else {

@@ -32,7 +32,7 @@ fn is_sign(text: &[u8], at: usize) -> bool
 // An element of a constraint set: where it ends. Where no family follows a sign, the first family is an element by itself.
 fn constraint(text: &[u8], at: usize) -> Taken
     requires { ⌜ at ≤ length (now text) ⌝ }
-    ensures { λ r. ⌜ means.told (now (text .entry)) r ≡ means.forget (rule.constraint at (drop at (now (text .entry)))) ⌝ }
+    ensures { λ r. ⌜ means.endReading (now (text .entry)) r ≡ means.forget (rule.constraint at (drop at (now (text .entry)))) ⌝ }
 {
     let to = family_end(text, at);
     if to == at {
@@ -108,7 +108,7 @@ pub fn layer_set_element(text: &[u8], at: usize, hsc1: bool) -> LayerSetElementA
 // Where the element of a set ends.
 fn element_end(text: &[u8], at: usize, element: Element) -> Taken
     requires { ⌜ at ≤ length (now text) ⌝ }
-    ensures { λ r. ⌜ means.told (now (text .entry)) r ≡ means.elementOf element at (drop at (now (text .entry))) ⌝ }
+    ensures { λ r. ⌜ means.endReading (now (text .entry)) r ≡ means.elementOf element at (drop at (now (text .entry))) ⌝ }
 {
     match element {
         Element::Constraint => constraint(text, at),
@@ -124,7 +124,7 @@ fn element_end(text: &[u8], at: usize, element: Element) -> Taken
 // The brace that ends a set.
 fn closing(text: &[u8], at: usize) -> Taken
     requires { ⌜ at ≤ length (now text) ⌝ }
-    ensures { λ r. ⌜ means.told (now (text .entry)) r ≡ means.brace at (drop at (now (text .entry))) ⌝ }
+    ensures { λ r. ⌜ means.endReading (now (text .entry)) r ≡ means.brace at (drop at (now (text .entry))) ⌝ }
 {
     if has(text, at, b'}') {
         Taken::To(at + 1)
@@ -136,7 +136,7 @@ fn closing(text: &[u8], at: usize) -> Taken
 // A set in braces, with commas between its elements.
 fn braces(text: &[u8], at: usize, element: Element) -> Taken
     requires { ⌜ at ≤ length (now text) ⌝ }
-    ensures { λ r. ⌜ means.told (now (text .entry)) r ≡ means.forget (rule.braces (means.elementOf element) at (drop at (now (text .entry)))) ⌝ }
+    ensures { λ r. ⌜ means.endReading (now (text .entry)) r ≡ means.forget (rule.braces (means.elementOf element) at (drop at (now (text .entry)))) ⌝ }
 {
     if has(text, at, b'{') {
         return in_braces(text, at, element);
@@ -148,7 +148,7 @@ fn braces(text: &[u8], at: usize, element: Element) -> Taken
 // After a comma only an element can follow. One loop for the first element and the others, so that `element_end` has one caller.
 fn in_braces(text: &[u8], at: usize, element: Element) -> Taken
     requires { ⌜ (at ≤ length (now text)) × (byteAt (now text) at ≡ 123) ⌝ }
-    ensures { λ r. ⌜ means.told (now (text .entry)) r ≡ means.forget (rule.braces (means.elementOf element) at (drop at (now (text .entry)))) ⌝ }
+    ensures { λ r. ⌜ means.endReading (now (text .entry)) r ≡ means.forget (rule.braces (means.elementOf element) at (drop at (now (text .entry)))) ⌝ }
 {
     // The brace or comma that stands before an element.
     let mut mark = at;
@@ -172,14 +172,14 @@ fn in_braces(text: &[u8], at: usize, element: Element) -> Taken
 
 pub fn constraint_set(text: &[u8], at: usize) -> Taken
     requires { ⌜ at ≤ length (now text) ⌝ }
-    ensures { λ r. ⌜ means.told (now (text .entry)) r ≡ means.forget (rule.constraintSet at (drop at (now (text .entry)))) ⌝ }
+    ensures { λ r. ⌜ means.endReading (now (text .entry)) r ≡ means.forget (rule.constraintSet at (drop at (now (text .entry)))) ⌝ }
 {
     braces(text, at, Element::Constraint)
 }
 
 pub fn layer_set(text: &[u8], at: usize, hsc1: bool) -> Taken
     requires { ⌜ at ≤ length (now text) ⌝ }
-    ensures { λ r. ⌜ means.told (now (text .entry)) r ≡ means.forget (rule.layerSetElements hsc1 at (drop at (now (text .entry)))) ⌝ }
+    ensures { λ r. ⌜ means.endReading (now (text .entry)) r ≡ means.forget (rule.layerSetElements hsc1 at (drop at (now (text .entry)))) ⌝ }
 {
     braces(text, at, Element::Layer(hsc1))
 }

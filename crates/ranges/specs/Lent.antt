@@ -23,13 +23,13 @@ rangesFrom bytes zero k = []
 rangesFrom bytes (suc n) k = rangeAt bytes k ∷ rangesFrom bytes n (suc k)
 
 -- how many an answer says: none where it is a refusal
-abbrev pub counted : Answer → ℕ
-counted r = rule.value (rule.outcome r)
+abbrev pub rangeCount : Answer → ℕ
+rangeCount r = rule.value (rule.outcome r)
 
 -- the answer for a run of `room` ranges, with the ranges that it says as bytes: written over the front of any such run they are the rule's
 pub record Resolved (text tree : List ℕ) (k n : ℕ) (neg : Bool) (room : ℕ) (r : Answer) (bytes : List ℕ) : Type 0 where
-  pub enough : counted r ≤ room
-  pub inside : 4 * counted r ≤ length bytes
+  pub enough : rangeCount r ≤ room
+  pub inside : 4 * rangeCount r ≤ length bytes
   pub same : (zs : List LayerRange) → length zs ≡ room →
-      record { answer = rule.outcome r; buffer = map meaning.range (rangesFrom bytes (counted r) 0 ++ drop (counted r) zs) }
+      record { answer = rule.outcome r; buffer = map meaning.range (rangesFrom bytes (rangeCount r) 0 ++ drop (rangeCount r) zs) }
       ≡ rule.simplify text tree k n neg (map meaning.range zs)

@@ -6,7 +6,7 @@ ghost use Prim.Native.Nat.{_+_, _*_, _≤_};
 ghost use lib.ListN.{length, drop};
 ghost use Rattle.notation.specs.Entries as rule;
 ghost use Rattle.layer.specs.Meaning as meaning;
-ghost use Rattle.ranges.specs.Lent.{rangeAt, rangesFrom, counted, Resolved};
+ghost use Rattle.ranges.specs.Lent.{rangeAt, rangesFrom, rangeCount, Resolved};
 use layer::Layer;
 use layer::LayerRange;
 use notation::answer::Answer;
@@ -65,7 +65,7 @@ fn resolve(
 
 // How many ranges an answer says; a refusal says none.
 fn count(answer: Answer) -> usize
-    ensures { λ r. ⌜ r ≡ counted answer ⌝ }
+    ensures { λ r. ⌜ r ≡ rangeCount answer ⌝ }
 {
     match answer {
         Answer::Value(n) => n as usize,

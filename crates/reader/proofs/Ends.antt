@@ -11,7 +11,7 @@ use Rattle.notation.specs.Entries.{MAX-TEXT}
 use Rattle.notation.specs.Grammar.{Reading, rejected, read, whitespace, multiplier, constraintSet}
 use Rattle.notation.specs.declared.features.Features.{Features}
 use Rattle.charsets.proofs.Runs.{run-length}
-use Rattle.parse.specs.Meaning.{forget, told, multiplierReading, recordReading}
+use Rattle.parse.specs.Meaning.{forget, endReading, multiplierReading, recordReading}
 use Rattle.parse.specs.Meaning as means
 use Rattle.parse.specs.declared.parts.Multiplied.{Multiplied}
 use Rattle.parse.specs.declared.parts.LeafAnswer.{LeafAnswer}
@@ -43,7 +43,7 @@ leaf-moves f r a n inside e w c =
     (ap (moved r) (c ∙ (leaf-end (text r) (r .at) a ∙ ap (endOf (r .at)) e)), omega (arith, c, leaf-inside (text r) (r .at) a inside w))
 
 -- The same of a set's answer, which tells the end alone.
-set-end : (s : List ℕ) (at : ℕ) (a : Taken) → afterSet at a ≡ endOf at (told s a)
+set-end : (s : List ℕ) (at : ℕ) (a : Taken) → afterSet at a ≡ endOf at (endReading s a)
 set-end s at taken.Nothing = refl
 set-end s at (taken.To next) = refl
 
@@ -51,11 +51,11 @@ end-forget : {A : Type 0} (at : ℕ) (x : Reading A) → endOf at (forget x) ≡
 end-forget at rejected = refl
 end-forget at (read a next rest) = refl
 
-set-inside : (r : Reader) (a : Taken) → Inside r → told (text r) a ≡ forget (reads constraintSet r) → afterSet (r .at) a ≤ length (text r)
+set-inside : (r : Reader) (a : Taken) → Inside r → endReading (text r) a ≡ forget (reads constraintSet r) → afterSet (r .at) a ≤ length (text r)
 set-inside r taken.Nothing h e = h
 set-inside r (taken.To next) h e = within (text r) (r .at) (takes-forget takes-constraintSet) h e .1
 
-pub set-moves : (r : Reader) (a : Taken) (n : ℕ) → Inside r → told (text r) a ≡ forget (reads constraintSet r) → n ≡ afterSet (r .at) a → Moves constraintSet r (moved r n)
+pub set-moves : (r : Reader) (a : Taken) (n : ℕ) → Inside r → endReading (text r) a ≡ forget (reads constraintSet r) → n ≡ afterSet (r .at) a → Moves constraintSet r (moved r n)
 set-moves r a n inside e c =
     (ap (moved r) (c ∙ (set-end (text r) (r .at) a ∙ (ap (endOf (r .at)) e ∙ end-forget (r .at) (reads constraintSet r)))), omega (arith, c, set-inside r a inside e))
 

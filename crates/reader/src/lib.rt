@@ -76,7 +76,7 @@ impl<'a> Reader<'a> {
     // A set of constraints: where it ends.
     pub fn constraint_set(&mut self) -> Taken
         requires { ⌜ cursor.Inside (now self) ⌝ }
-        ensures { λ r. ⌜ (means.told (cursor.text (now (self .entry))) r ≡ means.forget (cursor.reads rule.constraintSet (now (self .entry)))) × cursor.Moves rule.constraintSet (now (self .entry)) (now (self .exit)) ⌝ }
+        ensures { λ r. ⌜ (means.endReading (cursor.text (now (self .entry))) r ≡ means.forget (cursor.reads rule.constraintSet (now (self .entry)))) × cursor.Moves rule.constraintSet (now (self .entry)) (now (self .exit)) ⌝ }
     {
         let answer = parse::constraint_set(self.text, self.at);
         self.at = after_set(answer, self.at);

@@ -18,7 +18,7 @@ use Rattle.notation.specs.WellFormed.{isSome}
 use Rattle.notation.specs.Entries.{checked, recordAt, prefixOf, rangesIn, layerRanges}
 use Rattle.layer.specs.Meaning.{RangeUpTo}
 use Rattle.laws.proofs.Bools.{false-true, and-left, and-right}
-use Rattle.laws.proofs.Outcomes.{same-result, after, held}
+use Rattle.laws.proofs.Outcomes.{same-result, after, test-holds}
 use Rattle.laws.proofs.InRange.{elementInRange}
 use Rattle.laws.proofs.Readers.{anywhere}
 use Rattle.laws.proofs.ReadingYields.{yields-element, yields-braces}
@@ -90,6 +90,6 @@ few text tree k n neg l e =
     let b = after (unless NO-SUCH-LAYER-COUNT (between 1 MAX-LAYER n)) (c .2) in
     let h = after (recordAt tree k) (b .2) in
     let p = after (prefixOf (h .0)) (h .2) in
-    let real = held NO-SUCH-LAYER-COUNT (between 1 MAX-LAYER n) (b .1) in
+    let real = test-holds NO-SUCH-LAYER-COUNT (between 1 MAX-LAYER n) (b .1) in
     subst Few (same-result (p .2))
     (few-lit text n neg (p .0 .0) (p .0 .1) (leb-true 1 n (and-left _ (leb n MAX-LAYER) real)) (leb-true n MAX-LAYER (and-right (leb 1 n) _ real)))

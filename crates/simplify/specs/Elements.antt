@@ -35,5 +35,5 @@ abbrev pub litSet : ℕ → Bool → (inverted : Bool) → List ℕ → List Ran
 litSet n neg inverted part = lit n inverted (setRanges n neg (orEmpty (layerSetIn part)))
 
 -- the answer for some ranges: simplified, and lent as entries of four bytes
-abbrev pub Gives : List Range → Answer → List ℕ → List ℕ → Type 0
-Gives l answer after before = lent answer after ≡ inEntries 4 (lend (result (rangeBytes (simplified l))) before)
+abbrev pub GivesRanges : List Range → Answer → List ℕ → List ℕ → Type 0
+GivesRanges l answer after before = lent answer after ≡ inEntries 4 (lend (result (rangeBytes (simplified l))) before)

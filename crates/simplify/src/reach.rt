@@ -25,7 +25,7 @@ pub fn mark(reach: &mut [u16], range: LayerRange)
 }
 
 // Turns the table over: each layer that no range has becomes a range of its own, and no other layer begins one.
-pub fn invert(reach: &mut [u16])
+pub fn turn_over(reach: &mut [u16])
     requires { ⌜ length (now reach) ≤ 65536 ⌝ }
     ensures { λ _. ⌜ now (reach .exit) ≡ table.turnedOver 0 0 (now (reach .entry)) ⌝ }
 {

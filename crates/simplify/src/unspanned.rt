@@ -15,12 +15,12 @@ ghost use Rattle.notation.specs.WellFormed.{isSome, layersOk};
 ghost use Rattle.notation.specs.Entries.{rangesIn};
 ghost use Rattle.layer.specs.Meaning as meaning;
 ghost use Rattle.record.specs.Meaning as record′;
-ghost use Rattle.parse.specs.Meaning.{layerSetElementOf, told};
+ghost use Rattle.parse.specs.Meaning.{layerSetElementOf, endReading};
 ghost use Rattle.simplify.specs.Reach as table;
 ghost use Rattle.simplify.specs.Elements as elements;
 use crate::around::simplify_around;
 use crate::reach::count_runs;
-use crate::reach::invert;
+use crate::reach::turn_over;
 use crate::reach::mark;
 use crate::reach::write_range;
 use crate::reach::write_runs;
@@ -90,7 +90,7 @@ fn mark_element(reach: &mut [u16], axis: AxisLayersInfo, element: LayerSetElemen
 // Where the next element of a set starts, if a comma follows.
 fn after_comma(part: &[u8], at: usize) -> Taken
     requires { ⌜ at ≤ length (now part) ⌝ }
-    ensures { λ r. ⌜ told (now (part .entry)) r ≡ padded (just ",") at (drop at (now (part .entry))) ⌝ }
+    ensures { λ r. ⌜ endReading (now (part .entry)) r ≡ padded (just ",") at (drop at (now (part .entry))) ⌝ }
 {
     let comma = whitespace_end(part, at);
     if comma < part.len() {
@@ -130,7 +130,7 @@ fn gather_set(part: &[u8], axis: AxisLayersInfo, inverted: bool, reach: &mut [u1
 {
     mark_set(part, axis, reach);
     if inverted {
-        invert(reach);
+        turn_over(reach);
     }
 }
 
@@ -139,7 +139,7 @@ fn simplify_set(part: &[u8], axis: AxisLayersInfo, inverted: bool, reach: &mut [
     requires { ⌜ meaning.IsLayer (axis .«max_layer») ⌝ }
     requires { ⌜ now reach ≡ replicate (axis .«max_layer» + 1) 0 ⌝ }
     requires { ⌜ isSome (layerSetIn (now part)) ≡ true ⌝ }
-    ensures { λ r. ⌜ elements.Gives (elements.litSet (axis .«max_layer») (axis .«allow_negatives») inverted (now (part .entry))) r (now (out .exit)) (now (out .entry)) ⌝ }
+    ensures { λ r. ⌜ elements.GivesRanges (elements.litSet (axis .«max_layer») (axis .«allow_negatives») inverted (now (part .entry))) r (now (out .exit)) (now (out .entry)) ⌝ }
 {
     gather_set(part, axis, inverted, reach);
     let runs = count_runs(reach);
@@ -154,7 +154,7 @@ fn simplify_set(part: &[u8], axis: AxisLayersInfo, inverted: bool, reach: &mut [
 fn simplify_set_of_few(part: &[u8], axis: AxisLayersInfo, inverted: bool, out: &mut [u8]) -> Answer
     requires { ⌜ (1 ≤ axis .«max_layer») × (axis .«max_layer» < 128) ⌝ }
     requires { ⌜ isSome (layerSetIn (now part)) ≡ true ⌝ }
-    ensures { λ r. ⌜ elements.Gives (elements.litSet (axis .«max_layer») (axis .«allow_negatives») inverted (now (part .entry))) r (now (out .exit)) (now (out .entry)) ⌝ }
+    ensures { λ r. ⌜ elements.GivesRanges (elements.litSet (axis .«max_layer») (axis .«allow_negatives») inverted (now (part .entry))) r (now (out .exit)) (now (out .entry)) ⌝ }
 {
     let mut reach = [0u16; 128];
     let layers = axis.max_layer as usize + 1;
@@ -165,7 +165,7 @@ fn simplify_set_of_few(part: &[u8], axis: AxisLayersInfo, inverted: bool, out: &
 fn simplify_set_of_many(part: &[u8], axis: AxisLayersInfo, inverted: bool, out: &mut [u8]) -> Answer
     requires { ⌜ meaning.IsLayer (axis .«max_layer») ⌝ }
     requires { ⌜ isSome (layerSetIn (now part)) ≡ true ⌝ }
-    ensures { λ r. ⌜ elements.Gives (elements.litSet (axis .«max_layer») (axis .«allow_negatives») inverted (now (part .entry))) r (now (out .exit)) (now (out .entry)) ⌝ }
+    ensures { λ r. ⌜ elements.GivesRanges (elements.litSet (axis .«max_layer») (axis .«allow_negatives») inverted (now (part .entry))) r (now (out .exit)) (now (out .entry)) ⌝ }
 {
     let mut reach = [0u16; 32768];
     let layers = axis.max_layer as usize + 1;
@@ -175,7 +175,7 @@ fn simplify_set_of_many(part: &[u8], axis: AxisLayersInfo, inverted: bool, out: 
 // The ranges of a prefix that is no set: the layers from `low` to `high` as far as the axis has them.
 fn simplify_range(low: u16, high: u16, max_layer: u16, out: &mut [u8]) -> Answer
     requires { ⌜ meaning.IsRange (table.rangeFrom low high) ⌝ }
-    ensures { λ r. ⌜ elements.Gives (rule.keep (rule.clampToLayerCount «max_layer» (table.rangeFrom low high)) []) r (now (out .exit)) (now (out .entry)) ⌝ }
+    ensures { λ r. ⌜ elements.GivesRanges (rule.keep (rule.clampToLayerCount «max_layer» (table.rangeFrom low high)) []) r (now (out .exit)) (now (out .entry)) ⌝ }
 {
     let range = LayerRange {
         min: Layer(low),
@@ -195,7 +195,7 @@ fn simplify_range(low: u16, high: u16, max_layer: u16, out: &mut [u8]) -> Answer
 fn simplify_no_set(low: u16, high: u16, inverted: bool, max_layer: u16, out: &mut [u8]) -> Answer
     requires { ⌜ meaning.IsRange (table.rangeFrom low high) ⌝ }
     requires { ⌜ meaning.IsLayer «max_layer» ⌝ }
-    ensures { λ r. ⌜ elements.Gives (rule.lit «max_layer» inverted (rule.keep (rule.clampToLayerCount «max_layer» (table.rangeFrom low high)) [])) r (now (out .exit)) (now (out .entry)) ⌝ }
+    ensures { λ r. ⌜ elements.GivesRanges (rule.lit «max_layer» inverted (rule.keep (rule.clampToLayerCount «max_layer» (table.rangeFrom low high)) [])) r (now (out .exit)) (now (out .entry)) ⌝ }
 {
     if inverted {
         simplify_around(low, high, max_layer, out)
@@ -217,7 +217,7 @@ pub fn simplify(
     requires { ⌜ meaning.IsLayer «max_layer» ⌝ }
     requires { ⌜ length (now text) ≤ MAX-TEXT ⌝ }
     requires { ⌜ layersOk (now text) (record′.layers layers) ≡ true ⌝ }
-    ensures { λ r. ⌜ elements.Gives (rule.lit «max_layer» inverted (rangesIn (now (text .entry)) «max_layer» «allow_negatives» (record′.layers layers))) r (now (out .exit)) (now (out .entry)) ⌝ }
+    ensures { λ r. ⌜ elements.GivesRanges (rule.lit «max_layer» inverted (rangesIn (now (text .entry)) «max_layer» «allow_negatives» (record′.layers layers))) r (now (out .exit)) (now (out .entry)) ⌝ }
 {
     match layers {
         LayerPrefixContents::None => simplify_no_set(1, 1, inverted, max_layer, out),

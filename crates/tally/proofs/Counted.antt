@@ -10,16 +10,16 @@ use lib.IntN.{ℤ, natAbs}
 use lib.ListN.{getD, set}
 use Rattle.notation.specs.Basics.{pick}
 use Rattle.notation.specs.Numbers.{fromBits}
-use Rattle.notation.specs.Counts.{HELD, hold}
+use Rattle.notation.specs.Counts.{CAP, cap}
 use Rattle.record.specs.Meaning.{field}
-use Rattle.counts.specs.Held.{inside, groupCount}
-use Rattle.tally.specs.Tallies.{kindAt, counted, added, Held}
-use Rattle.tally.proofs.Passes.{held-set}
+use Rattle.counts.specs.Groups.{contents, groupCount}
+use Rattle.tally.specs.Tallies.{kindAt, ownCount, added, Capped}
+use Rattle.tally.proofs.Passes.{capped-set}
 
-group-most : (k : ℕ) (m : ℤ) (a b : ℕ) → groupCount k m a b ≤ HELD
+group-most : (k : ℕ) (m : ℤ) (a b : ℕ) → groupCount k m a b ≤ CAP
 group-most k m a b = go (eqb k 3)
   where
-    go : (t : Bool) → pick t 0 (hold (natAbs m * hold (inside k a b))) ≤ HELD
+    go : (t : Bool) → pick t 0 (cap (natAbs m * cap (contents k a b))) ≤ CAP
     go true = omega arith
     go false = omega arith
 
@@ -29,25 +29,25 @@ module _ (r sums : List ℕ) {n k : ℕ} (e : n ≡ field 11 r) (f : k ≡ kindA
     group-test : ltb (kindAt r) 6 ≡ true
     group-test = lt-ltb (kindAt r) 6 (omega arith)
 
-    pub group-fits : Held sums → getD freed (n % 256) 0 + c < 2 ^ 64
+    pub group-fits : Capped sums → getD freed (n % 256) 0 + c < 2 ^ 64
     group-fits h =
         let start = set sums (n % 256 + 2) 0 in
-        let held : Held freed = rw s (held-set start (n % 256 + 1) 0 (held-set sums (n % 256 + 2) 0 h (omega arith)) (omega arith)) in
+        let capped : Capped freed = rw s (capped-set start (n % 256 + 1) 0 (capped-set sums (n % 256 + 2) 0 h (omega arith)) (omega arith)) in
         let most = group-most (kindAt r) (fromBits 32 (field 3 r)) (getD sums (n % 256 + 2) 0) (getD sums (n % 256 + 1) 0) in
-        omega (arith, held (n % 256), is, most)
+        omega (arith, capped (n % 256), is, most)
 
-    pub group-counts : c ≡ counted r sums
+    pub group-counts : c ≡ ownCount r sums
     group-counts = rw (group-test, ← e) is
 
-    pub group-adds : (v : ℕ) → v ≡ hold (getD freed (n % 256) 0 + c) → set freed (n % 256) v ≡ added r sums
+    pub group-adds : (v : ℕ) → v ≡ cap (getD freed (n % 256) 0 + c) → set freed (n % 256) v ≡ added r sums
     group-adds v q = rw (q, is, s, group-test, ← e)
 
   module _ (high : 6 ≤ k) where
     leaf-test : ltb (kindAt r) 6 ≡ false
     leaf-test = le-ltb (kindAt r) 6 (omega arith)
 
-    pub leaf-counts : 1 ≡ counted r sums
+    pub leaf-counts : 1 ≡ ownCount r sums
     leaf-counts = rw leaf-test
 
-    pub leaf-adds : (v : ℕ) → v ≡ hold (getD sums (n % 256) 0 + 1) → set sums (n % 256) v ≡ added r sums
+    pub leaf-adds : (v : ℕ) → v ≡ cap (getD sums (n % 256) 0 + 1) → set sums (n % 256) v ≡ added r sums
     leaf-adds v q = rw (q, leaf-test, ← e)

@@ -10,9 +10,9 @@ use Rattle.notation.specs.Tree.{Tree}
 use Rattle.notation.specs.Packed.{RECORD, widths, size, pack}
 use Rattle.notation.specs.Numbers.{bigEndian}
 use Rattle.record.specs.Meaning.{start as fieldStart, withField}
-use Rattle.tally.specs.Tallies.{tallyList, Tallied, counted, added, Held, Open}
+use Rattle.tally.specs.Tallies.{tallyList, Tallied, ownCount, added, Capped, Open}
 use Rattle.tally.proofs.Sizes.{length-tallyList}
-use Rattle.tally.proofs.Passes.{Pass, start, step, passed, tree-passed, held-passed}
+use Rattle.tally.proofs.Passes.{Pass, start, step, passed, tree-passed, capped-passed}
 use Rattle.tally.proofs.Room.{open-at, list-open}
 
 -- `left` records are to be filled in and `filled` have been; what was there before is old
@@ -85,10 +85,10 @@ module _ (old : List ℕ) (t : Tree) (tallied : Tallied t old) where
         let n : size t ≡ f .left - 1 + suc (f .filled) = omega (arith, records, f .whole, f .place) in
         rw (own-is, ← i, tallied .bytes) (open-at (f .left - 1) (f .filled) (tallyList 0 t) (rw n at (list-open t 0 (tallied .fits) (omega (arith, tallied .deep)))))
 
-    pub sums-held : Held sums
-    sums-held = rw (f .sum) (held-passed (f .filled) (drop at old))
+    pub sums-capped : Capped sums
+    sums-capped = rw (f .sum) (capped-passed (f .filled) (drop at old))
 
-    pub filling-on : (part further : List ℕ) → part ≡ withField 11 (counted own sums) own → further ≡ added own sums →
+    pub filling-on : (part further : List ℕ) → part ≡ withField 11 (ownCount own sums) own → further ≡ added own sums →
         Filling old (putMid next (next + RECORD - next) new part) further next
     filling-on part further p q =
         let a : at ≤ length old = omega (arith, f .place, f .whole) in
@@ -101,7 +101,7 @@ module _ (old : List ℕ) (t : Tree) (tallied : Tallied t old) where
           filled = suc (f .filled);
           place = omega (arith, f .place);
           whole = omega (arith, f .whole, f .place);
-          long = same-len-mid next (next + RECORD - next) new part (ap (λ (l : List ℕ). length l) p ∙ length-sets own (fieldStart widths 11) (bigEndian 5 (counted own sums))) ∙ f .long;
+          long = same-len-mid next (next + RECORD - next) new part (ap (λ (l : List ℕ). length l) p ∙ length-sets own (fieldStart widths 11) (bigEndian 5 (ownCount own sums))) ∙ f .long;
           before = take-put next (next + RECORD - next) new part (omega (arith, f .long)) ∙ kept;
           behind =
               drop-at (take next new) (part ++ postOf next (next + RECORD - next) new) next (length-take-le next new (omega (arith, f .long)))

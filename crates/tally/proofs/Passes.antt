@@ -10,13 +10,13 @@ use lib.ListN.{length, getD, take, drop, set, replicate, length-set, length-drop
 use lib.Seq.{take-all, take-append-le, drop-append-le, set-set, set-comm, set-getD, getD-set-same, getD-set-other}
 use Rattle.notation.specs.Tree.{Leaf, Node, leaf, block, Body, group, binaryGroup, nil, cons, Tree}
 use Rattle.notation.specs.Packed.{RECORD, bodyHead, headRecord, nodeSize, bodySize, size, packNode, packBody, pack}
-use Rattle.notation.specs.Counts.{HELD, hold, countNode, count, stored}
+use Rattle.notation.specs.Counts.{CAP, cap, countNode, count, stored}
 use Rattle.notation.specs.Basics.{pick}
 use Rattle.notation.specs.WellFormed.{MAX-NESTING, nodeDepth, bodyDepth, depth}
 use Rattle.laws.proofs.Packing.{FitsNode, FitsBody, FitsTree}
 use Rattle.laws.proofs.Walking.{nodeHead, node-head-fits}
 use Rattle.record.specs.Meaning.{withField}
-use Rattle.tally.specs.Tallies.{TALLIES, tallyRecord, tallyNode, tallyBody, tallyList, tallyAt, kindAt, counted, freed, added, Held}
+use Rattle.tally.specs.Tallies.{TALLIES, tallyRecord, tallyNode, tallyBody, tallyList, tallyAt, kindAt, ownCount, freed, added, Capped}
 use Rattle.tally.proofs.Sizes.{length-tallyRecord, length-tallyNode, length-tallyList}
 use Rattle.tally.proofs.Records.{tally-is, filled, firstCount, secondCount, leaf-counted, leaf-freed, group-counted, group-freed}
 
@@ -30,7 +30,7 @@ pass sums done = record { sums = sums; done = done }
 
 -- one record more in front
 abbrev pub step : List ℕ → Pass → Pass
-step r p = record { sums = added r (p .sums); done = withField 11 (counted r (p .sums)) r ++ p .done }
+step r p = record { sums = added r (p .sums); done = withField 11 (ownCount r (p .sums)) r ++ p .done }
 
 -- k records, the last of them first
 abbrev pub passed : ℕ → List ℕ → Pass → Pass
@@ -47,12 +47,12 @@ passed-append (suc j) k xs ys p e =
 
 -- c steps more in the list with tally h, whose records bs are done
 abbrev plus : ℕ → ℕ → List ℕ → Pass → Pass
-plus h c bs p = pass (set (p .sums) h (hold (getD (p .sums) h 0 + c))) (bs ++ p .done)
+plus h c bs p = pass (set (p .sums) h (cap (getD (p .sums) h 0 + c))) (bs ++ p .done)
 
 -- Where a list with tally h may be passed: the lists in it have tallies above, which are free.
 record Ready (h : ℕ) (sums : List ℕ) : Type 0 where
   long : length sums ≡ TALLIES
-  held : getD sums h 0 ≤ HELD
+  capped : getD sums h 0 ≤ CAP
   free : (j : ℕ) → h < j → getD sums j 0 ≡ 0
 
 -- the record of a node, the sums being those of what lies behind it
@@ -60,20 +60,20 @@ module _ (h : ℕ) (n : Node Leaf) (small : h < 256) (fits : FitsNode n) (p : Pa
   abbrev own : List ℕ
   own = tallyRecord h (nodeHead n)
 
-  node-step : counted own (p .sums) ≡ stored n → freed own (p .sums) ≡ sums → passed 1 own p ≡ plus h (countNode n) (headRecord (nodeHead n)) (pass sums (p .done))
+  node-step : ownCount own (p .sums) ≡ stored n → freed own (p .sums) ≡ sums → passed 1 own p ≡ plus h (countNode n) (headRecord (nodeHead n)) (pass sums (p .done))
   node-step c f =
       let whole : take RECORD own ≡ own = take-all RECORD own (omega (arith, length-tallyRecord h (nodeHead n))) in
-      let more : hold (getD sums h 0 + stored n) ≡ hold (getD sums h 0 + countNode n) = omega arith in
+      let more : cap (getD sums h 0 + stored n) ≡ cap (getD sums h 0 + countNode n) = omega arith in
       let place = tally-is h (nodeHead n) small (node-head-fits n fits) in
       ap (λ (r : List ℕ). step r p) whole
       ∙ rw (c, f, place, more, filled h n)
 
 module _ {h : ℕ} {sums : List ℕ} (ready : Ready h sums) where
-  ready-set : (v : ℕ) → v ≤ HELD → h < TALLIES → Ready h (set sums h v)
+  ready-set : (v : ℕ) → v ≤ CAP → h < TALLIES → Ready h (set sums h v)
   ready-set v l i =
       record {
         long = length-set sums h v ∙ ready .long;
-        held = rw (getD-set-same sums h v 0 (omega (arith, ready .long))) l;
+        capped = rw (getD-set-same sums h v 0 (omega (arith, ready .long))) l;
         free = λ j k. getD-set-other sums h j v 0 (λ e. omega arith) ∙ ready .free j k;
       }
 
@@ -81,22 +81,22 @@ module _ {h : ℕ} {sums : List ℕ} (ready : Ready h sums) where
   ready-above j l =
       record {
         long = ready .long;
-        held = rw (ready .free j l) (omega arith);
+        capped = rw (ready .free j l) (omega arith);
         free = λ i k. ready .free i (omega arith);
       }
 
-plus-none : (h : ℕ) (p : Pass) → getD (p .sums) h 0 ≤ HELD → plus h 0 [] p ≡ p
+plus-none : (h : ℕ) (p : Pass) → getD (p .sums) h 0 ≤ CAP → plus h 0 [] p ≡ p
 plus-none h p l =
-    let same : hold (getD (p .sums) h 0 + 0) ≡ getD (p .sums) h 0 = omega arith in
+    let same : cap (getD (p .sums) h 0 + 0) ≡ getD (p .sums) h 0 = omega arith in
     ap (λ (s : List ℕ). pass s (p .done)) (ap (set (p .sums) h) same ∙ set-getD (p .sums) h 0)
 
 plus-plus : (h c d : ℕ) (xs ys : List ℕ) (p : Pass) → h < length (p .sums) → plus h c xs (plus h d ys p) ≡ plus h (c + d) (xs ++ ys) p
 plus-plus h c d xs ys p l =
     let s = p .sums in
-    let v = hold (getD s h 0 + d) in
-    let both : hold (v + c) ≡ hold (getD s h 0 + (c + d)) = omega arith in
+    let v = cap (getD s h 0 + d) in
+    let both : cap (v + c) ≡ cap (getD s h 0 + (c + d)) = omega arith in
     ap₂ (λ (s bs : List ℕ). pass s bs)
-    (ap (λ (g : ℕ). set (set s h v) h (hold (g + c))) (getD-set-same s h v 0 l) ∙ set-set s h v (hold (v + c)) ∙ ap (set s h) both)
+    (ap (λ (g : ℕ). set (set s h v) h (cap (g + c))) (getD-set-same s h v 0 l) ∙ set-set s h v (cap (v + c)) ∙ ap (set s h) both)
     (sym (append-assoc xs ys (p .done)))
 
 set-free : (s : List ℕ) (j : ℕ) → getD s j 0 ≡ 0 → set s j 0 ≡ s
@@ -106,8 +106,8 @@ set-free s j e = ap (set s j) (sym e) ∙ set-getD s j 0
 record BodyPassed (h : ℕ) (b : Body Leaf) (p : Pass) : Type 0 where
   sums : List ℕ
   is : passed (bodySize b) (tallyBody h b) p ≡ pass sums (packBody b ++ p .done)
-  first : getD sums (h + 2) 0 ≡ hold (firstCount b)
-  second : getD sums (h + 1) 0 ≡ hold (secondCount b)
+  first : getD sums (h + 2) 0 ≡ cap (firstCount b)
+  second : getD sums (h + 1) 0 ≡ cap (secondCount b)
   freed : set (set sums (h + 2) 0) (h + 1) 0 ≡ p .sums
 
 module _ {h : ℕ} {s : List ℕ} (ready : Ready h s) (room : h + 2 < TALLIES) where
@@ -128,11 +128,11 @@ mutual
   unfolding nodeSize bodySize size tallyNode tallyBody tallyList packNode packBody pack FitsNode FitsBody FitsTree nodeDepth bodyDepth depth count
   list-passed : (t : Tree) (h : ℕ) → FitsTree t → h + 2 * depth t < TALLIES → (p : Pass) → Ready h (p .sums) →
       passed (size t) (tallyList h t) p ≡ plus h (count t) (pack t) p
-  list-passed nil h f d p r = sym (plus-none h p (r .held))
+  list-passed nil h f d p r = sym (plus-none h p (r .capped))
   list-passed (cons n l) h f d p r =
       passed-append (nodeSize n) (size l) (tallyNode h n) (tallyList h l) p (length-tallyNode h n)
       ∙ ap (passed (nodeSize n) (tallyNode h n)) (list-passed l h (f .1) (omega arith) p r)
-      ∙ node-passed n h (f .0) (omega arith) (plus h (count l) (pack l) p) (ready-set r (hold (getD (p .sums) h 0 + count l)) (omega arith) (omega arith))
+      ∙ node-passed n h (f .0) (omega arith) (plus h (count l) (pack l) p) (ready-set r (cap (getD (p .sums) h 0 + count l)) (omega arith) (omega arith))
       ∙ plus-plus h (countNode n) (count l) (packNode n) (pack l) p (omega (arith, r .long))
 
   node-passed : (n : Node Leaf) (h : ℕ) → FitsNode n → h + 2 * nodeDepth n < TALLIES → (p : Pass) → Ready h (p .sums) →
@@ -146,12 +146,12 @@ mutual
       ∙ ap (passed 1 (tallyRecord h (bodyHead b m))) (inner .is)
       ∙ node-step h (block b m) (omega arith) f (pass s (packBody b ++ p .done)) (p .sums)
       (group-counted h (omega arith) s b m (f .0) (inner .first) (inner .second)) (group-freed h (omega arith) s b m (f .0) ∙ inner .freed)
-      ∙ ap (pass (set (p .sums) h (hold (getD (p .sums) h 0 + countNode (block b m))))) (sym (append-assoc (headRecord (bodyHead b m)) (packBody b) (p .done)))
+      ∙ ap (pass (set (p .sums) h (cap (getD (p .sums) h 0 + countNode (block b m))))) (sym (append-assoc (headRecord (bodyHead b m)) (packBody b) (p .done)))
 
   body-passed : (b : Body Leaf) (h : ℕ) → FitsBody b → h + 2 * suc (bodyDepth b) < TALLIES → (p : Pass) → Ready h (p .sums) → BodyPassed h b p
   body-passed (group k a) h f d p r =
       let s = p .sums in
-      let v = hold (getD s (h + 2) 0 + count a) in
+      let v = cap (getD s (h + 2) 0 + count a) in
       record {
         sums = set s (h + 2) v;
         is = list-passed a (h + 2) f (omega arith) p (ready-above r (h + 2) (omega arith));
@@ -161,8 +161,8 @@ mutual
       }
   body-passed (binaryGroup k a b) h f d p r =
       let s = p .sums in
-      let w = hold (getD s (h + 1) 0 + count b) in
-      let v = hold (getD (set s (h + 1) w) (h + 2) 0 + count a) in
+      let w = cap (getD s (h + 1) 0 + count b) in
+      let v = cap (getD (set s (h + 1) w) (h + 2) 0 + count a) in
       let kept = getD-set-other s (h + 1) (h + 2) w 0 (λ e. omega arith) in
       let behind = ready-set (ready-above r (h + 1) (omega arith)) w (omega arith) (omega arith) in
       record {
@@ -196,27 +196,27 @@ pub tree-passed : (t : Tree) → FitsTree t → depth t ≤ MAX-NESTING → pass
 tree-passed t f d =
     ap (λ (p : Pass). p .done)
     (list-passed t 0 f (omega arith) start
-    (record { long = length-replicate {0} {A = ℕ} TALLIES 0; held = omega (arith, none-yet TALLIES 0); free = λ j _. none-yet TALLIES j }))
+    (record { long = length-replicate {0} {A = ℕ} TALLIES 0; capped = omega (arith, none-yet TALLIES 0); free = λ j _. none-yet TALLIES j }))
     ∙ append-nil (pack t)
 
 -- No sum is above the greatest count.
-pub held-set : (s : List ℕ) (i v : ℕ) → Held s → v ≤ HELD → Held (set s i v)
-held-set [] i v h l j = h j
-held-set (x ∷ s) zero v h l zero = l
-held-set (x ∷ s) zero v h l (suc j) = h (suc j)
-held-set (x ∷ s) (suc i) v h l zero = h zero
-held-set (x ∷ s) (suc i) v h l (suc j) = held-set s i v (λ k. h (suc k)) l j
+pub capped-set : (s : List ℕ) (i v : ℕ) → Capped s → v ≤ CAP → Capped (set s i v)
+capped-set [] i v h l j = h j
+capped-set (x ∷ s) zero v h l zero = l
+capped-set (x ∷ s) zero v h l (suc j) = h (suc j)
+capped-set (x ∷ s) (suc i) v h l zero = h zero
+capped-set (x ∷ s) (suc i) v h l (suc j) = capped-set s i v (λ k. h (suc k)) l j
 
-held-freed : (r s : List ℕ) → Held s → Held (freed r s)
-held-freed r s h = go (ltb (kindAt r) 6)
+capped-freed : (r s : List ℕ) → Capped s → Capped (freed r s)
+capped-freed r s h = go (ltb (kindAt r) 6)
   where
-    go : (b : Bool) → Held (pick b (set (set s (tallyAt r + 2) 0) (tallyAt r + 1) 0) s)
+    go : (b : Bool) → Capped (pick b (set (set s (tallyAt r + 2) 0) (tallyAt r + 1) 0) s)
     go false = h
-    go true = held-set (set s (tallyAt r + 2) 0) (tallyAt r + 1) 0 (held-set s (tallyAt r + 2) 0 h (omega arith)) (omega arith)
+    go true = capped-set (set s (tallyAt r + 2) 0) (tallyAt r + 1) 0 (capped-set s (tallyAt r + 2) 0 h (omega arith)) (omega arith)
 
-pub held-passed : (k : ℕ) (bs : List ℕ) → Held (passed k bs start .sums)
-held-passed zero bs = λ j. omega (arith, none-yet TALLIES j)
-held-passed (suc k) bs =
+pub capped-passed : (k : ℕ) (bs : List ℕ) → Capped (passed k bs start .sums)
+capped-passed zero bs = λ j. omega (arith, none-yet TALLIES j)
+capped-passed (suc k) bs =
     let r = take RECORD bs in
     let s = passed k (drop RECORD bs) start .sums in
-    held-set (freed r s) (tallyAt r) (hold (getD (freed r s) (tallyAt r) 0 + counted r s)) (held-freed r s (held-passed k (drop RECORD bs))) (omega arith)
+    capped-set (freed r s) (tallyAt r) (cap (getD (freed r s) (tallyAt r) 0 + ownCount r s)) (capped-freed r s (capped-passed k (drop RECORD bs))) (omega arith)

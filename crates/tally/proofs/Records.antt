@@ -12,9 +12,9 @@ use lib.Seq.{take-all, set-set, set-getD, getD-set-same, getD-set-other}
 use Rattle.notation.specs.Numbers.{fromBits}
 use Rattle.notation.specs.Tree.{Leaf, Node, leaf, block, Body, group, binaryGroup}
 use Rattle.notation.specs.Packed.{RECORD, widths, layOut, cut, Head, leafHead, headFields, bodyHead, headRecord, groupNumber, binaryNumber}
-use Rattle.notation.specs.Counts.{hold, countNode, count, stored}
-use Rattle.counts.specs.Held.{groupCount}
-use Rattle.counts.proofs.Held.{group-stored, binary-stored}
+use Rattle.notation.specs.Counts.{cap, countNode, count, stored}
+use Rattle.counts.specs.Groups.{groupCount}
+use Rattle.counts.proofs.Capped.{group-stored, binary-stored}
 use Rattle.numbers.proofs.TwosComplement.{fromBits-toBits}
 use Rattle.laws.proofs.Walking.{nodeHead, head-stored}
 use Rattle.nodes.proofs.Nodes.{leaf-kind, group-kind, binary-kind}
@@ -24,7 +24,7 @@ use Rattle.record.proofs.Cut.{Fits, none as no-field, one as and-field, cut-lay
 use Rattle.record.proofs.Numbered.{kindOf, kind-field}
 use Rattle.record.proofs.RoundTrip.{length-headFields, headFields-fit}
 use Rattle.record.proofs.Storing.{store-field}
-use Rattle.tally.specs.Tallies.{tallyRecord, tallyAt, kindAt, counted, freed}
+use Rattle.tally.specs.Tallies.{tallyRecord, tallyAt, kindAt, ownCount, freed}
 use Rattle.tally.proofs.Sizes.{length-tallyRecord}
 
 fits-set : {ws fs : List ℕ} → Fits ws fs → (i n : ℕ) → n < 256 ^ getD ws i 0 → Fits ws (set fs i n)
@@ -61,10 +61,10 @@ body-kind (group k a) m = omega (arith, group-kind k)
 body-kind (binaryGroup k a b) m = binary-kind k .1
 
 by-body : (b : Body Leaf) (m : ℤ) → FitsHead (bodyHead b m) →
-    groupCount (kindOf (bodyHead b m)) (fromBits 32 (getD (headFields (bodyHead b m)) 3 0)) (hold (firstCount b)) (hold (secondCount b)) ≡ stored (block b m)
-by-body (group k a) m f = ap (λ (z : ℤ). groupCount (groupNumber k) z (hold (count a)) (hold 0)) (fromBits-toBits 32 m (lit< tt) (f .1)) ∙ group-stored k a m (hold 0)
+    groupCount (kindOf (bodyHead b m)) (fromBits 32 (getD (headFields (bodyHead b m)) 3 0)) (cap (firstCount b)) (cap (secondCount b)) ≡ stored (block b m)
+by-body (group k a) m f = ap (λ (z : ℤ). groupCount (groupNumber k) z (cap (count a)) (cap 0)) (fromBits-toBits 32 m (lit< tt) (f .1)) ∙ group-stored k a m (cap 0)
 by-body (binaryGroup k a b) m f =
-    ap (λ (z : ℤ). groupCount (binaryNumber k) z (hold (count a)) (hold (count b))) (fromBits-toBits 32 m (lit< tt) (f .2)) ∙ binary-stored k a b m
+    ap (λ (z : ℤ). groupCount (binaryNumber k) z (cap (count a)) (cap (count b))) (fromBits-toBits 32 m (lit< tt) (f .2)) ∙ binary-stored k a b m
 
 -- the record of a node, its count filled in
 pub filled : (h : ℕ) (n : Node Leaf) → withField 11 (stored n) (tallyRecord h (nodeHead n)) ≡ headRecord (nodeHead n)
@@ -82,7 +82,7 @@ module _ (h : ℕ) (small : h < 256) (sums : List ℕ) where
     high : ltb (kindAt (tallyRecord h (leafHead x))) 6 ≡ false
     high = ap (λ (k : ℕ). ltb k 6) (kind-is h (leafHead x) small fits) ∙ le-ltb (kindOf (leafHead x)) 6 (leaf-kind x .0)
 
-    pub leaf-counted : counted (tallyRecord h (leafHead x)) sums ≡ stored (leaf x)
+    pub leaf-counted : ownCount (tallyRecord h (leafHead x)) sums ≡ stored (leaf x)
     unfolding countNode
     leaf-counted = rw high
 
@@ -97,7 +97,7 @@ module _ (h : ℕ) (small : h < 256) (sums : List ℕ) where
     pub group-freed : freed (tallyRecord h (bodyHead b m)) sums ≡ set (set sums (h + 2) 0) (h + 1) 0
     group-freed = rw (low, tally-is h (bodyHead b m) small fits)
 
-    pub group-counted : getD sums (h + 2) 0 ≡ hold (firstCount b) → getD sums (h + 1) 0 ≡ hold (secondCount b) →
-        counted (tallyRecord h (bodyHead b m)) sums ≡ stored (block b m)
+    pub group-counted : getD sums (h + 2) 0 ≡ cap (firstCount b) → getD sums (h + 1) 0 ≡ cap (secondCount b) →
+        ownCount (tallyRecord h (bodyHead b m)) sums ≡ stored (block b m)
     group-counted p q =
         rw (low, tally-is h (bodyHead b m) small fits, kind-is h (bodyHead b m) small fits, number-is h (bodyHead b m) small fits, p, q) (by-body b m fits)

@@ -8,11 +8,11 @@ use Rattle.notation.specs.Basics.{pick}
 use Rattle.notation.specs.Numbers.{fromBits}
 use Rattle.notation.specs.Tree.{Leaf, Node, leaf, block, Body, group, binaryGroup, nil, cons, Tree}
 use Rattle.notation.specs.Packed.{RECORD, widths, layOut, Head, leafHead, headFields, bodyHead}
-use Rattle.notation.specs.Counts.{HELD, hold}
+use Rattle.notation.specs.Counts.{CAP, cap}
 use Rattle.notation.specs.WellFormed.{MAX-NESTING, depth}
 use Rattle.laws.proofs.Packing.{FitsTree}
 use Rattle.record.specs.Meaning.{field}
-use Rattle.counts.specs.Held.{groupCount}
+use Rattle.counts.specs.Groups.{groupCount}
 
 -- A record with the number of its list's tally in place of its count: one byte, which suffices for 64 levels.
 abbrev pub tallyRecord : ℕ → Head → List ℕ
@@ -50,8 +50,8 @@ abbrev pub kindAt : List ℕ → ℕ
 kindAt r = field 0 r / 16
 
 -- its count, of a group by the sums of its lists,
-abbrev pub counted : List ℕ → List ℕ → ℕ
-counted r sums =
+abbrev pub ownCount : List ℕ → List ℕ → ℕ
+ownCount r sums =
     pick (ltb (kindAt r) 6)
     (groupCount (kindAt r) (fromBits 32 (field 3 r)) (getD sums (tallyAt r + 2) 0) (getD sums (tallyAt r + 1) 0))
     1
@@ -62,11 +62,11 @@ freed r sums = pick (ltb (kindAt r) 6) (set (set sums (tallyAt r + 2) 0) (tallyA
 
 -- and the sums with its count
 abbrev pub added : List ℕ → List ℕ → List ℕ
-added r sums = set (freed r sums) (tallyAt r) (hold (getD (freed r sums) (tallyAt r) 0 + counted r sums))
+added r sums = set (freed r sums) (tallyAt r) (cap (getD (freed r sums) (tallyAt r) 0 + ownCount r sums))
 
 -- what this asks of the record and the sums
-abbrev pub Held : List ℕ → Type 0
-Held sums = (i : ℕ) → getD sums i 0 ≤ HELD
+abbrev pub Capped : List ℕ → Type 0
+Capped sums = (i : ℕ) → getD sums i 0 ≤ CAP
 
 pub record Open (r : List ℕ) : Type 0 where
   pub long : RECORD ≤ length r

@@ -16,13 +16,13 @@ use Rattle.notation.specs.Entries.{
   kept, lend, MAX-TEXT, reading, checked, inverse, deepInverse, display, MAX-STEPS, steps, unrolled, countSteps, stepAt, recordAt, layerRanges, rangeBytes, familyOf, familySpan
 }
 use Rattle.notation.specs.Demands.{AtMost}
-use Rattle.notation.specs.Host.{VALUES, partNumber, Small, Whole, NeverBites}
+use Rattle.notation.specs.Host.{VALUES, partNumber, BelowValues, Whole, Lossless}
 use Rattle.notation.specs.declared.features.Features.{Features}
 use Rattle.numbers.proofs.Positional.{below-drop}
 use Rattle.record.specs.Range.{FitsSpan, FitsHead}
 use Rattle.record.proofs.RoundTrip.{length-headRecord}
 use Rattle.laws.proofs.Bools.{no-refusal}
-use Rattle.laws.proofs.Outcomes.{same-result, after, held}
+use Rattle.laws.proofs.Outcomes.{same-result, after, test-holds}
 use Rattle.laws.proofs.Packing.{length-pack, well-formed-below}
 use Rattle.laws.proofs.ReadingYields.{reading-size}
 use Rattle.laws.proofs.Accepting.{accepted-tree, checked-tree}
@@ -33,12 +33,12 @@ use Rattle.expand.proofs.Steps.{length-records}
 
 -- What is lent: a result that fits the buffer.
 small : (o : Outcome (List ℕ)) (buffer : List ℕ) → ((l : List ℕ) → o ≡ result l → length l ≤ length buffer → length l < VALUES) →
-    Small (lend o buffer .answer)
+    BelowValues (lend o buffer .answer)
 small (refusal r) buffer h = omega arith
 small (result l) buffer h = go (leb (length l) (length buffer)) refl
   where
     go : (t : Bool) → leb (length l) (length buffer) ≡ t →
-        Small (pick t (record { answer = result (length l); buffer = l ++ drop (length l) buffer }) (kept NO-ROOM buffer) .answer)
+        BelowValues (pick t (record { answer = result (length l); buffer = l ++ drop (length l) buffer }) (kept NO-ROOM buffer) .answer)
     go true e = h l refl (leb-true (length l) (length buffer) e)
     go false e = omega arith
 
@@ -55,12 +55,12 @@ few-steps text tree l e =
     let c = after (checked text tree) e in
     let u = after (flatten (c .0)) (c .2) in
     let h = after (unless TOO-MANY-STEPS (leb (length (u .0)) MAX-STEPS)) (u .2) in
-    omega (arith, ap length (same-result (h .2)), leb-true (length (u .0)) MAX-STEPS (held TOO-MANY-STEPS (leb (length (u .0)) MAX-STEPS) (h .1)))
+    omega (arith, ap length (same-result (h .2)), leb-true (length (u .0)) MAX-STEPS (test-holds TOO-MANY-STEPS (leb (length (u .0)) MAX-STEPS) (h .1)))
 
-counted : (text tree : List ℕ) → Small (countSteps text tree)
+counted : (text tree : List ℕ) → BelowValues (countSteps text tree)
 counted text tree = go (steps text tree) refl
   where
-    go : (o : Outcome (List Leaf)) → steps text tree ≡ o → Small (_>>=_ o (λ l. result (length l)))
+    go : (o : Outcome (List Leaf)) → steps text tree ≡ o → BelowValues (_>>=_ o (λ l. result (length l)))
     go (refusal r) e = omega arith
     go (result l) e = omega (arith, few-steps text tree l e)
 
@@ -76,7 +76,7 @@ step-at-most text tree k l e =
     omega (arith, ap length (same-result (x .2)), length-headRecord (leafHead (x .0)))
 
 -- Layer ranges: at most 16,384, counted in entries of four bytes.
-in-entries : (o : Outcome ℕ) → Small o → Small (_>>=_ o (λ n. result (n / 4)))
+in-entries : (o : Outcome ℕ) → BelowValues o → BelowValues (_>>=_ o (λ n. result (n / 4)))
 in-entries (refusal r) h = omega arith
 in-entries (result n) h = omega arith
 
@@ -105,19 +105,19 @@ part-fits text tree k p e =
     let b = well-formed-below text tree (checked-tree text tree (c .0) (c .1) .formed) in
     family-fits (r .0) p (subst FitsHead (same-result (h .2)) (head-fits (drop (RECORD * k) tree) (below-drop 256 (RECORD * k) tree b))) (r .2)
 
-named : (text tree : List ℕ) (k : ℕ) → Small (partNumber (familySpan text tree k))
+named : (text tree : List ℕ) (k : ℕ) → BelowValues (partNumber (familySpan text tree k))
 named text tree k = go (familySpan text tree k) refl
   where
-    go : (o : Outcome Span) → familySpan text tree k ≡ o → Small (partNumber o)
+    go : (o : Outcome Span) → familySpan text tree k ≡ o → BelowValues (partNumber o)
     go (refusal r) e = omega arith
     go (result p) e = let f = part-fits text tree k p e in omega (arith, f .offset, f .size)
 
 -- A value below 2^56, told whole.
-whole : (o : Outcome ℕ) → Small o → Whole o
+whole : (o : Outcome ℕ) → BelowValues o → Whole o
 whole o h = record { sum = omega arith; refusedBy = omega arith; valued = omega arith }
 
-pub never-bites : NeverBites
-never-bites =
+pub lossless : Lossless
+lossless =
     record {
       whole = whole;
       reading = λ f text buffer. small (reading f text) buffer (λ l e h. omega (arith, reading-at-most f text l e));

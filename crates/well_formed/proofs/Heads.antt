@@ -10,7 +10,7 @@ use lib.ListN.{length, take, getD}
 use Rattle.notation.specs.Basics.{sameList}
 use Rattle.notation.specs.Numbers.{toBits, fromBits}
 use Rattle.notation.specs.Tree.{Leaf, rotation, move, pause, pair, slash, megaminx, Tree}
-use Rattle.notation.specs.Counts.{hold, countNode, count, stored}
+use Rattle.notation.specs.Counts.{cap, countNode, count, stored}
 use Rattle.notation.specs.Packed.{RECORD, widths, cut, inOrder, nowhere, Head, leafHead, groupHead, binaryHead, groupNumber, binaryNumber, headFields, headRecord, headAt}
 use Rattle.notation.specs.WellFormed.{leafOk, multiplierOk}
 use Rattle.notation.specs.declared.common.GroupKind.{GroupKind}
@@ -24,8 +24,8 @@ use Rattle.record.specs.declared.encode.Fields.{Fields}
 use Rattle.record.proofs.Packed.{field-lt, by-kind}
 use Rattle.record.proofs.RoundTrip.{headFields-fit}
 use Rattle.record.proofs.Same.{same-eq, same-record, counted-same}
-use Rattle.counts.specs.Held.{groupCount}
-use Rattle.counts.proofs.Held.{group-stored, binary-stored}
+use Rattle.counts.specs.Groups.{groupCount}
+use Rattle.counts.proofs.Capped.{group-stored, binary-stored}
 use Rattle.well_formed.specs.Formed.{headOk, first, second, countOk}
 use Rattle.well_formed.proofs.Opening.{nodeOf}
 use Rattle.well_formed.proofs.Bytes.{head-fits}
@@ -36,7 +36,7 @@ pub record GroupSays (bs : List ℕ) (k : ℕ) (h : Head) : Type 0 where
   pub asks : (text : List ℕ) (d : ℕ) → headOk text d h ≡ (ltb 0 d && multiplierOk (fromBits 32 (field 3 bs)))
   pub one : k < 4 → second h ≡ 0
   pub two : 4 ≤ k → second h ≡ field 2 bs
-  pub counts : (a b : Tree) → countOk h a b ≡ eqb (field 11 bs) (groupCount k (fromBits 32 (field 3 bs)) (hold (count a)) (hold (count b)))
+  pub counts : (a b : Tree) → countOk h a b ≡ eqb (field 11 bs) (groupCount k (fromBits 32 (field 3 bs)) (cap (count a)) (cap (count b)))
 
 module _ (bs : List ℕ) (below : Below 256 bs) where
   bits : toBits 32 (fromBits 32 (field 3 bs)) ≡ field 3 bs
@@ -49,7 +49,7 @@ module _ (bs : List ℕ) (below : Below 256 bs) where
         asks = λ text d. refl;
         one = λ z. refl;
         two = λ z. absurd (omega arith);
-        counts = λ a b. ap (eqb (field 11 bs)) (sym (group-stored g a (fromBits 32 (field 3 bs)) (hold (count b))));
+        counts = λ a b. ap (eqb (field 11 bs)) (sym (group-stored g a (fromBits 32 (field 3 bs)) (cap (count b))));
       }
 
   two-lists : (g : BinaryGroupKind) → 4 ≤ binaryNumber g → GroupSays bs (binaryNumber g) (binaryAt g bs)

@@ -12,7 +12,7 @@ use lib.Seq.{take-all}
 use Rattle.notation.specs.Basics.{pick, sameList}
 use Rattle.notation.specs.Numbers.{fromBits}
 use Rattle.notation.specs.Tree.{Leaf, Node, Tree}
-use Rattle.notation.specs.Counts.{HELD, hold, countNode, count, stored}
+use Rattle.notation.specs.Counts.{CAP, cap, countNode, count, stored}
 use Rattle.notation.specs.Packed.{RECORD, widths, cut, inOrder, nowhere, Head, leafHead, headFields, headRecord, headAt, unpackFrom, unpack}
 use Rattle.notation.specs.WellFormed.{leafOk, multiplierOk}
 use Rattle.numbers.proofs.Positional.{Below, below-drop}
@@ -21,7 +21,7 @@ use Rattle.laws.proofs.Walking.{leaf-stored}
 use Rattle.record.specs.Meaning.{field, uncounted, listed}
 use Rattle.record.specs.declared.encode.Fields.{Fields}
 use Rattle.record.proofs.Same.{same-refl, same-eq, refuted}
-use Rattle.counts.specs.Held.{groupCount}
+use Rattle.counts.specs.Groups.{groupCount}
 use Rattle.well_formed.specs.Formed.{formed, formedCount, headOk, first, second, both, firstBytes, secondBytes, restBytes, countOk, firstOk}
 use Rattle.well_formed.proofs.Opening.{both-sum, nodeOf, unpack-view}
 use Rattle.well_formed.proofs.Heads.{GroupSays, group-says, leaf-says, asks-nothing, by-fields, compared, field-written, first-written, second-written, count-written}
@@ -58,7 +58,7 @@ firstNode bs = nodeOf (headAt bs) (firstIn bs) (secondIn bs)
 
 -- if these bytes are well formed, so many steps and theirs, held
 abbrev countFrom : List ℕ → ℕ → ℕ → List ℕ → Option ℕ
-countFrom text d n bs = pick (formed text d bs) (some (hold (n + count (unpack bs)))) none
+countFrom text d n bs = pick (formed text d bs) (some (cap (n + count (unpack bs)))) none
 
 -- Lists that are not empty.
 module _ (text : List ℕ) (d : ℕ) (bs : List ℕ) (below : Below 256 bs) (some : 0 < length bs) where
@@ -129,23 +129,23 @@ module _ (text : List ℕ) (d : ℕ) (bs : List ℕ) (below : Below 256 bs) (som
 pub record Left (text : List ℕ) (d : ℕ) (list bs : List ℕ) (n : ℕ) : Type 0 where
   pub below : Below 256 bs
   pub within : length bs ≤ length list
-  pub few : n + length bs ≤ HELD + length list
+  pub few : n + length bs ≤ CAP + length list
   pub same : countFrom text d n bs ≡ formedCount text d list
 
 pub at-first : (text : List ℕ) (d : ℕ) (list : List ℕ) → Below 256 list → Left text d list list 0
 at-first text d list b =
     let z : 0 + count (unpack list) ≡ count (unpack list) = omega arith in
-    record { below = b; within = omega arith; few = omega arith; same = ap (λ (k : ℕ). pick (formed text d list) (some (hold k)) none) z }
+    record { below = b; within = omega arith; few = omega arith; same = ap (λ (k : ℕ). pick (formed text d list) (some (cap k)) none) z }
 
-pub no-more : (text : List ℕ) (d : ℕ) (list bs : List ℕ) (n : ℕ) → Left text d list bs n → length bs ≤ 0 → (r : ℕ) → r ≡ hold n → some r ≡ formedCount text d list
+pub no-more : (text : List ℕ) (d : ℕ) (list bs : List ℕ) (n : ℕ) → Left text d list bs n → length bs ≤ 0 → (r : ℕ) → r ≡ cap n → some r ≡ formedCount text d list
 unfolding unpackFrom count
 no-more text d list [] n left h r e =
-    let same : r ≡ hold (n + count (unpack [])) = omega arith in
+    let same : r ≡ cap (n + count (unpack [])) = omega arith in
     ap₂ (λ (b : Bool) (k : ℕ). pick b (some k) none) (sym (formed-nil text d)) same ∙ left .same
 no-more text d list (b ∷ bs) n left h r e = absurd (omega arith)
 
 pub refused : (text : List ℕ) (d : ℕ) (list bs : List ℕ) (n : ℕ) → Left text d list bs n → false ≡ formed text d bs → none ≡ formedCount text d list
-refused text d list bs n left e = ap (λ (b : Bool). pick b (some (hold (n + count (unpack bs)))) none) e ∙ left .same
+refused text d list bs n left e = ap (λ (b : Bool). pick b (some (cap (n + count (unpack bs)))) none) e ∙ left .same
 
 rest-is : (bs : List ℕ) (end : ℕ) → take (length bs - end) (drop end bs) ≡ drop end bs
 rest-is bs end = take-all (length bs - end) (drop end bs) (omega (arith, length-drop end bs))
@@ -154,20 +154,20 @@ pub shorter : (bs : List ℕ) (end : ℕ) → 0 < end → end ≤ length bs → 
 shorter bs end p l = omega (arith, ap length (rest-is bs end), length-drop end bs)
 
 -- the first node's steps, c of them as it stores them, are added to n and give n′, held or not; with those of the rest
-count-on : (bs : List ℕ) (n c n′ : ℕ) → 0 < length bs → c ≡ stored (firstNode bs) → hold n′ ≡ hold (n + c) → hold (n′ + count (unpack (restBytes (headAt bs) bs))) ≡ hold (n + count (unpack bs))
+count-on : (bs : List ℕ) (n c n′ : ℕ) → 0 < length bs → c ≡ stored (firstNode bs) → cap n′ ≡ cap (n + c) → cap (n′ + count (unpack (restBytes (headAt bs) bs))) ≡ cap (n + count (unpack bs))
 unfolding count
 count-on bs n c n′ p e s =
     let whole : count (unpack bs) ≡ countNode (firstNode bs) + count (unpack (restBytes (headAt bs) bs)) = ap count (unpack-view bs p) in
     omega arith
 
 go-on : (text : List ℕ) (d : ℕ) (list bs : List ℕ) (n : ℕ) → Left text d list bs n → (ok : Bool) → ok ≡ firstOk text d bs → ok ≡ true →
-    (end : ℕ) → end ≡ RECORD + RECORD * both (headAt bs) → end ≤ length bs → (c n′ : ℕ) → c ≡ stored (firstNode bs) → hold n′ ≡ hold (n + c) →
-    n′ + (length bs - end) ≤ HELD + length list → Left text d list (take (length bs - end) (drop end bs)) n′
+    (end : ℕ) → end ≡ RECORD + RECORD * both (headAt bs) → end ≤ length bs → (c n′ : ℕ) → c ≡ stored (firstNode bs) → cap n′ ≡ cap (n + c) →
+    n′ + (length bs - end) ≤ CAP + length list → Left text d list (take (length bs - end) (drop end bs)) n′
 go-on text d list bs n left ok o holds end z l c n′ e s few =
     let p : 0 < length bs = omega arith in
     let rest = length-drop end bs in
-    let steps : hold (n′ + count (unpack (drop end bs))) ≡ hold (n + count (unpack bs)) =
-    (λ i. hold (n′ + count (unpack (drop (z i) bs)))) ∙ count-on bs n c n′ p e s
+    let steps : cap (n′ + count (unpack (drop end bs))) ≡ cap (n + count (unpack bs)) =
+    (λ i. cap (n′ + count (unpack (drop (z i) bs)))) ∙ count-on bs n c n′ p e s
     in
     subst (λ (r : List ℕ). Left text d list r n′) (sym (rest-is bs end))
     (record {
@@ -185,7 +185,7 @@ pub counted : (bs : List ℕ) {n n′ : ℕ} → n ≡ field 1 bs → n′ ≡ f
 counted bs e e′ = omega arith
 
 pub past-group : (text : List ℕ) (d : ℕ) (list bs : List ℕ) (n : ℕ) → Left text d list bs n → (ok : Bool) → ok ≡ firstOk text d bs → ok ≡ true →
-    (end : ℕ) → end ≡ RECORD + RECORD * (field 1 bs + field 2 bs) → end ≤ length bs → (c n′ : ℕ) → c ≡ field 11 bs → n′ ≡ hold (n + c) →
+    (end : ℕ) → end ≡ RECORD + RECORD * (field 1 bs + field 2 bs) → end ≤ length bs → (c n′ : ℕ) → c ≡ field 11 bs → n′ ≡ cap (n + c) →
     Left text d list (take (length bs - end) (drop end bs)) n′
 past-group text d list bs n left ok o holds end z l c n′ e s =
     let w : same bs ≡ true = and-left _ _ (sym o ∙ holds) in
@@ -196,8 +196,8 @@ past-group text d list bs n left ok o holds end z l c n′ e s =
     c n′ (e ∙ count-written bs (left .below) long w (firstIn bs) (secondIn bs) right) (omega arith) (omega (arith, left .within))
 
 -- so that the sum has room
-pub count-held : (text : List ℕ) (d : ℕ) (bs : List ℕ) → Below 256 bs → RECORD ≤ length bs → (ok : Bool) → ok ≡ firstOk text d bs → ok ≡ true → (c : ℕ) → c ≡ field 11 bs → c ≤ HELD
-count-held text d bs below long ok o holds c e =
+pub count-capped : (text : List ℕ) (d : ℕ) (bs : List ℕ) → Below 256 bs → RECORD ≤ length bs → (ok : Bool) → ok ≡ firstOk text d bs → ok ≡ true → (c : ℕ) → c ≡ field 11 bs → c ≤ CAP
+count-capped text d bs below long ok o holds c e =
     let w = count-written bs below long (and-left _ _ (sym o ∙ holds)) (firstIn bs) (secondIn bs) (right-count text d bs below (omega arith) ok o holds) in
     omega arith
 
@@ -320,7 +320,7 @@ pub record GroupTold (bs : List ℕ) : Type 0 where
   pub long : RECORD ≤ length bs
   pub asks : (text : List ℕ) (d : ℕ) → headOk text d (headAt bs) ≡ (ltb 0 d && multiplier bs)
   pub one : field 0 bs / 16 < 4 → second (headAt bs) ≡ 0
-  pub counts : (a b : Tree) → countOk (headAt bs) a b ≡ eqb (field 11 bs) (groupCount (field 0 bs / 16) (fromBits 32 (field 3 bs)) (hold (count a)) (hold (count b)))
+  pub counts : (a b : Tree) → countOk (headAt bs) a b ≡ eqb (field 11 bs) (groupCount (field 0 bs / 16) (fromBits 32 (field 3 bs)) (cap (count a)) (cap (count b)))
 
 pub group-told : (bs : List ℕ) → Below 256 bs → RECORD + RECORD * (field 1 bs + field 2 bs) ≤ length bs → field 0 bs / 16 < 6 → GroupTold bs
 group-told bs b l k =
@@ -336,9 +336,9 @@ pub list-passed : (b : Bool) (k n : ℕ) → some n ≡ pick b (some k) none →
 list-passed true k n e = (refl, cc)
 list-passed false k n e = (cc, cc)
 
-list-held : (text : List ℕ) (d : ℕ) (bs : List ℕ) (n : ℕ) → some n ≡ formedCount text d bs → n ≤ HELD
-list-held text d bs n e =
-    let z = list-passed (formed text d bs) (hold (count (unpack bs))) n e .1 in
+list-capped : (text : List ℕ) (d : ℕ) (bs : List ℕ) (n : ℕ) → some n ≡ formedCount text d bs → n ≤ CAP
+list-capped text d bs n e =
+    let z = list-passed (formed text d bs) (cap (count (unpack bs))) n e .1 in
     omega arith
 
 -- a group's lists and its count
@@ -390,8 +390,8 @@ module _ {text : List ℕ} {d : ℕ} {bs : List ℕ} {n : ℕ} {a : Option ℕ} 
       (sym (list-refused (formed text (d - 1) (firstBytes (headAt bs) bs)) _ (sym fails ∙ first-told)))
       ∙ by-lists
 
-  pub first-held : (k : ℕ) → a ≡ some k → k ≤ HELD
-  first-held k e = list-held text (d - 1) (firstBytes (headAt bs) bs) k (sym e ∙ first-told)
+  pub first-capped : (k : ℕ) → a ≡ some k → k ≤ CAP
+  first-capped k e = list-capped text (d - 1) (firstBytes (headAt bs) bs) k (sym e ∙ first-told)
 
 -- The first list has k steps; the second, with n′ records, was answered too.
 pub record SecondRead (text : List ℕ) (d : ℕ) (bs : List ℕ) (k : ℕ) (b : Option ℕ) : Type 0 where
@@ -418,7 +418,7 @@ no-second {text} {d} {bs} {n} {k} one l =
     }
 
 module _ {text : List ℕ} {d : ℕ} {bs : List ℕ} {k : ℕ} {b : Option ℕ} (two : SecondRead text d bs k b) where
-  first-count : (formed text (d - 1) (firstBytes (headAt bs) bs) ≡ true) × (k ≡ hold (count (firstIn bs)))
+  first-count : (formed text (d - 1) (firstBytes (headAt bs) bs) ≡ true) × (k ≡ cap (count (firstIn bs)))
   first-count = list-passed (formed text (d - 1) (firstBytes (headAt bs) bs)) _ k (first-told (two .one))
 
   second-told : b ≡ formedCount text (d - 1) (secondBytes (headAt bs) bs)
@@ -441,8 +441,8 @@ module _ {text : List ℕ} {d : ℕ} {bs : List ℕ} {k : ℕ} {b : Option ℕ} 
       (sym (list-refused (formed text (d - 1) (secondBytes (headAt bs) bs)) _ (sym fails ∙ second-told)))
       ∙ by-second
 
-  pub second-held : (k′ : ℕ) → b ≡ some k′ → k′ ≤ HELD
-  second-held k′ e = list-held text (d - 1) (secondBytes (headAt bs) bs) k′ (sym e ∙ second-told)
+  pub second-capped : (k′ : ℕ) → b ≡ some k′ → k′ ≤ CAP
+  second-capped k′ e = list-capped text (d - 1) (secondBytes (headAt bs) bs) k′ (sym e ∙ second-told)
 
   -- the count as it is compared
   pub count-compared : (k′ : ℕ) → b ≡ some k′ → (kind number stored′ whole : ℕ) → kind ≡ field 0 bs / 16 → number ≡ field 3 bs →

@@ -7,7 +7,7 @@ use lib.Dec.{leb, ltb, eqb}
 use lib.ListN.{take, drop}
 use Rattle.notation.specs.Basics.{pick, sameList}
 use Rattle.notation.specs.Tree.{Tree, block, group, binaryGroup}
-use Rattle.notation.specs.Counts.{hold, count, stored}
+use Rattle.notation.specs.Counts.{cap, count, stored}
 use Rattle.notation.specs.Packed.{RECORD, headRecord, pack, headAt, unpack, Head, leafHead, groupHead, binaryHead}
 use Rattle.notation.specs.WellFormed.{treeOk, depth, leafOk, multiplierOk, wellFormed}
 
@@ -18,10 +18,10 @@ formed text d bs =
 
 -- how many steps it has, held, if it is well formed; and a whole tree
 abbrev pub formedCount : List ℕ → ℕ → List ℕ → Option ℕ
-formedCount text d bs = pick (formed text d bs) (some (hold (count (unpack bs)))) none
+formedCount text d bs = pick (formed text d bs) (some (cap (count (unpack bs)))) none
 
-abbrev pub stepsIn : List ℕ → List ℕ → Option ℕ
-stepsIn text tree = pick (wellFormed text tree) (some (hold (count (unpack tree)))) none
+abbrev pub wellFormedSteps : List ℕ → List ℕ → Option ℕ
+wellFormedSteps text tree = pick (wellFormed text tree) (some (cap (count (unpack tree)))) none
 
 -- what is asked of a head beside its lists: a group is a level of nesting
 abbrev pub headOk : List ℕ → ℕ → Head → Bool

@@ -18,7 +18,7 @@ ghost use Rattle.notation.specs.Grammar.{atEnd};
 ghost use Rattle.notation.specs.Numbers.{fromBits};
 ghost use Rattle.notation.specs.Tree as tree;
 ghost use Rattle.notation.specs.WellFormed as rule;
-ghost use Rattle.parse.specs.Meaning.{told, forget};
+ghost use Rattle.parse.specs.Meaning.{endReading, forget};
 ghost use Rattle.record.specs.Meaning.{span, spanOption, layers, rotationLeaf, moveLeaf};
 
 // The deepest layer.
@@ -51,7 +51,7 @@ fn family_ok(text: &[u8], p: Span, least: usize) -> bool
 
 // Whether what was read of a part is the whole of it.
 fn to_end(part: &[u8], taken: Taken) -> bool
-    ensures { λ r. ⌜ r ≡ rule.isSome (atEnd (told (now (part .entry)) taken)) ⌝ }
+    ensures { λ r. ⌜ r ≡ rule.isSome (atEnd (endReading (now (part .entry)) taken)) ⌝ }
 {
     match taken {
         Taken::To(end) => part.len() <= end,
@@ -61,7 +61,7 @@ fn to_end(part: &[u8], taken: Taken) -> bool
 
 // Where the set of layers, or else of constraints, ends that the part begins with.
 fn set_end(part: &[u8], layers: bool) -> Taken
-    ensures { λ r. ⌜ told (now (part .entry)) r ≡ pick layers (forget (grammar.layerSetElements true 0 (now (part .entry)))) (forget (grammar.constraintSet 0 (now (part .entry)))) ⌝ }
+    ensures { λ r. ⌜ endReading (now (part .entry)) r ≡ pick layers (forget (grammar.layerSetElements true 0 (now (part .entry)))) (forget (grammar.constraintSet 0 (now (part .entry)))) ⌝ }
 {
     if layers {
         layer_set(part, 0, true)

@@ -3,5 +3,5 @@
 pub mod leaf;
 pub mod walk;
 
-pub use walk::Counted;
+pub use walk::StepCount;
 pub use walk::steps;

@@ -3,7 +3,7 @@
 use crate::leaf::move_ok;
 use crate::leaf::multiplier_ok;
 use crate::leaf::rotation_ok;
-use counts::hold;
+use counts::cap;
 use counts::of_group;
 use counts::sum;
 use notation::limits::MAX_NESTING;
@@ -27,54 +27,54 @@ ghost use Rattle.notation.specs.Numbers.{fromBits};
 ghost use Rattle.notation.specs.Packed.{RECORD, headRecord, headAt};
 ghost use Rattle.notation.specs.WellFormed.{multiplierOk};
 ghost use Rattle.record.specs.Meaning.{field};
-ghost use Rattle.well_formed.specs.Formed.{stepsIn, formedCount, firstOk};
-ghost use Rattle.well_formed.specs.Meaning.{counted};
+ghost use Rattle.well_formed.specs.Formed.{wellFormedSteps, formedCount, firstOk};
+ghost use Rattle.well_formed.specs.Meaning.{stepCount};
 
 // How many steps a tree or a list has that is well formed.
-pub enum Counted {
+pub enum StepCount {
     Steps(u64),
     Nothing,
 }
 
 // Of a whole tree.
-pub fn steps(text: &[u8], tree: &[u8]) -> Counted
-    ensures { λ r. ⌜ counted r ≡ stepsIn (now (text .entry)) (now (tree .entry)) ⌝ }
+pub fn steps(text: &[u8], tree: &[u8]) -> StepCount
+    ensures { λ r. ⌜ stepCount r ≡ wellFormedSteps (now (text .entry)) (now (tree .entry)) ⌝ }
 {
     list_count(text, tree, MAX_NESTING)
 }
 
 // Whether these records are a list of nodes in which groups are nested at most `depth` deep, and if so how many steps they are.
-fn list_count(text: &[u8], list: &[u8], depth: usize) -> Counted
-    ensures { λ r. ⌜ counted r ≡ formedCount (now (text .entry)) depth (now (list .entry)) ⌝ }
+fn list_count(text: &[u8], list: &[u8], depth: usize) -> StepCount
+    ensures { λ r. ⌜ stepCount r ≡ formedCount (now (text .entry)) depth (now (list .entry)) ⌝ }
 {
     let mut t = list;
     // Leaves, which most nodes are, are added without holding: a list has fewer bytes than 2^63, so that ones cannot bring the sum past 64 bits.
     let mut count = 0;
     while 0 < t.len() {
         if t.len() < RECORD {
-            return Counted::Nothing;
+            return StepCount::Nothing;
         }
         if fields::kind(t) < kinds::ROTATION {
             let end = RECORD + RECORD * (fields::first(t) as usize + fields::second(t) as usize);
             if t.len() < end {
-                return Counted::Nothing;
+                return StepCount::Nothing;
             }
             if group_ok(text, t, depth) {
                 count = sum(count, fields::count(t));
                 t = &t[end..];
             } else {
-                return Counted::Nothing;
+                return StepCount::Nothing;
             }
         } else {
             if leaf_ok(text, t) {
                 count += LEAF;
                 t = &t[RECORD..];
             } else {
-                return Counted::Nothing;
+                return StepCount::Nothing;
             }
         }
     }
-    Counted::Steps(hold(count))
+    StepCount::Steps(cap(count))
 }
 
 // Whether the first node, a group, is in bounds, its lists with one level less are well formed, and it stores the step count that they come to.
@@ -91,7 +91,7 @@ fn group_ok(text: &[u8], t: &[u8], depth: usize) -> bool
         let number = fields::number(t);
         let first = fields::first(t);
         let middle = RECORD + RECORD * first as usize;
-        let Counted::Steps(a) = list_count(text, &t[RECORD..middle], depth - 1) else {
+        let StepCount::Steps(a) = list_count(text, &t[RECORD..middle], depth - 1) else {
             return false;
         };
         // Without a second list there is nothing more to walk.
@@ -100,7 +100,7 @@ fn group_ok(text: &[u8], t: &[u8], depth: usize) -> bool
         }
         let second = fields::second(t);
         let end = middle + RECORD * second as usize;
-        let Counted::Steps(b) = list_count(text, &t[middle..end], depth - 1) else {
+        let StepCount::Steps(b) = list_count(text, &t[middle..end], depth - 1) else {
             return false;
         };
         fields::count(t) == of_group(kind, number, a, b)

@@ -2,7 +2,7 @@
 use mathlib.Core.Path.{sym, ap, _∙_}
 use borrow.Author.Needs.{needs}
 use borrow.Author.Tests.{not-true, not-false}
-use Rattle.well_formed.specs.Meaning.{counted}
+use Rattle.well_formed.specs.Meaning.{stepCount}
 use Rattle.numbers.proofs.BigEndian.{slice-below}
 use Rattle.well_formed.proofs.Turns.{list-passed, list-refused}
 use Rattle.checked.proofs.Outcomes.{too-long, not-utf8, not-well-formed, is-sound}
@@ -37,7 +37,7 @@ returns-3 c =
     let formed = c .before .before .before in
     let utf = formed .before .before in
     let a = utf .before .before .before .before .args in
-    let k = list-passed _ _ _ (ap counted (sym (c .before .n .given .1)) ∙ formed .steps .ensures) in
+    let k = list-passed _ _ _ (ap stepCount (sym (c .before .n .given .1)) ∙ formed .steps .ensures) in
     is-sound (a .text .now) (a .tree .now) (slice-below _ (utf .before .before .shared-slice-known2 .given)) (utf .before .if1 .left)
     (sym (utf .is-utf8 .ensures) ∙ not-false _ (formed .before .if2 .left)) (k .0) _ (k .1)
 
@@ -47,7 +47,7 @@ returns-4 c =
     let utf = formed .before .before in
     let a = utf .before .before .before .before .args in
     not-well-formed (a .text .now) (a .tree .now) (utf .before .if1 .left) (sym (utf .is-utf8 .ensures) ∙ not-false _ (formed .before .if2 .left))
-    (list-refused _ _ (ap counted (sym (c .enum-told .given .1)) ∙ formed .steps .ensures))
+    (list-refused _ _ (ap stepCount (sym (c .enum-told .given .1)) ∙ formed .steps .ensures))
 
 pub check-spec : {M : Type 1} → statement M
 check-spec =

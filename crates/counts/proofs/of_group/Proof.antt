@@ -2,9 +2,9 @@ use borrow.Author.Needs.{needs}
 use mathlib.Core.Path.{_∙_, ap, ap₂}
 use Prim.Native.Nat.{ℕ, _*_}
 use native.Mathlib.Omega.{arith}
-use Rattle.notation.specs.Counts.{hold}
+use Rattle.notation.specs.Counts.{cap}
 use Rattle.notation.specs.Numbers.{fromBits}
-use Rattle.counts.proofs.Held.{product-fits, none-niss, none-else}
+use Rattle.counts.proofs.Capped.{product-fits, none-niss, none-else}
 use Rattle.counts.proofs.of_group.Statement.{statement}
 use Rattle.counts.proofs.of_group.Tie as tie
 
@@ -14,23 +14,23 @@ returns c = let a = c .before .args in none-niss (a .kind) (a .a) (a .b) (fromBi
 magnitude-requires : tie.Need-magnitude-requires
 magnitude-requires c κs = search needs
 
-cast-hold : tie.Need-cast-hold
-cast-hold c = search needs
+cast-cap : tie.Need-cast-cap
+cast-cap c = search needs
 
-inside-requires : tie.Need-inside-requires
-inside-requires c κs = search needs
+contents-requires : tie.Need-contents-requires
+contents-requires c κs = search needs
 
-mul-hold : tie.Need-mul-hold
-mul-hold c = record { fits = product-fits _ _ (c .before .magnitude .ok) (omega (arith, c .inside .ensures)) }
+mul-cap : tie.Need-mul-cap
+mul-cap c = record { fits = product-fits _ _ (c .before .magnitude .ok) (omega (arith, c .contents .ensures)) }
 
-hold-requires : tie.Need-hold-requires
-hold-requires c κs = search needs
+cap-requires : tie.Need-cap-requires
+cap-requires c κs = search needs
 
 returns-2 : tie.Need-returns-2
 returns-2 c =
     let a = c .before .before .before .before .args in
-    c .hold .ensures
-    ∙ ap hold (ap₂ (λ (x y : ℕ). x * y) (c .before .before .magnitude .ensures) (c .before .inside .ensures))
+    c .cap .ensures
+    ∙ ap cap (ap₂ (λ (x y : ℕ). x * y) (c .before .before .magnitude .ensures) (c .before .contents .ensures))
     ∙ none-else (a .kind) (a .a) (a .b) (fromBits 32 (a .multiplier)) (c .before .before .before .if1 .left)
 
 pub of-group-spec : {M : Type 1} → statement M
@@ -39,8 +39,8 @@ of-group-spec =
     (tie.spec
     returns
     magnitude-requires
-    cast-hold
-    inside-requires
-    mul-hold
-    hold-requires
+    cast-cap
+    contents-requires
+    mul-cap
+    cap-requires
     returns-2)

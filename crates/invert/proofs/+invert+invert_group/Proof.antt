@@ -10,7 +10,7 @@ use lib.Seq.{length-take-le}
 use Rattle.record.proofs.Copying.{copied-whole}
 use Rattle.nodes.proofs.Nodes.{record-room, list-less, node-room, FirstLeaf, first-leaf, leaf-node, leaf-record}
 use Rattle.invert.specs.Nodes.{inverse}
-use Rattle.invert.proofs.Loops.{Wrote, wrote-none, wrote-leaf, wrote-more, wrote-all, node-place, front-node, front-long, front-low, inverse-reverses, told, same-length-fronts, same-length-parts, two-parts}
+use Rattle.invert.proofs.Loops.{WroteNodes, wrote-none, wrote-leaf, wrote-more, wrote-all, node-place, front-node, front-long, front-low, inverse-reverses, told, same-length-fronts, same-length-parts, two-parts}
 use borrow.Fn.Kinds.{In}
 use borrow.Fn.PlainCycle.{Measures, is, falls, and}
 use Rattle.invert.proofs.invert.Reads as invert
@@ -62,7 +62,7 @@ abbrev node-claims : ℕ → invert-group-lts.Claims
 node-claims t = (kind-reads.Asked, kind-reads.Learnt, exchange-lists-reads.Asked, exchange-lists-reads.Learnt, inner-start-reads.Asked, inner-start-reads.Learnt, copy-reads.Asked, copy-reads.Learnt, invert-below t, invert.Post, inv-node-reads.Asked, inv-node-reads.Learnt)
 
 abbrev invert-Inv-loop : invert-lts.InvT-loop
-invert-Inv-loop tree out₀ deep t₀ at₀ out t at = Wrote (inverse deep) tree t at out
+invert-Inv-loop tree out₀ deep t₀ at₀ out t at = WroteNodes (inverse deep) tree t at out
 
 abbrev invert-μ-loop : invert-lts.MeasureT-loop
 invert-μ-loop tree out₀ deep t₀ at₀ out t at = length t

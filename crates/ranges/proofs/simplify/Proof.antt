@@ -53,7 +53,7 @@ use Rattle.notation.proofs.answer.Answer.Laws as An′
 use Rattle.layer.specs.Meaning.{range}
 use Rattle.layer.specs.declared.range.LayerRange.{LayerRange}
 use Rattle.layer.proofs.range.LayerRange as T
-use Rattle.ranges.specs.Lent.{rangesFrom, counted, Resolved}
+use Rattle.ranges.specs.Lent.{rangesFrom, rangeCount, Resolved}
 use Rattle.ranges.proofs.Local.{byte, zeros, length-zeros, zeros-typed, zeros-lie, room-back, big-lit}
 use Rattle.ranges.proofs.resolve as resolve
 use Rattle.ranges.proofs.resolve.Symbol as resolve-def
@@ -97,8 +97,8 @@ module _ {M : Type 1} (𝓤 : URA M) (H : Heap 𝓤) (A : Atoms 𝓤) (mem″ : 
   Fill = tripleOf 𝓤 H A fill.signature (fill.spec 𝓤 H A mem″ run)
 
   -- of what `count` ensures, the clause alone
-  count-of : (r : Answer) (m : ℕ) → ent 𝓤 (ensured 𝓤 H A count.ended (count.clauses 𝓤 H A mem″ run) tt (r, tt) tt m) (fact 𝓤 (m ≡ counted r))
-  count-of r m = exE 𝓤 _ (λ ws. snd∗ 𝓤 (sem 𝓤 H A (lasts count.ended tt (r, tt) ws)) (fact 𝓤 (m ≡ counted r)))
+  count-of : (r : Answer) (m : ℕ) → ent 𝓤 (ensured 𝓤 H A count.ended (count.clauses 𝓤 H A mem″ run) tt (r, tt) tt m) (fact 𝓤 (m ≡ rangeCount r))
+  count-of r m = exE 𝓤 _ (λ ws. snd∗ 𝓤 (sem 𝓤 H A (lasts count.ended tt (r, tt) ws)) (fact 𝓤 (m ≡ rangeCount r)))
 
 module _ {M : Type 1} (𝓤 : URA M) (H : Heap 𝓤) (A : Atoms 𝓤) (W : Given 𝓤 H A) (mem″ : Memory → SProp 𝓤) (run : Routine → Fun 𝓤) (κ₀ κ₁ κ₂ : Lft) (q₀ q₁ q₂ : Share)
     (text tree : RefT (List ℕ)) (k n : ℕ) (neg : Bool) (c p : ℕ) (δ : GName) (rs : List LayerRange)
@@ -207,7 +207,7 @@ module _ {M : Type 1} (𝓤 : URA M) (H : Heap 𝓤) (A : Atoms 𝓤) (W : Given
       nothing ! $ move ! (3 ∷ 0 ∷ []) $ fjoin ! $ move ! (2 ∷ 0 ∷ []) $ fjoin ! $ move ! (1 ∷ 0 ∷ []) $ fjoin ! $ done !
 
   -- what the three contracts come to
-  comes-to : (r : Answer) (ys : List ℕ) (m : ℕ) (zs : List LayerRange) → Resolved (now text) (now tree) k n neg (length rs) r ys → m ≡ counted r → zs ≡ rangesFrom ys m 0 ++ from-place m rs
+  comes-to : (r : Answer) (ys : List ℕ) (m : ℕ) (zs : List LayerRange) → Resolved (now text) (now tree) k n neg (length rs) r ys → m ≡ rangeCount r → zs ≡ rangesFrom ys m 0 ++ from-place m rs
       → record { answer = rule.outcome r; buffer = map range zs } ≡ rule.simplify (now text) (now tree) k n neg (map range rs)
   comes-to r ys m zs told e f = rw (f, e) (told .same rs refl)
 
@@ -244,7 +244,7 @@ module _ {M : Type 1} (𝓤 : URA M) (H : Heap 𝓤) (A : Atoms 𝓤) (W : Given
   bytes ws = ws .1 .1 .1 .1 .1 .1 .0
 
   -- what `fill` asks, from what `resolve` and `count` tell
-  asked : (r : Answer) (ws : Lasts-resolve) (m : ℕ) → Resolved (now text) (now tree) k n neg (length rs) r (bytes ws) → m ≡ counted r → (4 * m ≤ length (bytes ws)) × (m ≤ length rs)
+  asked : (r : Answer) (ws : Lasts-resolve) (m : ℕ) → Resolved (now text) (now tree) k n neg (length rs) r (bytes ws) → m ≡ rangeCount r → (4 * m ≤ length (bytes ws)) × (m ≤ length rs)
   asked r ws m told counts = rw counts (told .inside, told .enough)
 
   array-room : (ys : List ℕ) → length ys ≡ 65536 → Room u8 (length ys)
@@ -290,7 +290,7 @@ module _ {M : Type 1} (𝓤 : URA M) (H : Heap 𝓤) (A : Atoms 𝓤) (W : Given
         -- `count`: [the array; true; the text's token; the tree's; the result; true; the ranges'; true; text; tree; ranges]
         owned ! An.the-row (Is An.the-row) (EL.makes An.the-type An′.the-plain 𝓤 H A) r (w ∷ []) is $ use1 W (raw (Count 𝓤 H A mem″ run .pre (to-count r w))) (goes-count r w) $
         calls-at ! fm (Count 𝓤 H A mem″ run) known-count (to-count r w) (and-then ! (load ! (from ! (stop !)) (look ! 28 refl)) (no-more !)) (λ w′.
-        use1 W (Left-count r w′) (id⊢ 𝓤 _) $ await ! tt $ pick ! (λ m. split ! $ move ! (1 ∷ []) $ use1 W (raw (fact 𝓤 (m ≡ counted r))) (count-of 𝓤 H A mem″ run r m) $ heard ! (m ≡ counted r) (λ counts.
+        use1 W (Left-count r w′) (id⊢ 𝓤 _) $ await ! tt $ pick ! (λ m. split ! $ move ! (1 ∷ []) $ use1 W (raw (fact 𝓤 (m ≡ rangeCount r))) (count-of 𝓤 H A mem″ run r m) $ heard ! (m ≡ rangeCount r) (λ counts.
         split ! $ move ! (1 ∷ []) $ peeks ! usize (Is usize) (shows 𝓤 H A usize) m (w′ ∷ []) (λ is′. land ! (from ! (stop !)) (init ! 27 refl (uint-lawful 𝓤 H A W w64 .typed m _ is′ .0)) $
         -- [what n owns; true; the array; true; the text's token; the tree's; the result; true; the ranges'; true; text; tree; ranges]
         assigns ! (addr ! (from ! (stop !))) (from ! (stop !)) (init ! 19 refl (tt, tt)) $

@@ -3,7 +3,7 @@ use Prim.Native.Nat.{_-_}
 use mathlib.Core.Path.{refl}
 use native.Mathlib.Omega.{arith}
 use Rattle.notation.specs.Packed.{RECORD}
-use Rattle.tally.proofs.Filling.{Filling, filling-starts, filling-on, filling-ends, record-before, own-open, sums-held}
+use Rattle.tally.proofs.Filling.{Filling, filling-starts, filling-on, filling-ends, record-before, own-open, sums-capped}
 use Rattle.tally.proofs.fill_counts.Statement.{statement}
 use Rattle.tally.proofs.fill_counts.Tie as tie
 
@@ -39,7 +39,7 @@ fill-count-requires c κs =
     let back = record-before (loop .inv) (turn .loop-test .taken) in
     let next = loop .at - RECORD in
     (own-open _ (start .pre .0) (start .pre .1) _ _ _ (loop .inv) (turn .loop-test .taken) next (omega (arith, back .0)),
-    sums-held _ (start .pre .0) (start .pre .1) _ _ _ (loop .inv) (turn .loop-test .taken) next (omega (arith, back .0)))
+    sums-capped _ (start .pre .0) (start .pre .1) _ _ _ (loop .inv) (turn .loop-test .taken) next (omega (arith, back .0)))
 
 loop-less : tie.Need-loop-less Inv-loop μ-loop
 loop-less c = omega (arith, c .before .before .before .before .before .loop-test .taken, record-before (c .before .before .before .before .before .before .loop .inv) (c .before .before .before .before .before .loop-test .taken))

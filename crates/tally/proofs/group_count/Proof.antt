@@ -4,7 +4,7 @@ use mathlib.Core.Path.{refl, ap₂, _∙_}
 use borrow.Author.Needs.{needs}
 use lib.ListN.{getD}
 use Rattle.notation.specs.Numbers.{fromBits}
-use Rattle.counts.specs.Held.{groupCount}
+use Rattle.counts.specs.Groups.{groupCount}
 use Rattle.tally.proofs.group_count.Statement.{statement}
 use Rattle.tally.proofs.group_count.Tie as tie
 
@@ -35,8 +35,8 @@ element-copy-out-of-group-2 c = search needs
 of-group-requires : tie.Need-of-group-requires
 of-group-requires c κs =
     let start = c .before .before .before .before .before in
-    let held = start .pre .1 .1 in
-    (held (start .args .tally + 2), held (start .args .tally + 1))
+    let capped = start .pre .1 .1 in
+    (capped (start .args .tally + 2), capped (start .args .tally + 1))
 
 mul-sums : tie.Need-mul-sums
 mul-sums c = search needs

@@ -21,18 +21,18 @@ returns c =
     let a = start .args in
     wrote-byte (now (a .out)) (a .at) (a .byte) (omega arith) (omega (arith, start .good))
 
-add-hold : tie.Need-add-hold
-add-hold c = search needs
+add-cap-position : tie.Need-add-cap-position
+add-cap-position c = search needs
 
-hold-requires : tie.Need-hold-requires
-hold-requires c κs = search needs
+cap-position-requires : tie.Need-cap-position-requires
+cap-position-requires c κs = search needs
 
 returns-2 : tie.Need-returns-2
 returns-2 c =
     let a = c .before .before .before .args in
-    byte-past (now (a .out)) (a .at) (c .hold .result) (a .byte) (c .hold .ensures) (omega arith)
+    byte-past (now (a .out)) (a .at) (c .cap-position .result) (a .byte) (c .cap-position .ensures) (omega arith)
 
 pub put-spec : {M : Type 1} → statement M
 put-spec =
     tie.close
-    (tie.spec slice-write-out add-result same-length returns add-hold hold-requires returns-2)
+    (tie.spec slice-write-out add-result same-length returns add-cap-position cap-position-requires returns-2)

@@ -13,27 +13,27 @@ Inv-loop out₀ at bytes from to end i₀ next₀ out i next = Copied out₀ at 
 abbrev μ-loop : tie.MeasureT-loop
 μ-loop out₀ at bytes from to end i₀ next₀ out i next = to - i
 
-sub-hold : tie.Need-sub-hold Inv-loop μ-loop
-sub-hold c = search needs
+sub-cap-position : tie.Need-sub-cap-position Inv-loop μ-loop
+sub-cap-position c = search needs
 
-add-hold : tie.Need-add-hold Inv-loop μ-loop
-add-hold c = search needs
+add-cap-position : tie.Need-add-cap-position Inv-loop μ-loop
+add-cap-position c = search needs
 
-hold-requires : tie.Need-hold-requires Inv-loop μ-loop
-hold-requires c κs = search needs
+cap-position-requires : tie.Need-cap-position-requires Inv-loop μ-loop
+cap-position-requires c κs = search needs
 
 returns : tie.Need-returns Inv-loop μ-loop
 returns c =
     let h = c .before in
     let start = h .before .before .before in
     let a = start .args in
-    part-past (now (a .out)) (a .at) (h .hold .result) (a .from) (a .to) (now (a .bytes)) (start .pre .1 .1) (h .hold .ensures) (c .if1 .taken)
+    part-past (now (a .out)) (a .at) (h .cap-position .result) (a .from) (a .to) (now (a .bytes)) (start .pre .1 .1) (h .cap-position .ensures) (c .if1 .taken)
 
 loop-holds : tie.Need-loop-holds Inv-loop μ-loop
 loop-holds c =
     let start = c .before .before .before .before in
     let a = start .args in
-    copied-none (now (a .out)) (a .at) (now (a .bytes)) (a .from) (a .to) (start .pre .1 .0) (start .pre .1 .1) (omega (arith, c .before .hold .ensures, start .good))
+    copied-none (now (a .out)) (a .at) (now (a .bytes)) (a .from) (a .to) (start .pre .1 .0) (start .pre .1 .1) (omega (arith, c .before .cap-position .ensures, start .good))
 
 shared-slice-read-out : tie.Need-shared-slice-read-out Inv-loop μ-loop
 shared-slice-read-out c = search needs
@@ -62,7 +62,7 @@ returns-2 : tie.Need-returns-2 Inv-loop μ-loop
 returns-2 c =
     let h = c .before .before .before in
     let start = h .before .before .before in
-    copied-all (c .before .loop .inv) (omega (arith, c .loop-test .left)) (h .hold .ensures) (omega (arith, start .good))
+    copied-all (c .before .loop .inv) (omega (arith, c .loop-test .left)) (h .cap-position .ensures) (omega (arith, start .good))
 
 pub put-between-spec : {M : Type 1} → statement M
 put-between-spec =
@@ -70,9 +70,9 @@ put-between-spec =
     (tie.spec
     Inv-loop
     μ-loop
-    sub-hold
-    add-hold
-    hold-requires
+    sub-cap-position
+    add-cap-position
+    cap-position-requires
     returns
     loop-holds
     shared-slice-read-out

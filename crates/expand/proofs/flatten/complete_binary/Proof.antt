@@ -7,9 +7,9 @@ use Rattle.expand.proofs.Completing.{
   total-room,
   twice,
   once,
-  first-held,
+  first-asSteps,
   second-of,
-  second-held,
+  second-asSteps,
   commutator-written,
   conjugate-written,
 }
@@ -33,7 +33,7 @@ part-turn-end : tie.Need-part-turn-end
 part-turn-end c = omega (arith, third-room (c .before .before .before .before .before .before .pre), c .before .before .repeat .kept .0)
 
 turn-requires : tie.Need-turn-requires
-turn-requires c κs = let p = c .before .before .before .before .before .before .before .pre in first-held p (twice p (c .before .before .before .repeat .ensures))
+turn-requires c κs = let p = c .before .before .before .before .before .before .before .pre in first-asSteps p (twice p (c .before .before .before .repeat .ensures))
 
 part-turn-end-2 : tie.Need-part-turn-end-2
 part-turn-end-2 c =
@@ -45,7 +45,7 @@ part-turn-end-2 c =
 turn-requires-2 : tie.Need-turn-requires-2
 turn-requires-2 c κs =
     let p = c .before .before .before .before .before .before .before .before .before .before .before .pre in
-    second-held p (second-of p (twice p (c .before .before .before .before .before .before .before .repeat .ensures)) (c .before .before .before .turn .ensures))
+    second-asSteps p (second-of p (twice p (c .before .before .before .before .before .before .before .repeat .ensures)) (c .before .before .before .turn .ensures))
 
 returns : tie.Need-returns
 returns c =
@@ -59,7 +59,7 @@ part-turn-end-3 : tie.Need-part-turn-end-3
 part-turn-end-3 c = omega (arith, third-room (c .before .before .before .before .before .before .pre), c .before .before .repeat2 .kept .0)
 
 turn-requires-3 : tie.Need-turn-requires-3
-turn-requires-3 c κs = let p = c .before .before .before .before .before .before .before .pre in first-held p (once p (c .before .before .before .repeat2 .ensures))
+turn-requires-3 c κs = let p = c .before .before .before .before .before .before .before .pre in first-asSteps p (once p (c .before .before .before .repeat2 .ensures))
 
 returns-2 : tie.Need-returns-2
 returns-2 c =

@@ -4,7 +4,7 @@ use mathlib.Core.Path.{refl, sym, ap, _∙_}
 use Rattle.expand.proofs.Parts.{put-room}
 use native.Mathlib.Omega.{arith}
 use Rattle.notation.specs.Numbers.{fromBits}
-use Rattle.expand.proofs.Completing.{one-repeat, contents-held, turned-written, kept-written}
+use Rattle.expand.proofs.Completing.{one-repeat, contents-asSteps, turned-written, kept-written}
 use borrow.Author.Needs.{needs}
 use Rattle.expand.proofs.flatten.repeat_block.Statement.{statement}
 use Rattle.expand.proofs.flatten.repeat_block.Tie as tie
@@ -16,7 +16,7 @@ part-turn-end : tie.Need-part-turn-end
 part-turn-end c = omega (arith, one-repeat (c .before .before .before .before .pre), c .before .before .before .before .pre .room)
 
 turn-requires : tie.Need-turn-requires
-turn-requires c κs = contents-held (c .before .before .before .before .before .pre)
+turn-requires c κs = contents-asSteps (c .before .before .before .before .before .pre)
 
 repeat-requires : tie.Need-repeat-requires
 repeat-requires c κs = (

@@ -1,7 +1,7 @@
 use borrow.Author.Needs.{needs}
 use mathlib.Core.Path.{ap, _∙_}
 use Rattle.laws.proofs.Unrolling.{first}
-use Rattle.expand.specs.Meaning.{told}
+use Rattle.expand.specs.Meaning.{refusalOf}
 use Rattle.expand.proofs.Visiting.{either-way}
 use Rattle.expand.proofs.visit.of_binary.Statement.{statement}
 use Rattle.expand.proofs.visit.of_binary.Tie as tie
@@ -31,8 +31,8 @@ returns c =
     let b = start .args .b in
     rw (c .before .before .before .before .before .before .if1 .taken)
     (either-way
-    (c .before .before .before .first3 .ensures ∙ ap (first (told (a .forward))) (c .before .before .before .before .first2 .ensures ∙ ap (first (told (b .forward))) (c .before .before .before .before .before .first .ensures)))
-    (c .first6 .ensures ∙ ap (first (told (b .forward))) (c .before .first5 .ensures ∙ ap (first (told (a .forward))) (c .before .before .first4 .ensures))))
+    (c .before .before .before .first3 .ensures ∙ ap (first (refusalOf (a .forward))) (c .before .before .before .before .first2 .ensures ∙ ap (first (refusalOf (b .forward))) (c .before .before .before .before .before .first .ensures)))
+    (c .first6 .ensures ∙ ap (first (refusalOf (b .forward))) (c .before .first5 .ensures ∙ ap (first (refusalOf (a .forward))) (c .before .before .first4 .ensures))))
 
 first-requires-7 : tie.Need-first-requires-7
 first-requires-7 c κs = search needs
@@ -52,8 +52,8 @@ returns-2 c =
     let a = start .args .a in
     rw (c .before .before .before .before .if1 .left)
     (either-way
-    (c .before .before .first8 .ensures ∙ ap (first (told (a .forward))) (c .before .before .before .first7 .ensures))
-    (c .first10 .ensures ∙ ap (first (told (a .forward))) (c .before .first9 .ensures)))
+    (c .before .before .first8 .ensures ∙ ap (first (refusalOf (a .forward))) (c .before .before .before .first7 .ensures))
+    (c .first10 .ensures ∙ ap (first (refusalOf (a .forward))) (c .before .first9 .ensures)))
 
 pub of-binary-spec : {M : Type 1} → statement M
 of-binary-spec =

@@ -3,12 +3,12 @@ use Prim.Native.Nat.{_-_}
 use native.Mathlib.Omega.{arith}
 use borrow.Author.Needs.{needs}
 use lib.ListN.{length}
-use Rattle.parse.proofs.NestingScan.{Counted, count-start, count-on, count-end}
+use Rattle.parse.proofs.NestingScan.{BracketsCounted, count-start, count-on, count-end}
 use Rattle.parse.proofs.nesting.count.Statement.{statement}
 use Rattle.parse.proofs.nesting.count.Tie as tie
 
 abbrev Inv-loop : tie.InvT-loop
-Inv-loop bytes round square n₀ at₀ n at = Counted round square bytes n at
+Inv-loop bytes round square n₀ at₀ n at = BracketsCounted round square bytes n at
 
 abbrev μ-loop : tie.MeasureT-loop
 μ-loop bytes round square n₀ at₀ n at = length bytes - at

@@ -74,7 +74,7 @@ module _ {M : Type 1} (𝓤 : URA M) (H : Heap 𝓤) (A : Atoms 𝓤) (W : Given
 
     -- what `parse::constraint_set` says of its answer
     abbrev Says : Taken → Type 0
-    Says a = means.told (text h) a ≡ means.forget (reads rule.constraintSet h)
+    Says a = means.endReading (text h) a ≡ means.forget (reads rule.constraintSet h)
 
     exits : (a : Taken) (u : Val) → Is S.the-row a (u ∷ []) → (n : ℕ) → Says a → n ≡ afterSet (h .at) a → ent 𝓤 (⋆ 𝓤 H A (Left l n)) (Exit u)
     exits a u is n e c = leaves alone 𝓤 H A (constraint-set.signature .result) (constraint-set.clauses 𝓤 H A mem run) l bounds tt tt W n u a tt tt (id⊢ 𝓤 _)

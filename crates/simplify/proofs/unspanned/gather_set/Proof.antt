@@ -25,8 +25,8 @@ gathered m =
     set-gathered (s .args .axis .«max_layer») (s .pre .0) (s .args .axis .«allow_negatives») (s .args .part .now) (s .args .reach .now) _ (s .pre .1 .0)
     (m .mark-set .ensures)
 
-invert-requires : tie.Need-invert-requires
-invert-requires c κs =
+turn-over-requires : tie.Need-invert-requires
+turn-over-requires c κs =
     let m = c .before .before .before .before in
     omega (arith, gathered m .size, m .before .before .before .before .pre .0 .high)
 
@@ -39,7 +39,7 @@ returns c =
     let s = m .before .before .before .before in
     rw (c .before .before .before .before .if1 .taken)
     (others-gathered (s .args .axis .«max_layer») (s .pre .0) (s .args .axis .«allow_negatives») (s .args .part .now) (s .args .reach .now) _ (s .pre .1 .0)
-    (m .mark-set .ensures) _ (c .before .before .invert .ensures))
+    (m .mark-set .ensures) _ (c .before .before .turn-over .ensures))
 
 same-length-2 : tie.Need-same-length-2
 same-length-2 c = search needs
@@ -50,4 +50,4 @@ returns-2 c = rw (c .if1 .left) (gathered (c .before .before .before))
 pub gather-set-spec : {M : Type 1} → statement M
 gather-set-spec =
     tie.close
-    (tie.spec mark-set-requires invert-requires same-length returns same-length-2 returns-2)
+    (tie.spec mark-set-requires turn-over-requires same-length returns same-length-2 returns-2)

@@ -6,9 +6,9 @@ use native.Mathlib.Omega.{arith}
 use borrow.Author.Needs.{needs}
 use lib.ListN.{length}
 use Rattle.notation.specs.Packed.{RECORD}
-use Rattle.well_formed.specs.Meaning.{counted as answer}
+use Rattle.well_formed.specs.Meaning.{stepCount as answer}
 use Rattle.numbers.proofs.BigEndian.{slice-below}
-use Rattle.well_formed.proofs.Turns.{GroupTold, group-told, counted, too-short, too-long, bad-node, no-more, refused, Left, at-first, shorter, past-group, past-leaf, count-held, no-level, group-refused, FirstRead, first-refused, first-held, SecondRead, no-second, second-list-refused, second-held, count-compared}
+use Rattle.well_formed.proofs.Turns.{GroupTold, group-told, counted, too-short, too-long, bad-node, no-more, refused, Left, at-first, shorter, past-group, past-leaf, count-capped, no-level, group-refused, FirstRead, first-refused, first-capped, SecondRead, no-second, second-list-refused, second-capped, count-compared}
 use borrow.Fn.Kinds.{In}
 use borrow.Fn.PlainCycle.{Measures, is, falls, and}
 use Rattle.well_formed.proofs.walk.group_ok.Reads as group-ok
@@ -17,7 +17,7 @@ use Rattle.well_formed.proofs.walk.+group_ok+list_count.Lts-group_ok as
 use Rattle.well_formed.proofs.walk.list_count.Reads as list-count
 use Rattle.well_formed.proofs.walk.list_count.Kinds as list-count-kinds
 use Rattle.well_formed.proofs.walk.+group_ok+list_count.Lts-list_count as list-count-lts
-use Rattle.counts.proofs.hold.Reads as hold-reads
+use Rattle.counts.proofs.cap.Reads as cap-reads
 use Rattle.counts.proofs.of_group.Reads as of-group-reads
 use Rattle.counts.proofs.sum.Reads as sum-reads
 use Rattle.record.proofs.fields.count.Reads as count-reads
@@ -56,7 +56,7 @@ abbrev group-claims : ℕ → group-ok-lts.Claims
 group-claims t = (group-record-ok-reads.Asked, group-record-ok-reads.Learnt, kind-reads.Asked, kind-reads.Learnt, number-reads.Asked, number-reads.Learnt, first-reads.Asked, first-reads.Learnt, list-count-below t, list-count.Post, count-reads.Asked, count-reads.Learnt, of-group-reads.Asked, of-group-reads.Learnt, second-reads.Asked, second-reads.Learnt)
 
 abbrev list-claims : ℕ → list-count-lts.Claims
-list-claims t = (kind-reads.Asked, kind-reads.Learnt, first-reads.Asked, first-reads.Learnt, second-reads.Asked, second-reads.Learnt, group-ok-below t, group-ok.Post, count-reads.Asked, count-reads.Learnt, sum-reads.Asked, sum-reads.Learnt, leaf-ok-reads.Asked, leaf-ok-reads.Learnt, hold-reads.Asked, hold-reads.Learnt)
+list-claims t = (kind-reads.Asked, kind-reads.Learnt, first-reads.Asked, first-reads.Learnt, second-reads.Asked, second-reads.Learnt, group-ok-below t, group-ok.Post, count-reads.Asked, count-reads.Learnt, sum-reads.Asked, sum-reads.Learnt, leaf-ok-reads.Asked, leaf-ok-reads.Learnt, cap-reads.Asked, cap-reads.Learnt)
 
 -- what a group's record says
 told : (t : ℕ) (c : group-ok-lts.After-shared-slice-known2 (group-claims t) (group-ok-at t) group-ok.Post) → GroupTold (c .before .before .args .t .now)
@@ -152,7 +152,7 @@ group-ok-count-requires t c κs = search needs
 
 group-ok-of-group-requires : (t : ℕ) → group-ok-lts.Need-of-group-requires (group-claims t) (group-ok-at t) group-ok.Post
 group-ok-of-group-requires t c κs =
-    let held = first-held (one-is t (c .before .before .before)) _ refl in
+    let most = first-capped (one-is t (c .before .before .before)) _ refl in
     (omega arith, omega arith)
 
 group-ok-returns-3 : (t : ℕ) → group-ok-lts.Need-returns-3 (group-claims t) (group-ok-at t) group-ok.Post
@@ -208,8 +208,8 @@ group-ok-of-group-requires-2 : (t : ℕ) → group-ok-lts.Need-of-group-requires
 group-ok-of-group-requires-2 t c κs =
     let lists = two t (c .before .before .before .before) in
     let bound = c .before .before .b in
-    let held = first-held (lists .one) _ refl in
-    let held′ = second-held lists (bound .given .0 .0) (ap answer (bound .given .1)) in
+    let most = first-capped (lists .one) _ refl in
+    let most′ = second-capped lists (bound .given .0 .0) (ap answer (bound .given .1)) in
     (omega arith, omega arith)
 
 group-ok-returns-5 : (t : ℕ) → group-ok-lts.Need-returns-5 (group-claims t) (group-ok-at t) group-ok.Post
@@ -291,7 +291,7 @@ list-count-sum-requires t c κs =
     let ok = c .before .before .group-ok in
     let long = c .before .before .before .before .before .before .before .before .if1 .left in
     let few = left .inv .few in
-    let held = count-held (a .text .now) (a .depth) (left .t .now) (left .inv .below) long (ok .result) (ok .ensures) (c .before .if4 .taken) (c .count .result) (c .count .ensures) in
+    let most = count-capped (a .text .now) (a .depth) (left .t .now) (left .inv .below) long (ok .result) (ok .ensures) (c .before .if4 .taken) (c .count .result) (c .count .ensures) in
     omega arith
 
 list-count-sub-t : (t : ℕ) → list-count-lts.Need-sub-t (list-claims t) (list-count-at t) list-count.Post list-count-Inv-loop list-count-μ-loop
@@ -359,14 +359,14 @@ list-count-returns-4 t c =
     refused (a .text .now) (a .depth) (a .list .now) (left .t .now) _ (left .inv)
     (bad-node (a .text .now) (a .depth) (left .t .now) (left .inv .below) (c .before .before .before .before .before .loop-test .taken) (ok .result) (ok .ensures (a .depth)) (c .if5 .left))
 
-list-count-hold-requires : (t : ℕ) → list-count-lts.Need-hold-requires (list-claims t) (list-count-at t) list-count.Post list-count-Inv-loop list-count-μ-loop
-list-count-hold-requires t c κs = search needs
+list-count-cap-requires : (t : ℕ) → list-count-lts.Need-cap-requires (list-claims t) (list-count-at t) list-count.Post list-count-Inv-loop list-count-μ-loop
+list-count-cap-requires t c κs = search needs
 
 list-count-returns-5 : (t : ℕ) → list-count-lts.Need-returns-5 (list-claims t) (list-count-at t) list-count.Post list-count-Inv-loop list-count-μ-loop
 list-count-returns-5 t c =
     let left = c .before .before .loop in
     let a = c .before .before .before .before .before .args in
-    no-more (a .text .now) (a .depth) (a .list .now) (left .t .now) _ (left .inv) (c .before .loop-test .left) (c .hold .result) (c .hold .ensures)
+    no-more (a .text .now) (a .depth) (a .list .now) (left .t .now) _ (left .inv) (c .before .loop-test .left) (c .cap .result) (c .cap .ensures)
 
 pub +group-ok+list-count-spec : {M : Type 1} → statement M
 +group-ok+list-count-spec = close μ-group-ok μ-list-count (λ t. group-ok-lts.spec (group-claims t)
@@ -440,5 +440,5 @@ pub +group-ok+list-count-spec : {M : Type 1} → statement M
     (list-count-loop-less-2 t)
     (list-count-loop-again-2 t)
     (list-count-returns-4 t)
-    (list-count-hold-requires t)
+    (list-count-cap-requires t)
     (list-count-returns-5 t)

@@ -11,16 +11,16 @@ use Rattle.notation.specs.WellFormed.{treeOk}
 use Rattle.notation.specs.Entries.{checked, MAX-TEXT, MAX-STEPS}
 use Rattle.laws.proofs.Walking.{Packed}
 use Rattle.laws.proofs.Unrolling.{firstRefusal}
-use Rattle.notation.specs.Counts.{hold, count}
+use Rattle.notation.specs.Counts.{cap, count}
 
 -- how many steps a tree counts, held: refusals 1, 2, 6
-abbrev pub stepsIn : List ℕ → List ℕ → Outcome ℕ
-stepsIn text tree = do
+abbrev pub checkedSteps : List ℕ → List ℕ → Outcome ℕ
+checkedSteps text tree = do
   t ← checked text tree
-  result (hold (count t))
+  result (cap (count t))
 
 -- not refused 1, 2 or 6
-pub record Sound (text tree : List ℕ) : Type 0 where
+pub record Accepted (text tree : List ℕ) : Type 0 where
   pub short : length text ≤ MAX-TEXT
   pub packed : Packed tree
   pub ok : treeOk text (unpack tree) ≡ true
@@ -28,7 +28,7 @@ pub record Sound (text tree : List ℕ) : Type 0 where
 
 -- nor 7, 8 or 9
 pub record Counted (text tree : List ℕ) (n : ℕ) : Type 0 where
-  pub sound : Sound text tree
+  pub sound : Accepted text tree
   pub unrefused : firstRefusal false (unpack tree) ≡ none
   pub steps : n ≡ count (unpack tree)
   pub most : n ≤ MAX-STEPS

@@ -13,7 +13,7 @@ use Rattle.notation.specs.Unroll.{copies, turned}
 use Rattle.record.specs.Range.{FitsLeaf}
 use Rattle.laws.proofs.Packing.{FitsNode, FitsTree, unpack-pack}
 use Rattle.laws.proofs.Unrolling.{backwards, flatNode, flat}
-use Rattle.expand.specs.Steps.{Undoable, All, none, one, held, Holds, either, completed, repeats}
+use Rattle.expand.specs.Steps.{Undoable, All, none, one, asSteps, AreSteps, either, completed, repeats}
 use Rattle.expand.proofs.Steps.{records-append, records-copies}
 use Rattle.expand.proofs.Undoing.{wrapped, wrapped-fits, wrapped-record, wrapped-undone-record}
 
@@ -37,8 +37,8 @@ unfolding listed flat flatNode
 listed-flat [] = refl
 listed-flat (x ∷ l) = ap (λ (s : List Leaf). x ∷ s) (listed-flat l)
 
-pub held-records : {l : List Leaf} → All FitsLeaf l → held (records l) ≡ l
-held-records {l} p = ap held (sym (listed-bytes l)) ∙ ap (flat undo false) (unpack-pack (listed l) (listed-fits p)) ∙ listed-flat l
+pub asSteps-records : {l : List Leaf} → All FitsLeaf l → asSteps (records l) ≡ l
+asSteps-records {l} p = ap asSteps (sym (listed-bytes l)) ∙ ap (flat undo false) (unpack-pack (listed l) (listed-fits p)) ∙ listed-flat l
 
 -- steps that can be undone, as the records have them
 all-wrapped : {l : List Leaf} → All Undoable l → All FitsLeaf (map wrapped l)
@@ -64,24 +64,24 @@ backwards-wrapped (one {x = x} {l = l} h p) =
 
 -- bytes that are the records of steps that can be undone
 module _ {bs : List ℕ} {l : List Leaf} (e : bs ≡ records l) (u : All Undoable l) where
-  held-wrapped : held bs ≡ map wrapped l
-  held-wrapped = ap held (e ∙ sym (records-wrapped u)) ∙ held-records (all-wrapped u)
+  asSteps-wrapped : asSteps bs ≡ map wrapped l
+  asSteps-wrapped = ap asSteps (e ∙ sym (records-wrapped u)) ∙ asSteps-records (all-wrapped u)
 
-  pub holds : Holds bs
-  holds = record { bytes = ap records held-wrapped ∙ records-wrapped u ∙ sym e; fits = subst (All FitsLeaf) (sym held-wrapped) (all-wrapped u) }
+  pub holds : AreSteps bs
+  holds = record { bytes = ap records asSteps-wrapped ∙ records-wrapped u ∙ sym e; fits = subst (All FitsLeaf) (sym asSteps-wrapped) (all-wrapped u) }
 
-  pub same-either : (d : Bool) → records (either (held bs) d) ≡ records (either l d)
-  same-either true = ap (λ (k : List Leaf). records (backwards k)) held-wrapped ∙ backwards-wrapped u
-  same-either false = ap records held-wrapped ∙ records-wrapped u
+  pub same-either : (d : Bool) → records (either (asSteps bs) d) ≡ records (either l d)
+  same-either true = ap (λ (k : List Leaf). records (backwards k)) asSteps-wrapped ∙ backwards-wrapped u
+  same-either false = ap records asSteps-wrapped ∙ records-wrapped u
 
-  pub same-repeats : (m : ℤ) → records (repeats m (held bs)) ≡ records (repeats m l)
+  pub same-repeats : (m : ℤ) → records (repeats m (asSteps bs)) ≡ records (repeats m l)
   same-repeats m =
-      records-copies (natAbs m) (either (held bs) (turned m false))
+      records-copies (natAbs m) (either (asSteps bs) (turned m false))
       ∙ ap (copies (natAbs m)) (same-either (turned m false))
       ∙ sym (records-copies (natAbs m) (either l (turned m false)))
 
 -- the same of two lists
 pub same-completed : (k : Bool) {xs ys : List ℕ} {l m : List Leaf} → xs ≡ records l → All Undoable l → ys ≡ records m → All Undoable m →
-    records (completed k (held xs) (held ys)) ≡ records (completed k l m)
+    records (completed k (asSteps xs) (asSteps ys)) ≡ records (completed k l m)
 same-completed true {xs} {ys} e u e′ u′ = simp (records-append, same-either e u true, same-either e u false, same-either e′ u′ true, same-either e′ u′ false)
 same-completed false {xs} {ys} e u e′ u′ = simp (records-append, same-either e u true, same-either e u false, same-either e′ u′ false)

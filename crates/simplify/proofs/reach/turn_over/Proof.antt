@@ -12,8 +12,8 @@ use Rattle.notation.specs.Basics.{pick}
 use Rattle.simplify.proofs.Over.{next-over, all-over}
 use borrow.Author.Needs.{needs}
 use Rattle.simplify.specs.Reach.{turnedOver}
-use Rattle.simplify.proofs.reach.invert.Statement.{statement}
-use Rattle.simplify.proofs.reach.invert.Tie as tie
+use Rattle.simplify.proofs.reach.turn_over.Statement.{statement}
+use Rattle.simplify.proofs.reach.turn_over.Tie as tie
 
 abbrev Inv-loop : tie.InvT-loop
 Inv-loop reach₀ far₀ i₀ reach far i =
@@ -65,8 +65,8 @@ same-length c = c .before .loop .inv .0
 returns : tie.Need-returns Inv-loop μ-loop
 returns c = let l = c .before .loop in sym (all-over (l .far) (l .i) (l .reach) (c .loop-test .left)) ∙ l .inv .3
 
-pub invert-spec : {M : Type 1} → statement M
-invert-spec =
+pub turn-over-spec : {M : Type 1} → statement M
+turn-over-spec =
     tie.close
     (tie.spec
     Inv-loop
