@@ -21,7 +21,7 @@ use Rattle.notation.specs.Meaning.{orEmpty, constraintsIn, layerSetIn, constrai
 use Rattle.notation.specs.WellFormed.{isSome, inside, familyOk, constraintsOk, layersOk, multiplierOk, leafOk}
 use Rattle.notation.specs.Print.{putBraces, putConstraint, putConstraints, putElement, putLayers, putTilde, putMultiplier, putMegaminx, putStep}
 use Rattle.notation.specs.declared.common.MegaminxScrambleMove.{MegaminxScrambleMove}
-use Rattle.record.specs.Meaning.{span, layers, field, spanAt, layersAt, constraintsAt}
+use Rattle.record.specs.Meaning.{span, layers, field, spanAt, layersAt, constraintsAt, kindAt, tildeAt, formAt, presentAt, NUMBER, OTHER, FAMILY, FAMILY-SIZE, CONSTRAINTS}
 use Rattle.record.specs.declared.spanned.Span.{Span}
 use Rattle.record.specs.declared.spanned.LayerPrefixContents.{LayerPrefixContents}
 use Rattle.record.specs.declared.spanned.LayerPrefixContents.the-variants as prefix
@@ -47,10 +47,10 @@ within : (text : List ℕ) (p : Span) (t : Bool) → (inside text (span p) && t)
 within text p t h = leb-true (p .offset + p .size) (length text) (and-left (inside text (span p)) t h)
 
 -- the constraints of a record, by the bit that tells of them
-pub no-constraints : (bs : List ℕ) {r : Bool} → r ≡ eqb (field 0 bs % 2) 1 → r ≡ false → constraintsAt bs ≡ none
+pub no-constraints : (bs : List ℕ) {r : Bool} → r ≡ presentAt bs → r ≡ false → constraintsAt bs ≡ none
 no-constraints bs e h = rw (sym e ∙ h)
 
-pub some-constraints : (bs : List ℕ) (p : Span) {r : Bool} → r ≡ eqb (field 0 bs % 2) 1 → r ≡ true → span p ≡ spanAt 7 bs → constraintsAt bs ≡ some (span p)
+pub some-constraints : (bs : List ℕ) (p : Span) {r : Bool} → r ≡ presentAt bs → r ≡ true → span p ≡ spanAt CONSTRAINTS bs → constraintsAt bs ≡ some (span p)
 some-constraints bs p e h i = rw (sym e ∙ h) (ap some (sym i))
 
 module _ (text : List ℕ) {q : Option tree.Span} (p : Span) (e : q ≡ some (span p)) where
@@ -110,21 +110,21 @@ move-parts text t l f c m h =
     }
 
 -- What stands before the family, by the fields of the record.
-module _ (text bs : List ℕ) {kind : ℕ} (e : kind ≡ field 0 bs / 16) {old new : List ℕ} {at next : ℕ} where
+module _ (text bs : List ℕ) {kind : ℕ} (e : kind ≡ kindAt bs) {old new : List ℕ} {at next : ℕ} where
   pub rotation-before : kind ≡ 6 → Wrote old new at next (λ rest. 64 ∷ rest) → Wrote old new at next (putBefore text bs)
-  rotation-before h w = let i : field 0 bs / 16 ≡ 6 = sym e ∙ h in wrote-as (putBefore text bs) (λ rest. rw i) w
+  rotation-before h w = let i : kindAt bs ≡ 6 = sym e ∙ h in wrote-as (putBefore text bs) (λ rest. rw i) w
 
-  pub move-before : {t : Bool} {l : tree.Layers tree.Span} → (kind ≡ 6 → ⊥) → t ≡ eqb (field 0 bs / 8 % 2) 1 → l ≡ layersAt bs →
+  pub move-before : {t : Bool} {l : tree.Layers tree.Span} → (kind ≡ 6 → ⊥) → t ≡ tildeAt bs → l ≡ layersAt bs →
       Wrote old new at next (λ rest. putTilde t (putLayers (layerMeaning text l) rest)) → Wrote old new at next (putBefore text bs)
-  move-before h i j w = wrote-as (putBefore text bs) (λ rest. rw (i, j, ne-eqb (field 0 bs / 16) 6 (λ z. h (e ∙ z)))) w
+  move-before h i j w = wrote-as (putBefore text bs) (λ rest. rw (i, j, ne-eqb (kindAt bs) 6 (λ z. h (e ∙ z)))) w
 
-pub no-layers : (bs : List ℕ) {form : ℕ} → form ≡ field 0 bs / 2 % 4 → form ≡ 0 → noLayers ≡ layersAt bs
+pub no-layers : (bs : List ℕ) {form : ℕ} → form ≡ formAt bs → form ≡ 0 → noLayers ≡ layersAt bs
 no-layers bs e h = rw (sym e ∙ h)
 
 pub family-ok : (text : List ℕ) {f g : tree.Span} → f ≡ g → inside text g ≡ true → inside text f ≡ true
 family-ok text e h = rw e h
 
-pub transform-as : (text bs : List ℕ) {f : tree.Span} {m : ℕ} → f ≡ familyAt (field 5 bs) (field 6 bs) → m ≡ field 3 bs → {old new : List ℕ} {at next : ℕ} →
+pub transform-as : (text bs : List ℕ) {f : tree.Span} {m : ℕ} → f ≡ familyAt (field FAMILY bs) (field FAMILY-SIZE bs) → m ≡ field NUMBER bs → {old new : List ℕ} {at next : ℕ} →
     Wrote old new at next (λ rest. putBefore text bs (partOf text f ++ putConstraints (constraintMeaning text (constraintsAt bs)) (putMultiplier (fromBits 32 m) rest))) →
     Wrote old new at next (putTransform text bs)
 transform-as text bs e i w = rw (e, i) at w
@@ -138,13 +138,13 @@ module _ (text bs : List ℕ) {old new : List ℕ} {at next : ℕ} where
       (x : Leaf) → headAt bs ≡ leafHead x → Wrote old new at next (putStep (stepOf text x))
   leaf-put y h w x i = let e : y ≡ x = leaf-same (sym h ∙ i) in rw e at w
 
-  pub pair-put : {kind u d : ℕ} → kind ≡ field 0 bs / 16 → kind ≡ 9 → u ≡ field 3 bs → d ≡ field 4 bs → Wrote old new at next (putStep (pair (fromBits 32 u) (fromBits 32 d))) →
+  pub pair-put : {kind u d : ℕ} → kind ≡ kindAt bs → kind ≡ 9 → u ≡ field NUMBER bs → d ≡ field OTHER bs → Wrote old new at next (putStep (pair (fromBits 32 u) (fromBits 32 d))) →
       (x : Leaf) → headAt bs ≡ leafHead x → Wrote old new at next (putStep (stepOf text x))
   unfolding stepOf
-  pair-put e h i j w = leaf-put (pair (fromBits 32 (field 3 bs)) (fromBits 32 (field 4 bs))) (headAt-kind bs 9 (sym h ∙ e)) (rw (i, j) at w)
+  pair-put e h i j w = leaf-put (pair (fromBits 32 (field NUMBER bs)) (fromBits 32 (field OTHER bs))) (headAt-kind bs 9 (sym h ∙ e)) (rw (i, j) at w)
 
   -- what the arms before leave
-  pub megaminx-put : {kind : ℕ} → kind ≡ field 0 bs / 16 → GoodLeaf text bs → ((Unit {0} × (kind ≡ 8 → ⊥)) × (kind ≡ 9 → ⊥)) × (kind ≡ 10 → ⊥) → (kind < 6) ⊎ (7 < kind) →
+  pub megaminx-put : {kind : ℕ} → kind ≡ kindAt bs → GoodLeaf text bs → ((Unit {0} × (kind ≡ 8 → ⊥)) × (kind ≡ 9 → ⊥)) × (kind ≡ 10 → ⊥) → (kind < 6) ⊎ (7 < kind) →
       ((m : MegaminxScrambleMove) → kind ≡ megaminxNumber m → Wrote old new at next (putMegaminx m)) →
       (x : Leaf) → headAt bs ≡ leafHead x → Wrote old new at next (putStep (stepOf text x))
   unfolding putStep stepOf
@@ -163,15 +163,15 @@ sixth-or-seventh k l h = go (k - 6) (omega arith)
     go (suc (suc d)) e = absurd (omega arith)
 
 -- A rotation or a move by the fields of its record.
-module _ (text bs : List ℕ) {kind : ℕ} (e : kind ≡ field 0 bs / 16) where
+module _ (text bs : List ℕ) {kind : ℕ} (e : kind ≡ kindAt bs) where
   abbrev family : tree.Span
-  family = familyAt (field 5 bs) (field 6 bs)
+  family = familyAt (field FAMILY bs) (field FAMILY-SIZE bs)
 
   abbrev rotated : Leaf
-  rotated = rotation family (constraintsAt bs) (fromBits 32 (field 3 bs))
+  rotated = rotation family (constraintsAt bs) (fromBits 32 (field NUMBER bs))
 
   abbrev moved : Leaf
-  moved = move (eqb (field 0 bs / 8 % 2) 1) (layersAt bs) family (constraintsAt bs) (fromBits 32 (field 3 bs))
+  moved = move (tildeAt bs) (layersAt bs) family (constraintsAt bs) (fromBits 32 (field NUMBER bs))
 
   rotation-told : kind ≡ 6 → headAt bs ≡ leafHead rotated
   rotation-told h = headAt-kind bs 6 (sym h ∙ e)
@@ -187,25 +187,25 @@ module _ (text bs : List ℕ) {kind : ℕ} (e : kind ≡ field 0 bs / 16) where
 
       one : kind ≡ 6 → GoodTransform text bs
       one h =
-          let p = rotation-parts text family (constraintsAt bs) (fromBits 32 (field 3 bs)) (ok rotated (rotation-told h)) in
+          let p = rotation-parts text family (constraintsAt bs) (fromBits 32 (field NUMBER bs)) (ok rotated (rotation-told h)) in
           record { room = g .room; layers = λ z. absurd (z (sym e ∙ h)); family = p .family; constraints = p .constraints }
 
       two : kind ≡ 7 → GoodTransform text bs
       two h =
-          let p = move-parts text (eqb (field 0 bs / 8 % 2) 1) (layersAt bs) family (constraintsAt bs) (fromBits 32 (field 3 bs)) (ok moved (move-told h)) in
+          let p = move-parts text (tildeAt bs) (layersAt bs) family (constraintsAt bs) (fromBits 32 (field NUMBER bs)) (ok moved (move-told h)) in
           record { room = g .room; layers = λ z. p .layers; family = p .family; constraints = p .constraints }
 
   module _ {old new : List ℕ} {at next : ℕ} (w : Wrote old new at next (putTransform text bs)) (x : Leaf) (told : headAt bs ≡ leafHead x) where
     rotation-put : kind ≡ 6 → Wrote old new at next (putStep (stepOf text x))
     unfolding putStep stepOf
     rotation-put h =
-        let i : field 0 bs / 16 ≡ 6 = sym e ∙ h in
+        let i : kindAt bs ≡ 6 = sym e ∙ h in
         leaf-put text bs rotated (rotation-told h) (wrote-as (putStep (stepOf text rotated)) (λ rest. rw i) w) x told
 
     move-put : kind ≡ 7 → Wrote old new at next (putStep (stepOf text x))
     unfolding putStep stepOf
     move-put h =
-        let i : field 0 bs / 16 ≡ 7 = sym e ∙ h in
+        let i : kindAt bs ≡ 7 = sym e ∙ h in
         leaf-put text bs moved (move-told h) (wrote-as (putStep (stepOf text moved)) (λ rest. rw i) w) x told
 
     pub transform-put : (kind ≡ 6) ⊎ (kind ≡ 7) → Wrote old new at next (putStep (stepOf text x))

@@ -15,7 +15,7 @@ use Rattle.notation.specs.WellFormed.{multiplierOk, nodeOk, bodyOk, treeOk}
 use Rattle.notation.specs.Print.{putMultiplier, putStep, putPrefix, putSeparator, putNode, putBody, putNodes, putOthers}
 use Rattle.notation.specs.declared.common.GroupKind.{GroupKind}
 use Rattle.notation.specs.declared.common.BinaryGroupKind.{BinaryGroupKind}
-use Rattle.record.specs.Meaning.{field}
+use Rattle.record.specs.Meaning.{field, kindAt, NUMBER}
 use Rattle.laws.proofs.Bools.{and-left, and-right}
 use Rattle.laws.proofs.Walking.{Packed, no-node, one-list}
 use Rattle.nodes.specs.Nodes.{IsNode, part, FirstNode, Lists}
@@ -78,7 +78,7 @@ pub record TwoGroup (text bs : List ℕ) (kind m middle : ℕ) : Type 0 where
   pub number : kind ≡ binaryNumber group
   pub inside : TwoInside text bs group middle (fromBits 32 m)
 
-module _ {text bs : List ℕ} (g : GoodNode text bs) {kind m : ℕ} (e : kind ≡ field 0 bs / 16) (i : m ≡ field 3 bs) where
+module _ {text bs : List ℕ} (g : GoodNode text bs) {kind m : ℕ} (e : kind ≡ kindAt bs) (i : m ≡ field NUMBER bs) where
   pub one-group : kind < 4 → OneGroup text bs kind m
   one-group h = go (g .node) (g .isNode) (g .ok)
     where
@@ -88,7 +88,7 @@ module _ {text bs : List ℕ} (g : GoodNode text bs) {kind m : ℕ} (e : kind �
           record { group = k; number = e ∙ kind-of s; inside = rw i (subst (OneInside text bs k) (multiplier-of (group k a) s) (one-inside k a z s ok)) }
       go (block (binaryGroup k a b) z) s ok = absurd (omega (arith, kind-of s, binary-kind k .0))
 
-  pub two-group : {middle : ℕ} → Lists bs middle → 4 ≤ kind → field 0 bs / 16 ≤ 5 → TwoGroup text bs kind m middle
+  pub two-group : {middle : ℕ} → Lists bs middle → 4 ≤ kind → kindAt bs ≤ 5 → TwoGroup text bs kind m middle
   two-group {middle} l h h′ = go (g .node) (g .isNode) (g .ok)
     where
       go : (n : Node Leaf) → IsNode bs n → nodeOk text n ≡ true → TwoGroup text bs kind m middle
@@ -116,7 +116,7 @@ module _ (text : List ℕ) {bs : List ℕ} {e : ℕ} (f : FirstNode bs e) (h : t
 pub leaf-good : (text : List ℕ) {bs : List ℕ} (l : FirstLeaf bs) → treeOk text (unpack bs) ≡ true → GoodLeaf text bs
 unfolding nodeOk
 leaf-good text {bs} l ok =
-    let k : field 0 bs / 16 ≡ kindOf (leafHead (l .step)) = ap (λ (b : ℕ). b / 16) (sym (front-field bs RECORD (lit≤ tt) 0)) ∙ kind-of (leaf-node l) in
+    let k : kindAt bs ≡ kindOf (leafHead (l .step)) = ap (λ (b : ℕ). b / 16) (sym (front-field bs RECORD (lit≤ tt) 0)) ∙ kind-of (leaf-node l) in
     record {
       leaf = l .step;
       room = l .first .most;

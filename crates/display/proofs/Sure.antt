@@ -18,7 +18,7 @@ use Rattle.notation.specs.declared.common.GroupKind.the-variants.{Simple, Macro
 use Rattle.notation.specs.declared.common.BinaryGroupKind.{BinaryGroupKind}
 use Rattle.notation.specs.declared.common.BinaryGroupKind.the-variants.{Commutator, Conjugate}
 use Rattle.record.specs.Range.{FitsHead}
-use Rattle.record.specs.Meaning.{field}
+use Rattle.record.specs.Meaning.{field, formAt}
 use Rattle.record.proofs.RoundTrip.{length-headRecord, cut-headRecord}
 use Rattle.laws.proofs.Bools.{and-left, and-right}
 use Rattle.laws.proofs.Packing.{FitsNode, FitsBody, FitsTree}
@@ -160,13 +160,13 @@ module _ {tree t : List ℕ} {room left : ℕ} (g : Going tree t room left) wher
   pub going-shorter : 0 < length t → length (part RECORD (length t) t) < length t
   going-shorter h = omega (arith, going-room h, ap length (part-rest RECORD t), length-drop RECORD t)
 
-  pub going-on : {form size : ℕ} → 0 < length t → form ≡ field 0 t / 2 % 4 → (form ≡ 3 → ⊥) → size ≡ allowed (cut widths (take RECORD t)) → size ≤ left →
+  pub going-on : {form size : ℕ} → 0 < length t → form ≡ formAt t → (form ≡ 3 → ⊥) → size ≡ allowed (cut widths (take RECORD t)) → size ≤ left →
       Going tree (part RECORD (length t) t) room (left - size)
   unfolding Sure
   going-on {form} {size} l e s i h = go (g .run) (g .onward) l e i
     where
       go : {hs : List Head} {bs : List ℕ} → Run hs bs → (Sure hs left → Sure (heads (unpack tree) []) room) →
-          0 < length bs → form ≡ field 0 bs / 2 % 4 → size ≡ allowed (cut widths (take RECORD bs)) → Going tree (part RECORD (length bs) bs) room (left - size)
+          0 < length bs → form ≡ formAt bs → size ≡ allowed (cut widths (take RECORD bs)) → Going tree (part RECORD (length bs) bs) room (left - size)
       go ended on l e i = absurd (omega arith)
       go (record-then {h = h′} {hs} {bs} f r) on l e i =
           let fields = cut-headRecord h′ bs f in

@@ -193,7 +193,7 @@ fn leaf(out: &mut [u8], at: usize, text: &[u8], t: &[u8]) -> usize
 fn group(out: &mut [u8], at: usize, text: &[u8], bytes: &[u8]) -> usize
     requires { ⌜ at ≤ most ⌝ }
     requires { ⌜ GoodNode (now text) (now bytes) ⌝ }
-    requires { ⌜ means.field 0 (now bytes) / 16 ≤ 5 ⌝ }
+    requires { ⌜ means.kindAt (now bytes) ≤ 5 ⌝ }
     ensures { λ r. ⌜ Wrote (now (out .entry)) (now (out .exit)) at r (print.putNodes (meaning.unspanned (now (text .entry)) (unpack (now (bytes .entry))))) ⌝ }
 {
     let multiplier = fields::number(bytes);

@@ -17,7 +17,7 @@ use Rattle.notation.specs.WellFormed.{inside, familyOk, layersOk, leafOk}
 use Rattle.notation.specs.Entries.{
   Lent, refusalNumber, prefixOf, rangesIn, layerRanges, lend, inEntries, rangeBytes, simplifyBytes, familyOf, familySpan, family, familyRefusal
 }
-use Rattle.record.specs.Meaning.{field, layersAt}
+use Rattle.record.specs.Meaning.{field, layersAt, kindAt, tildeAt, FAMILY, FAMILY-SIZE}
 use Rattle.record.proofs.Packed.{by-kind}
 use Rattle.laws.proofs.Bools.{and-left, and-right}
 use Rattle.checked.specs.Checked.{Accepted}
@@ -25,13 +25,13 @@ use Rattle.checked.proofs.Outcomes.{Checks, refused}
 use Rattle.checked.proofs.Records.{HeadOk, prefix-ok, record-ok}
 
 abbrev pub tildeAt : List ℕ → Bool
-tildeAt bs = eqb (field 0 bs / 8 % 2) 1
+tildeAt bs = tildeAt bs
 
 -- What a record names, by its kind: 6 is a rotation, 7 a move.
-module _ (bs : List ℕ) (k : ℕ) (e : k ≡ field 0 bs / 16) where
-  family-by-kind : familyOf (headAt bs) ≡ pick (between 6 7 k) (result (familyAt (field 5 bs) (field 6 bs))) (refusal NO-SUCH-RECORD)
+module _ (bs : List ℕ) (k : ℕ) (e : k ≡ kindAt bs) where
+  family-by-kind : familyOf (headAt bs) ≡ pick (between 6 7 k) (result (familyAt (field FAMILY bs) (field FAMILY-SIZE bs))) (refusal NO-SUCH-RECORD)
   family-by-kind =
-      by-kind (λ (j : ℕ) (h : Head). familyOf h ≡ pick (between 6 7 j) (result (familyAt (field 5 bs) (field 6 bs))) (refusal NO-SUCH-RECORD)) bs k e
+      by-kind (λ (j : ℕ) (h : Head). familyOf h ≡ pick (between 6 7 j) (result (familyAt (field FAMILY bs) (field FAMILY-SIZE bs))) (refusal NO-SUCH-RECORD)) bs k e
       (refl, (refl, (refl, (refl, (refl, (refl, (refl, (refl, (refl, (refl, (refl, (refl, (refl, (refl, (refl, tt)))))))))))))))
       (λ j l. rw (le-leb 6 j (omega arith), lt-leb j 7 (omega arith)))
 
@@ -47,7 +47,7 @@ module _ (bs : List ℕ) (k : ℕ) (e : k ≡ field 0 bs / 16) where
   pub family-high : 7 < k → refusal NO-SUCH-RECORD ≡ familyOf (headAt bs)
   family-high h = rw (family-by-kind, le-leb 6 k (omega arith), lt-leb k 7 h)
 
-  pub family-named : 6 ≤ k → k ≤ 7 → result (familyAt (field 5 bs) (field 6 bs)) ≡ familyOf (headAt bs)
+  pub family-named : 6 ≤ k → k ≤ 7 → result (familyAt (field FAMILY bs) (field FAMILY-SIZE bs)) ≡ familyOf (headAt bs)
   family-named l h = rw (family-by-kind, le-leb 6 k l, le-leb k 7 h)
 
   pub no-prefix : (k ≡ 7 → ⊥) → prefixOf (headAt bs) ≡ refusal NO-SUCH-RECORD
@@ -57,10 +57,10 @@ module _ (bs : List ℕ) (k : ℕ) (e : k ≡ field 0 bs / 16) where
   some-prefix h = rw (prefix-by-kind, eq-eqb k 7 h)
 
   -- a family that is well formed stands inside the text
-  pub family-inside : (text : List ℕ) → 6 ≤ k → k ≤ 7 → HeadOk text (headAt bs) → inside text (familyAt (field 5 bs) (field 6 bs)) ≡ true
+  pub family-inside : (text : List ℕ) → 6 ≤ k → k ≤ 7 → HeadOk text (headAt bs) → inside text (familyAt (field FAMILY bs) (field FAMILY-SIZE bs)) ≡ true
   unfolding leafOk
   family-inside text =
-      by-kind (λ (j : ℕ) (h : Head). 6 ≤ j → j ≤ 7 → HeadOk text h → inside text (familyAt (field 5 bs) (field 6 bs)) ≡ true) bs k e
+      by-kind (λ (j : ℕ) (h : Head). 6 ≤ j → j ≤ 7 → HeadOk text h → inside text (familyAt (field FAMILY bs) (field FAMILY-SIZE bs)) ≡ true) bs k e
       (low (omega arith), (low (omega arith), (low (omega arith), (low (omega arith), (low (omega arith), (low (omega arith),
       (λ l m h. stands 0 (and-left _ _ (and-left _ _ h)), (λ l m h. stands 1 (and-right (layersOk text (layersAt bs)) _ (and-left _ _ (and-left _ _ h))),
       (high (omega arith), (high (omega arith), (high (omega arith), (high (omega arith), (high (omega arith), (high (omega arith), (high (omega arith), tt)))))))))))))))
@@ -70,8 +70,8 @@ module _ (bs : List ℕ) (k : ℕ) (e : k ≡ field 0 bs / 16) where
       low a b = absurd (omega arith)
       high : {j : ℕ} {A B : Type 0} → 7 < j → 6 ≤ j → j ≤ 7 → A → B
       high a b c = absurd (omega arith)
-      stands : (n : ℕ) → familyOk text n (familyAt (field 5 bs) (field 6 bs)) ≡ true → inside text (familyAt (field 5 bs) (field 6 bs)) ≡ true
-      stands n h = and-left (inside text (familyAt (field 5 bs) (field 6 bs))) _ (and-left _ _ h)
+      stands : (n : ℕ) → familyOk text n (familyAt (field FAMILY bs) (field FAMILY-SIZE bs)) ≡ true → inside text (familyAt (field FAMILY bs) (field FAMILY-SIZE bs)) ≡ true
+      stands n h = and-left (inside text (familyAt (field FAMILY bs) (field FAMILY-SIZE bs))) _ (and-left _ _ h)
 
   pub layers-inside : (text : List ℕ) → k ≡ 7 → HeadOk text (headAt bs) → layersOk text (layersAt bs) ≡ true
   layers-inside text z h = prefix-ok text (headAt bs) (tildeAt bs) (layersAt bs) h (some-prefix z)

@@ -18,7 +18,7 @@ use Rattle.notation.specs.Invert.{undo}
 use Rattle.notation.specs.Unroll.{copies, turned}
 use Rattle.notation.specs.Counts.{countBinary, countNode, countBody, count}
 use Rattle.notation.specs.declared.common.GroupKind.the-variants.{Simple}
-use Rattle.record.specs.Meaning.{field}
+use Rattle.record.specs.Meaning.{field, kindAt, NUMBER, COUNT}
 use Rattle.laws.proofs.Packing.{FitsNode, FitsBody, FitsTree}
 use Rattle.laws.proofs.Walking.{Packed, no-node}
 use Rattle.laws.proofs.Unrolling.{flatBinary, flatNode, flatBody, flat, flatBody-backwards, flat-backwards}
@@ -99,7 +99,7 @@ pub node-written : {bs s s₁ : List ℕ} {n : Node Leaf} {r : ℕ} → IsNode b
 node-written {bs} {s} {s₁} {n} {r} i w = subst (λ (l : List Leaf). WroteSteps s s₁ l r) (one-flat i) w
 
 -- A group that has steps: it is repeated at least once.
-module _ {bs : List ℕ} (g : IsGroup bs) (some : 0 < count (unpack bs)) {k m : ℕ} (e : k ≡ field 0 bs / 16) (f : m ≡ field 3 bs) where
+module _ {bs : List ℕ} (g : IsGroup bs) (some : 0 < count (unpack bs)) {k m : ℕ} (e : k ≡ kindAt bs) (f : m ≡ field NUMBER bs) where
   shape : Shape k (fromBits 32 m) (g .node)
   shape = rw (e, f) (shape-of (g .isNode))
 
@@ -315,7 +315,7 @@ module _ {tree before t out : List ℕ} {at e : ℕ} (w : Flattening tree before
       }
 
   -- by what the node stores: steps to write, or none
-  module _ {steps : ℕ} (p : steps ≡ field 11 t) where
+  module _ {steps : ℕ} (p : steps ≡ field COUNT t) where
     pub node-steps : ((steps ≡ 0) → ⊥) → 0 < count (unpack (part 0 e t))
     node-steps h = omega (arith, none-or-some steps h, first-stored f, one-count (f .isNode))
 

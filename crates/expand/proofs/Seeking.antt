@@ -20,7 +20,7 @@ use Rattle.notation.specs.Entries.{MAX-STEPS}
 use Rattle.notation.specs.declared.common.BinaryGroupKind.{BinaryGroupKind}
 use Rattle.notation.specs.declared.common.BinaryGroupKind.the-variants.{Commutator, Conjugate}
 use Rattle.numbers.specs.Sign.{isNegative}
-use Rattle.record.specs.Meaning.{field}
+use Rattle.record.specs.Meaning.{field, kindAt, NUMBER}
 use Rattle.record.specs.Undone.{StartsRecord}
 use Rattle.record.proofs.Undoing.{Undone}
 use Rattle.laws.proofs.Packing.{FitsNode}
@@ -126,7 +126,7 @@ pub record Group (o : Option Leaf) (bs : List ℕ) (k m steps remaining : ℕ) (
   pub few : steps ≤ MAX-STEPS
   pub step : o ≡ undoIf inverted (getElem? (flatNode undo false node) remaining)
 
-pub in-group : {o : Option Leaf} {bs : List ℕ} {remaining k m steps : ℕ} {inverted : Bool} → IsGroup bs → steps ≡ count (unpack bs) → k ≡ field 0 bs / 16 → m ≡ field 3 bs →
+pub in-group : {o : Option Leaf} {bs : List ℕ} {remaining k m steps : ℕ} {inverted : Bool} → IsGroup bs → steps ≡ count (unpack bs) → k ≡ kindAt bs → m ≡ field NUMBER bs →
     Sought o bs remaining inverted → Group o bs k m steps remaining inverted
 in-group {remaining = remaining} {inverted = inverted} g c p n s =
     record {

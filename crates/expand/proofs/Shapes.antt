@@ -20,7 +20,7 @@ use Rattle.notation.specs.declared.common.GroupKind.{GroupKind}
 use Rattle.notation.specs.declared.common.GroupKind.the-variants.{Simple, Macro, Simultaneous, Niss}
 use Rattle.notation.specs.declared.common.BinaryGroupKind.{BinaryGroupKind}
 use Rattle.notation.specs.declared.common.BinaryGroupKind.the-variants.{Commutator, Conjugate}
-use Rattle.record.specs.Meaning.{field}
+use Rattle.record.specs.Meaning.{field, kindAt, NUMBER, COUNT}
 use Rattle.laws.proofs.Unrolling.{flatNode, flat}
 use Rattle.laws.proofs.Walking.{head-stored}
 use Rattle.nodes.specs.Nodes.{IsNode, part, FirstNode, firstList, secondList}
@@ -44,17 +44,17 @@ binary-shape : (g : BinaryGroupKind) (a b : Tree) (m : ℤ) (k : ℕ) → k ≡ 
 binary-shape Commutator a b m k e = let h : 4 ≤ k = omega arith in let h′ : k < 6 = omega arith in let q : binaryKind (eqb k 4) ≡ Commutator = rw e in isBinary h h′ q
 binary-shape Conjugate a b m k e = let h : 4 ≤ k = omega arith in let h′ : k < 6 = omega arith in let q : binaryKind (eqb k 4) ≡ Conjugate = rw e in isBinary h h′ q
 
-shapes : (n : Node Leaf) (bs : List ℕ) → IsNode bs n → Shape (field 0 bs / 16) (fromBits 32 (field 3 bs)) n
-shapes (leaf x) bs s = let h : 5 < field 0 bs / 16 = omega (arith, kind-of s, leaf-kind x .0) in isLeaf h
+shapes : (n : Node Leaf) (bs : List ℕ) → IsNode bs n → Shape (kindAt bs) (fromBits 32 (field NUMBER bs)) n
+shapes (leaf x) bs s = let h : 5 < kindAt bs = omega (arith, kind-of s, leaf-kind x .0) in isLeaf h
 shapes (block (group g a) m) bs s =
-    subst (λ (z : ℤ). Shape (field 0 bs / 16) z (block (group g a) m)) (multiplier-of (group g a) s) (group-shape g a m (field 0 bs / 16) (kind-of s))
+    subst (λ (z : ℤ). Shape (kindAt bs) z (block (group g a) m)) (multiplier-of (group g a) s) (group-shape g a m (kindAt bs) (kind-of s))
 shapes (block (binaryGroup g a b) m) bs s =
-    subst (λ (z : ℤ). Shape (field 0 bs / 16) z (block (binaryGroup g a b) m)) (multiplier-of (binaryGroup g a b) s) (binary-shape g a b m (field 0 bs / 16) (kind-of s))
+    subst (λ (z : ℤ). Shape (kindAt bs) z (block (binaryGroup g a b) m)) (multiplier-of (binaryGroup g a b) s) (binary-shape g a b m (kindAt bs) (kind-of s))
 
-pub shape-of : {n : Node Leaf} {bs : List ℕ} → IsNode bs n → Shape (field 0 bs / 16) (fromBits 32 (field 3 bs)) n
+pub shape-of : {n : Node Leaf} {bs : List ℕ} → IsNode bs n → Shape (kindAt bs) (fromBits 32 (field NUMBER bs)) n
 shape-of {n} {bs} s = shapes n bs s
 
-pub group-of : {bs : List ℕ} {e k : ℕ} → FirstNode bs e → k ≡ field 0 bs / 16 → k ≤ 5 → IsGroup (part 0 e bs)
+pub group-of : {bs : List ℕ} {e k : ℕ} → FirstNode bs e → k ≡ kindAt bs → k ≤ 5 → IsGroup (part 0 e bs)
 group-of f q h = record { node = f .node; isNode = f .isNode; low = first-low f q h }
 
 -- A group is its body repeated; a leaf has none.
@@ -121,7 +121,7 @@ binary-body {k} {m} {n} s h low = go n s
     go (block (binaryGroup g a b) m) (isBinary l l′ q) = rw q
 
 -- The record stores the count of the node, held.
-pub first-stored : {bs : List ℕ} {e : ℕ} (f : FirstNode bs e) → field 11 bs ≡ stored (f .node)
+pub first-stored : {bs : List ℕ} {e : ℕ} (f : FirstNode bs e) → field COUNT bs ≡ stored (f .node)
 first-stored {bs} {e} f = sym (front-field bs e (f .least) 11) ∙ fields-of (f .isNode) 11 ∙ head-stored (f .node)
 
 -- where a list has few steps that is the number itself
@@ -129,7 +129,7 @@ pub first-counted : {bs : List ℕ} {e : ℕ} (f : FirstNode bs e) → count (un
 unfolding count
 first-counted f = ap count (f .unpacks)
 
-pub first-steps : {bs : List ℕ} {e steps : ℕ} (f : FirstNode bs e) → count (unpack bs) ≤ MAX-STEPS → steps ≡ field 11 bs → steps ≡ countNode (f .node)
+pub first-steps : {bs : List ℕ} {e steps : ℕ} (f : FirstNode bs e) → count (unpack bs) ≤ MAX-STEPS → steps ≡ field COUNT bs → steps ≡ countNode (f .node)
 first-steps f h p = omega (arith, first-stored f, first-counted f)
 
 -- a leaf is one step

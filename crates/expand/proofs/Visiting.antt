@@ -18,7 +18,7 @@ use Rattle.notation.specs.Invert.{isMin, overflows}
 use Rattle.notation.specs.Unroll.{turned, isNiss}
 use Rattle.notation.specs.declared.common.MegaminxScrambleMove.the-variants.{Rpp, Rmm, Dpp, Dmm}
 use Rattle.numbers.specs.Sign.{isNegative}
-use Rattle.record.specs.Meaning.{field}
+use Rattle.record.specs.Meaning.{field, kindAt, NUMBER, OTHER}
 use Rattle.record.specs.Range.{FitsNumber}
 use Rattle.record.proofs.Numbered.{kindOf}
 use Rattle.laws.proofs.Packing.{FitsNode}
@@ -69,11 +69,11 @@ turned-not (pos n) s g = refl
 turned-not (negsuc n) s g = absurd (let y : _≡_ {A = ℕ} 0 1 = cc in omega arith)
 
 -- the three ways of the test of a pair
-module _ (bs : List ℕ) {k : ℕ} (e : k ≡ field 0 bs / 16) where
-  pub over-first : {n : ℕ} → n ≡ field 3 bs → k ≡ 9 → n ≡ 2147483648 → eqb n 2147483648 ≡ overflowsAt bs
+module _ (bs : List ℕ) {k : ℕ} (e : k ≡ kindAt bs) where
+  pub over-first : {n : ℕ} → n ≡ field NUMBER bs → k ≡ 9 → n ≡ 2147483648 → eqb n 2147483648 ≡ overflowsAt bs
   over-first f p q = rw (← e, ← f, p, q)
 
-  pub over-second : {n o : ℕ} → n ≡ field 3 bs → o ≡ field 4 bs → k ≡ 9 → ((n ≡ 2147483648) → ⊥) → eqb o 2147483648 ≡ overflowsAt bs
+  pub over-second : {n o : ℕ} → n ≡ field NUMBER bs → o ≡ field OTHER bs → k ≡ 9 → ((n ≡ 2147483648) → ⊥) → eqb o 2147483648 ≡ overflowsAt bs
   over-second f g p q = rw (← e, ← f, ← g, p, ne-eqb _ 2147483648 q)
 
   pub over-none : ((k ≡ 9) → ⊥) → eqb k 9 ≡ overflowsAt bs
@@ -141,11 +141,11 @@ reached zero q h = absurd (omega arith)
 reached (suc n) q h = refl
 
 -- The answers of `visit_node`, by the kind k and the multiplier's bits m of the record.
-module _ {bs : List ℕ} (g : IsGroup bs) {k : ℕ} (e : k ≡ field 0 bs / 16) where
+module _ {bs : List ℕ} (g : IsGroup bs) {k : ℕ} (e : k ≡ kindAt bs) where
   abbrev n : Node Leaf
   n = g .node
 
-  kind-shape : Shape k (fromBits 32 (field 3 bs)) n
+  kind-shape : Shape k (fromBits 32 (field NUMBER bs)) n
   kind-shape = rw e (shape-of (g .isNode))
 
   low : k ≤ 5
@@ -162,16 +162,16 @@ module _ {bs : List ℕ} (g : IsGroup bs) {k : ℕ} (e : k ≡ field 0 bs / 16) 
   abbrev ofBlock : Bool → ℕ → Bool → Option ℕ
   ofBlock niss m d = pick niss (some NISS) (ifReached (natAbs (fromBits 32 m)) (refusalBody (turned (fromBits 32 m) d) (bodyOf n)))
 
-  block-refused : ofTree (unpack bs) ≡ ofBlock (eqb k 3) (field 3 bs)
+  block-refused : ofTree (unpack bs) ≡ ofBlock (eqb k 3) (field NUMBER bs)
   unfolding refusalNode
   block-refused =
       one-refused (g .isNode) ∙ ap ofNode (block-is kind-shape low)
-      ∙ ap (λ (niss : Bool). ofBlock niss (field 3 bs)) niss-is
+      ∙ ap (λ (niss : Bool). ofBlock niss (field NUMBER bs)) niss-is
 
   pub niss-refused : k ≡ 3 → refuses (record { forward = NISS; backward = NISS }) ≡ ofTree (unpack bs)
-  niss-refused q = either-way refl refl ∙ sym (block-refused ∙ ap (λ (j : ℕ). ofBlock (eqb j 3) (field 3 bs)) q)
+  niss-refused q = either-way refl refl ∙ sym (block-refused ∙ ap (λ (j : ℕ). ofBlock (eqb j 3) (field NUMBER bs)) q)
 
-  module _ {m : ℕ} (f : m ≡ field 3 bs) (other : (k ≡ 3) → ⊥) where
+  module _ {m : ℕ} (f : m ≡ field NUMBER bs) (other : (k ≡ 3) → ⊥) where
     reachable : ofTree (unpack bs) ≡ ofBlock false m
     reachable = block-refused ∙ ap₂ ofBlock (ne-eqb k 3 other) (sym f)
 

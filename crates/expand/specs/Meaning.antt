@@ -8,7 +8,7 @@ use Rattle.notation.specs.Basics.{pick}
 use Rattle.notation.specs.Refusals.{OVERFLOW}
 use Rattle.notation.specs.declared.common.BinaryGroupKind.{BinaryGroupKind}
 use Rattle.notation.specs.declared.common.BinaryGroupKind.the-variants.{Commutator, Conjugate}
-use Rattle.record.specs.Meaning.{field}
+use Rattle.record.specs.Meaning.{field, kindAt, NUMBER, OTHER}
 use Rattle.expand.specs.declared.visit.Refusals.{Refusals}
 
 -- 0 is no refusal
@@ -30,4 +30,4 @@ leafRefuses overflows d = pick (d && overflows) (some OVERFLOW) none
 
 -- a record of a pair with −2147483648
 abbrev pub overflowsAt : List ℕ → Bool
-overflowsAt bs = eqb (field 0 bs / 16) 9 && (eqb (field 3 bs) 2147483648 || eqb (field 4 bs) 2147483648)
+overflowsAt bs = eqb (kindAt bs) 9 && (eqb (field NUMBER bs) 2147483648 || eqb (field OTHER bs) 2147483648)

@@ -11,7 +11,7 @@ use Rattle.notation.specs.Packed.{RECORD, headRecord, headAt, unpack}
 use Rattle.notation.specs.Entries.{records}
 use Rattle.notation.specs.Invert.{undo}
 use Rattle.notation.specs.Unroll.{copies, turned}
-use Rattle.record.specs.Meaning.{field}
+use Rattle.record.specs.Meaning.{field, kindAt}
 use Rattle.record.specs.Range.{FitsFamily, FitsConstraints, FitsLayers, FitsLeaf}
 use Rattle.record.specs.Undone.{undoneHead}
 use Rattle.laws.proofs.Unrolling.{backwards, flatBinary, flat}
@@ -55,7 +55,7 @@ pub record WroteSteps (before after : List ℕ) (l : List Leaf) (r : ℕ) : Type
 pub record IsGroup (bs : List ℕ) : Type 0 where
   pub node : Node Leaf
   pub isNode : IsNode bs node
-  pub low : field 0 bs / 16 ≤ 5
+  pub low : kindAt bs ≤ 5
 
 -- a list of steps in either direction
 abbrev pub either : List Leaf → Bool → List Leaf

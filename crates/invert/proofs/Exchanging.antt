@@ -9,7 +9,7 @@ use Rattle.notation.specs.Tree.{Leaf, Node, leaf, block, group, binaryGroup, ap
 use Rattle.notation.specs.Packed.{RECORD, binaryHead, headRecord, size, bodyHead, packNode, packBody, pack, unpack}
 use Rattle.notation.specs.Counts.{cap, stored}
 use Rattle.notation.specs.declared.common.BinaryGroupKind.the-variants.{Commutator, Conjugate}
-use Rattle.record.specs.Meaning.{field, withLists}
+use Rattle.record.specs.Meaning.{field, withLists, kindAt, FIRST, SECOND}
 use Rattle.record.proofs.Copying.{copied-whole}
 use Rattle.record.proofs.Storing.{lists-set}
 use Rattle.laws.proofs.Inverses.{deeply, deeplyNode, deeplyBody}
@@ -32,7 +32,7 @@ three-parts out a b c p k h ea eb out₂ e =
     put-last k out₂ c long ∙ ap (λ (s : List ℕ). s ++ c) front ∙ append-assoc a b c
 
 -- the parts in their new order, and their sizes exchanged in the record
-exchanged : (n : Node Leaf) {bs : List ℕ} {m : ℕ} → IsNode bs n → field 0 bs / 16 ≡ 4 → Lists bs m → (c c′ : ℕ) → c ≡ field 1 bs → c′ ≡ field 2 bs
+exchanged : (n : Node Leaf) {bs : List ℕ} {m : ℕ} → IsNode bs n → kindAt bs ≡ 4 → Lists bs m → (c c′ : ℕ) → c ≡ field FIRST bs → c′ ≡ field SECOND bs
     → withLists c′ c (take RECORD bs ++ (part m (length bs) bs ++ part RECORD m bs)) ≡ pack (deeply (unpack bs))
 unfolding packNode packBody pack deeply deeplyNode deeplyBody append
 exchanged (leaf x) s kind l c c′ ec ec′ = absurd (omega (arith, kind-of s, leaf-kind x .0))
@@ -48,7 +48,7 @@ exchanged (block (binaryGroup Commutator a b) m) {bs} s kind l c c′ ec ec′ =
     ∙ sym (ap (λ (t : Tree). pack (deeply t)) (alone s)))
 
 -- The three copies and the two sizes, as the code makes them: each part is as long as its place.
-module _ {bs : List ℕ} {n : Node Leaf} {m : ℕ} (s : IsNode bs n) (kind : field 0 bs / 16 ≡ 4) (l : Lists bs m) (out : List ℕ) (long : length out ≡ length bs) where
+module _ {bs : List ℕ} {n : Node Leaf} {m : ℕ} (s : IsNode bs n) (kind : kindAt bs ≡ 4) (l : Lists bs m) (out : List ℕ) (long : length out ≡ length bs) where
   abbrev k : ℕ
   k = RECORD + (length bs - m)
 
@@ -78,7 +78,7 @@ module _ {bs : List ℕ} {n : Node Leaf} {m : ℕ} (s : IsNode bs n) (kind : fie
       third-place : length (part k (length out₂) out₂) ≡ length (part RECORD m bs)
       third-place = same-length-parts out₂ bs k (length out₂) RECORD m (omega arith) (l .most) (omega (arith, whole₂, l .least, l .most))
 
-      pub exchanged-lists : (c c′ : ℕ) → c ≡ field 1 bs → c′ ≡ field 2 bs → (l₃ : List ℕ)
+      pub exchanged-lists : (c c′ : ℕ) → c ≡ field FIRST bs → c′ ≡ field SECOND bs → (l₃ : List ℕ)
           → (let f = take RECORD bs in l₁ ≡ take (length f) f ++ drop (length f) (take RECORD out))
           → (let f = part m (length bs) bs in l₂ ≡ take (length f) f ++ drop (length f) (part RECORD k out₁))
           → (let f = part RECORD m bs in l₃ ≡ take (length f) f ++ drop (length f) (part k (length out₂) out₂))

@@ -10,7 +10,7 @@ use lib.ListN.{length, take, drop, length-append, length-drop}
 use lib.Seq.{take-at, drop-length, drop-at, drop-drop, length-take-le}
 use Rattle.notation.specs.Tree.{Leaf, Node, leaf, block, group, binaryGroup, nil, cons, append, Tree}
 use Rattle.notation.specs.Packed.{RECORD, packNode, pack, unpack, headAt}
-use Rattle.record.specs.Meaning.{field}
+use Rattle.record.specs.Meaning.{field, kindAt}
 use Rattle.laws.proofs.Unrolling.{first}
 use Rattle.laws.proofs.Inverses.{inverted, invRefusal, deeply, deeplyNode, deepRefusal}
 use Rattle.laws.proofs.Walking.{Packed, no-node, nodeHead}
@@ -81,8 +81,8 @@ module _ {t : List ℕ} {e : ℕ} (s : FirstNode t e) where
   pub front-long : length (take e t) ≡ e
   front-long = length-take-le e t (s .most)
 
-  pub front-low : {k : ℕ} → k ≡ field 0 t / 16 → k ≤ 5 → field 0 (take e t) / 16 ≤ 5
-  front-low q h = subst (λ (l : List ℕ). field 0 l / 16 ≤ 5) (part-front e t) (first-low s q h)
+  pub front-low : {k : ℕ} → k ≡ kindAt t → k ≤ 5 → kindAt (take e t) ≤ 5
+  front-low q h = subst (λ (l : List ℕ). kindAt l ≤ 5) (part-front e t) (first-low s q h)
 
 -- t is what is left of tree, and out holds what is done from `at` on.
 pub record WroteNodes (f : Tree → Tree) (tree t : List ℕ) (at : ℕ) (out : List ℕ) : Type 0 where

@@ -15,7 +15,7 @@ use Rattle.notation.specs.Counts.{cap, stored}
 use Rattle.notation.specs.declared.common.GroupKind.{GroupKind}
 use Rattle.notation.specs.declared.common.GroupKind.the-variants.{Simple, Macro, Simultaneous, Niss}
 use Rattle.notation.specs.declared.common.BinaryGroupKind.the-variants.{Commutator, Conjugate}
-use Rattle.record.specs.Meaning.{field}
+use Rattle.record.specs.Meaning.{field, kindAt}
 use Rattle.record.specs.Undone.{StartsRecord, undoneHead}
 use Rattle.record.proofs.RoundTrip.{length-headRecord}
 use Rattle.record.proofs.Undoing.{Undone, starts-with, undone-with}
@@ -71,7 +71,7 @@ pub list-is : {bs : List ℕ} {a : Tree} → Packed bs → unpack bs ≡ a → b
 list-is p u = sym (p .whole) ∙ ap pack u
 
 inner-of : {bs : List ℕ} {n : Node Leaf} → IsNode bs n → {m : ℕ} {a : Tree} → RECORD ≤ m → m ≤ length bs → Packed (part m (length bs) bs) → unpack (part m (length bs) bs) ≡ a
-    → take m bs ++ pack (deeply a) ≡ packNode (deeplyNode n) → ((field 0 bs / 16 ≡ 3 → ⊥) → deepRefusal a ≡ deepRefusalNode n) → Inner bs m
+    → take m bs ++ pack (deeply a) ≡ packNode (deeplyNode n) → ((kindAt bs ≡ 3 → ⊥) → deepRefusal a ≡ deepRefusalNode n) → Inner bs m
 unfolding pack deeply deepRefusal append
 inner-of {bs} {n} s {m} least most p u d r =
     record {
@@ -88,7 +88,7 @@ not-niss Macro q h = refl
 not-niss Simultaneous q h = refl
 not-niss Niss q h = absurd (h refl)
 
-pub group-inner : (n : Node Leaf) {bs : List ℕ} → IsNode bs n → field 0 bs / 16 ≤ 5 → (field 0 bs / 16 ≡ 4 → ⊥) → (field 0 bs / 16 ≡ 5 → ⊥) → Inner bs RECORD
+pub group-inner : (n : Node Leaf) {bs : List ℕ} → IsNode bs n → kindAt bs ≤ 5 → (kindAt bs ≡ 4 → ⊥) → (kindAt bs ≡ 5 → ⊥) → Inner bs RECORD
 unfolding packNode packBody deeplyNode deeplyBody deepRefusalNode deepRefusalBody
 group-inner (leaf x) s h n4 n5 = absurd (omega (arith, kind-of s, leaf-kind x .0))
 group-inner (block (binaryGroup Commutator a b) m) s h n4 n5 = absurd (n4 (kind-of s))
@@ -99,7 +99,7 @@ group-inner (block (group g a) m) {bs} s h n4 n5 =
     (ap (λ (l : List ℕ). l ++ pack (deeply a)) (record-is s ∙ ap₂ (λ (z c : ℕ). headRecord (groupHead g z m c)) (sym (deeply-size a)) (ap cap (sym (deeplyNode-count (block (group g a) m))))))
     (λ n3. not-niss g (deepRefusal a) (λ z. n3 (kind-of s ∙ z)))
 
-pub conjugate-inner : (n : Node Leaf) {bs : List ℕ} {k : ℕ} → IsNode bs n → field 0 bs / 16 ≡ 5 → Lists bs k → Inner bs k
+pub conjugate-inner : (n : Node Leaf) {bs : List ℕ} {k : ℕ} → IsNode bs n → kindAt bs ≡ 5 → Lists bs k → Inner bs k
 unfolding packNode packBody deeplyNode deeplyBody deepRefusalNode deepRefusalBody
 conjugate-inner (leaf x) s h l = absurd (omega (arith, kind-of s, leaf-kind x .0))
 conjugate-inner (block (group g a) m) s h l = absurd (omega (arith, kind-of s, group-kind g))
@@ -117,7 +117,7 @@ conjugate-inner (block (binaryGroup Conjugate a b) m) {bs} {k} s h l =
     (λ n3. refl)
 
 -- What one node is refused for.
-pub niss-refused : (n : Node Leaf) {bs : List ℕ} → IsNode bs n → field 0 bs / 16 ≡ 3 → deepRefusal (unpack bs) ≡ some NISS
+pub niss-refused : (n : Node Leaf) {bs : List ℕ} → IsNode bs n → kindAt bs ≡ 3 → deepRefusal (unpack bs) ≡ some NISS
 unfolding deepRefusal deepRefusalNode deepRefusalBody
 niss-refused (leaf x) s h = absurd (omega (arith, kind-of s, leaf-kind x .0))
 niss-refused (block (group Simple a) m) s h = absurd (omega (arith, kind-of s))
@@ -126,14 +126,14 @@ niss-refused (block (group Simultaneous a) m) s h = absurd (omega (arith, kind-o
 niss-refused (block (group Niss a) m) s h = ap deepRefusal (alone s)
 niss-refused (block (binaryGroup g a b) m) s h = absurd (omega (arith, kind-of s, binary-kind g .0))
 
-pub commutator-refused : (n : Node Leaf) {bs : List ℕ} → IsNode bs n → field 0 bs / 16 ≡ 4 → deepRefusal (unpack bs) ≡ none
+pub commutator-refused : (n : Node Leaf) {bs : List ℕ} → IsNode bs n → kindAt bs ≡ 4 → deepRefusal (unpack bs) ≡ none
 unfolding deepRefusal deepRefusalNode deepRefusalBody
 commutator-refused (leaf x) s h = absurd (omega (arith, kind-of s, leaf-kind x .0))
 commutator-refused (block (group g a) m) s h = absurd (omega (arith, kind-of s, group-kind g))
 commutator-refused (block (binaryGroup Commutator a b) m) s h = ap deepRefusal (alone s)
 commutator-refused (block (binaryGroup Conjugate a b) m) s h = absurd (omega (arith, kind-of s))
 
-pub leaf-refused : (n : Node Leaf) {bs : List ℕ} → IsNode bs n → 5 < field 0 bs / 16 → headRefusal (headAt bs) ≡ deepRefusal (unpack bs)
+pub leaf-refused : (n : Node Leaf) {bs : List ℕ} → IsNode bs n → 5 < kindAt bs → headRefusal (headAt bs) ≡ deepRefusal (unpack bs)
 unfolding deepRefusal deepRefusalNode
 leaf-refused (leaf x) s h = ap headRefusal (node-head s) ∙ sym (ap deepRefusal (alone s))
 leaf-refused (block (group g a) m) s h = absurd (omega (arith, kind-of s, group-kind g))

@@ -14,7 +14,7 @@ use Rattle.notation.specs.Refusals.{OVERFLOW}
 use Rattle.notation.specs.Tree.{rotation, move, pause, pair, slash, megaminx}
 use Rattle.notation.specs.Packed.{Head, leafHead, groupHead, binaryHead, headAt}
 use Rattle.notation.specs.Invert.{isMin}
-use Rattle.record.specs.Meaning.{field}
+use Rattle.record.specs.Meaning.{field, kindAt, NUMBER, OTHER}
 use Rattle.record.specs.Undone.{StartsRecord}
 use Rattle.record.proofs.Packed.{headAt-kind}
 use Rattle.record.proofs.Numbered.{kindOf}
@@ -33,7 +33,7 @@ not-min n h = go (ltb n 2147483648) refl
     go false e = ne-eqb (4294967296 - suc n) 2147483647 (λ z. h (omega arith))
 
 module _ (bs : List ℕ) (s : StartsRecord bs) where
-  pub no-pair-refusal : (field 0 bs / 16 ≡ 9 → ⊥) → (before : ℕ) → before ≡ over (headRefusal (headAt bs)) before
+  pub no-pair-refusal : (kindAt bs ≡ 9 → ⊥) → (before : ℕ) → before ≡ over (headRefusal (headAt bs)) before
   no-pair-refusal k before = go (headAt bs) (λ e. k (kind-is bs s ∙ e))
     where
       go : (h : Head) → (kindOf h ≡ 9 → ⊥) → before ≡ over (headRefusal h) before
@@ -47,7 +47,7 @@ module _ (bs : List ℕ) (s : StartsRecord bs) where
       go (binaryHead k n′ n″ m c) n = refl
 
   -- of a pair, by the tests of its two numbers
-  pub pair-refusal : field 0 bs / 16 ≡ 9 → (u d : Bool) → isMin (fromBits 32 (field 3 bs)) ≡ u → isMin (fromBits 32 (field 4 bs)) ≡ d
+  pub pair-refusal : kindAt bs ≡ 9 → (u d : Bool) → isMin (fromBits 32 (field NUMBER bs)) ≡ u → isMin (fromBits 32 (field OTHER bs)) ≡ d
       → (before : ℕ) → pick (u || d) OVERFLOW before ≡ over (headRefusal (headAt bs)) before
   pair-refusal k u d eu ed before =
       go (u || d) ∙ ap (λ (b : Bool). over (pick b (some OVERFLOW) none) before) (ap₂ _||_ (sym eu) (sym ed))

@@ -7,7 +7,7 @@ use mathlib.Core.Option.{Option, none, some}
 use lib.ListN.{length, take}
 use Rattle.notation.specs.Tree.{Tree}
 use Rattle.notation.specs.Packed.{RECORD, Head, leafHead, groupHead, binaryHead, pack, unpack}
-use Rattle.record.specs.Meaning.{field}
+use Rattle.record.specs.Meaning.{field, kindAt}
 use Rattle.laws.proofs.Inverses.{inverted, leafRefusal, deeply, deepRefusal}
 use Rattle.laws.proofs.Walking.{Packed}
 use Rattle.nodes.specs.Nodes.{part}
@@ -33,4 +33,4 @@ pub record Inner (bs : List ℕ) (m : ℕ) : Type 0 where
   pub most : m ≤ length bs
   pub packed : Packed (part m (length bs) bs)
   pub deep : take m bs ++ pack (deeply (unpack (part m (length bs) bs))) ≡ pack (deeply (unpack bs))
-  pub refusal : (field 0 bs / 16 ≡ 3 → ⊥) → deepRefusal (unpack (part m (length bs) bs)) ≡ deepRefusal (unpack bs)
+  pub refusal : (kindAt bs ≡ 3 → ⊥) → deepRefusal (unpack (part m (length bs) bs)) ≡ deepRefusal (unpack bs)

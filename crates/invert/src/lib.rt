@@ -9,7 +9,7 @@ ghost use Prim.Native.Nat.{_/_, _≤_};
 ghost use lib.ListN.{length};
 ghost use Rattle.notation.specs.Tree.{Leaf, Node};
 ghost use Rattle.notation.specs.Packed.{RECORD as recordSize, pack, unpack};
-ghost use Rattle.record.specs.Meaning.{field};
+ghost use Rattle.record.specs.Meaning.{field, kindAt};
 ghost use Rattle.laws.proofs.Walking.{Packed};
 ghost use Rattle.laws.proofs.Inverses.{inverted, invRefusal, deeply, deepRefusal};
 ghost use Rattle.nodes.specs.Nodes.{IsNode};
@@ -129,7 +129,7 @@ fn invert(tree: &[u8], out: &mut [u8], deep: bool)
 // Of a group. Deep, its contents are inverted and its multiplier is kept; shallow, it is the other way round.
 fn invert_group(node: &[u8], out: &mut [u8], deep: bool)
     requires { ⌜ ((n : Node Leaf) × IsNode (now node) n) ⌝ }
-    requires { ⌜ field 0 (now node) / 16 ≤ 5 ⌝ }
+    requires { ⌜ kindAt (now node) ≤ 5 ⌝ }
     requires { ⌜ length (now out) ≡ length (now node) ⌝ }
     ensures { λ _. ⌜ now (out .exit) ≡ pack (inverse deep (unpack (now (node .entry)))) ⌝ }
 {
@@ -169,7 +169,7 @@ fn inv_node(node: &[u8], out: &mut [u8])
 // A commutator's inverse: its lists exchanged.
 fn exchange_lists(node: &[u8], out: &mut [u8])
     requires { ⌜ ((n : Node Leaf) × IsNode (now node) n) ⌝ }
-    requires { ⌜ field 0 (now node) / 16 ≡ 4 ⌝ }
+    requires { ⌜ kindAt (now node) ≡ 4 ⌝ }
     requires { ⌜ length (now out) ≡ length (now node) ⌝ }
     ensures { λ _. ⌜ now (out .exit) ≡ pack (deeply (unpack (now (node .entry)))) ⌝ }
 {

@@ -14,7 +14,7 @@ use Rattle.notation.specs.Packed.{
 use Rattle.notation.specs.Counts.{countNode, stored}
 use Rattle.notation.specs.declared.common.GroupKind.{GroupKind}
 use Rattle.notation.specs.declared.common.BinaryGroupKind.{BinaryGroupKind}
-use Rattle.record.specs.Meaning.{field}
+use Rattle.record.specs.Meaning.{field, FIRST, SECOND}
 use Rattle.record.specs.Range.{FitsHead}
 use Rattle.record.proofs.RoundTrip.{length-headRecord, headAt-headRecord, cut-headRecord}
 use Rattle.laws.proofs.Packing.{FitsNode, FitsBody, FitsTree, length-packNode, length-pack, unpack-pack}
@@ -85,7 +85,7 @@ head-stored (block (group g a) m) = refl
 head-stored (block (binaryGroup g a b) m) = refl
 
 abbrev pub nodeEnd : List ℕ → ℕ
-nodeEnd bs = RECORD * (1 + (field 1 bs + field 2 bs))
+nodeEnd bs = RECORD * (1 + (field FIRST bs + field SECOND bs))
 
 -- What stands at the front of a packed list.
 pub record Step (bs : List ℕ) (node : Node Leaf) (rest : Tree) (e : ℕ) : Type 0 where
@@ -170,7 +170,7 @@ pub record TwoLists (bs : List ℕ) (a b : Tree) (n n′ : ℕ) : Type 0 where
   pub unpacksSecond : unpack (drop (RECORD + RECORD * n) bs) ≡ b
 
 -- of the bytes of one node that is a group
-pub one-list : (bs : List ℕ) (k : GroupKind) (a : Tree) (m : ℤ) → FitsNode (block (group k a) m) → packNode (block (group k a) m) ≡ bs → OneList bs a (field 1 bs)
+pub one-list : (bs : List ℕ) (k : GroupKind) (a : Tree) (m : ℤ) → FitsNode (block (group k a) m) → packNode (block (group k a) m) ≡ bs → OneList bs a (field FIRST bs)
 unfolding FitsNode FitsBody packNode packBody
 one-list bs k a m f e =
     record {
@@ -188,7 +188,7 @@ one-list bs k a m f e =
     fields i = ap (λ (s : List ℕ). getD (cut widths (take RECORD s)) i 0) (sym e) ∙ ap (λ (s : List ℕ). getD s i 0) (cut-headRecord h (pack a) (f .0))
 
 pub two-lists : (bs : List ℕ) (k : BinaryGroupKind) (a b : Tree) (m : ℤ) → FitsNode (block (binaryGroup k a b) m) → packNode (block (binaryGroup k a b) m) ≡ bs →
-    TwoLists bs a b (field 1 bs) (field 2 bs)
+    TwoLists bs a b (field FIRST bs) (field SECOND bs)
 unfolding FitsNode FitsBody packNode packBody
 two-lists bs k a b m f e =
     record {
@@ -207,10 +207,10 @@ two-lists bs k a b m f e =
     lists = ap (drop RECORD) (sym e) ∙ drop-at (headRecord h) (pack a ++ pack b) RECORD (length-headRecord h)
     fields : (i : ℕ) → field i bs ≡ getD (headFields h) i 0
     fields i = ap (λ (s : List ℕ). getD (cut widths (take RECORD s)) i 0) (sym e) ∙ ap (λ (s : List ℕ). getD s i 0) (cut-headRecord h (pack a ++ pack b) (f .0))
-    first : take (RECORD * field 1 bs) (drop RECORD bs) ≡ pack a
+    first : take (RECORD * field FIRST bs) (drop RECORD bs) ≡ pack a
     first = ap₂ (λ (n : ℕ) (s : List ℕ). take (RECORD * n) s) (fields 1) lists ∙ take-at (pack a) (pack b) (RECORD * size a) (length-pack a)
-    second : drop (RECORD + RECORD * field 1 bs) bs ≡ pack b
+    second : drop (RECORD + RECORD * field FIRST bs) bs ≡ pack b
     second =
-        sym (drop-drop (RECORD * field 1 bs) RECORD bs)
+        sym (drop-drop (RECORD * field FIRST bs) RECORD bs)
         ∙ ap₂ (λ (n : ℕ) (s : List ℕ). drop (RECORD * n) s) (fields 1) lists
         ∙ drop-at (pack a) (pack b) (RECORD * size a) (length-pack a)

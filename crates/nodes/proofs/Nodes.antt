@@ -18,7 +18,7 @@ use Rattle.notation.specs.declared.common.BinaryGroupKind.{BinaryGroupKind}
 use Rattle.notation.specs.declared.common.BinaryGroupKind.the-variants.{Commutator, Conjugate}
 use Rattle.notation.specs.declared.common.MegaminxScrambleMove.the-variants.{Rpp, Rmm, Dpp, Dmm}
 use Rattle.numbers.proofs.TwosComplement.{fromBits-toBits}
-use Rattle.record.specs.Meaning.{field}
+use Rattle.record.specs.Meaning.{field, kindAt, FIRST, NUMBER}
 use Rattle.record.specs.Range.{FitsNumber, FitsHead}
 use Rattle.record.proofs.Numbered.{kindOf, kind-field}
 use Rattle.record.proofs.RoundTrip.{length-headRecord}
@@ -129,17 +129,17 @@ pub binary-kind : (k : BinaryGroupKind) → (4 ≤ binaryNumber k) × (binaryNum
 binary-kind Commutator = (lit≤ tt, lit< tt)
 binary-kind Conjugate = (lit≤ tt, lit< tt)
 
-pub kind-of : {bs : List ℕ} {n : Node Leaf} → IsNode bs n → field 0 bs / 16 ≡ kindOf (nodeHead n)
+pub kind-of : {bs : List ℕ} {n : Node Leaf} → IsNode bs n → kindAt bs ≡ kindOf (nodeHead n)
 kind-of {bs} {n} s = ap (λ (b : ℕ). b / 16) (fields-of s 0) ∙ kind-field (nodeHead n)
 
-pub multiplier-of : {bs : List ℕ} (b : Body Leaf) {m : ℤ} → IsNode bs (block b m) → m ≡ fromBits 32 (field 3 bs)
+pub multiplier-of : {bs : List ℕ} (b : Body Leaf) {m : ℤ} → IsNode bs (block b m) → m ≡ fromBits 32 (field NUMBER bs)
 unfolding FitsNode
 multiplier-of {bs} b {m} s = go b (s .fits .0) (fields-of s 3)
   where
-    read : FitsNumber m → field 3 bs ≡ toBits 32 m → m ≡ fromBits 32 (field 3 bs)
+    read : FitsNumber m → field NUMBER bs ≡ toBits 32 m → m ≡ fromBits 32 (field NUMBER bs)
     read f e = sym (ap (fromBits 32) e ∙ fromBits-toBits 32 m (lit< tt) f)
 
-    go : (b : Body Leaf) → FitsHead (bodyHead b m) → field 3 bs ≡ getD (headFields (bodyHead b m)) 3 0 → m ≡ fromBits 32 (field 3 bs)
+    go : (b : Body Leaf) → FitsHead (bodyHead b m) → field NUMBER bs ≡ getD (headFields (bodyHead b m)) 3 0 → m ≡ fromBits 32 (field NUMBER bs)
     go (group k a) f e = read (f .1) e
     go (binaryGroup k a b) f e = read (f .2) e
 
@@ -155,17 +155,17 @@ unfolding packNode
 leaf-long x s = ap length (sym (s .bytes)) ∙ length-headRecord (leafHead x)
 
 -- the law of `first_end`
-pub lists-of : (n : Node Leaf) {bs : List ℕ} → IsNode bs n → Lists bs (RECORD + RECORD * field 1 bs)
+pub lists-of : (n : Node Leaf) {bs : List ℕ} → IsNode bs n → Lists bs (RECORD + RECORD * field FIRST bs)
 lists-of (leaf x) {bs} s =
     let long = leaf-long x s in
-    let one : field 1 bs ≡ 0 = omega (arith, node-step s .1 .most) in
-    let a = empty (none-taken (RECORD + RECORD * field 1 bs - RECORD) (drop RECORD bs) (omega arith)) in
-    let b = empty (none-taken (length bs - (RECORD + RECORD * field 1 bs)) (drop (RECORD + RECORD * field 1 bs) bs) (omega arith)) in
+    let one : field FIRST bs ≡ 0 = omega (arith, node-step s .1 .most) in
+    let a = empty (none-taken (RECORD + RECORD * field FIRST bs - RECORD) (drop RECORD bs) (omega arith)) in
+    let b = empty (none-taken (length bs - (RECORD + RECORD * field FIRST bs)) (drop (RECORD + RECORD * field FIRST bs) bs) (omega arith)) in
     record { least = omega arith; most = omega arith; packedFirst = a .0; packedSecond = b .0; unpacksFirst = λ n i. a .1 ∙ ap firstList (node-unique s i); unpacksSecond = λ n i. b .1 ∙ ap secondList (node-unique s i) }
 lists-of (block (group k a) m) {bs} s =
     let o = one-list bs k a m (s .fits) (s .bytes) in
-    let whole : part RECORD (RECORD + RECORD * field 1 bs) bs ≡ drop RECORD bs = take-all (RECORD + RECORD * field 1 bs - RECORD) (drop RECORD bs) (omega (arith, length-drop RECORD bs, o .long)) in
-    let b = empty (none-taken (length bs - (RECORD + RECORD * field 1 bs)) (drop (RECORD + RECORD * field 1 bs) bs) (omega (arith, o .long))) in
+    let whole : part RECORD (RECORD + RECORD * field FIRST bs) bs ≡ drop RECORD bs = take-all (RECORD + RECORD * field FIRST bs - RECORD) (drop RECORD bs) (omega (arith, length-drop RECORD bs, o .long)) in
+    let b = empty (none-taken (length bs - (RECORD + RECORD * field FIRST bs)) (drop (RECORD + RECORD * field FIRST bs) bs) (omega (arith, o .long))) in
     record {
       least = omega arith;
       most = omega (arith, o .long);
@@ -176,9 +176,9 @@ lists-of (block (group k a) m) {bs} s =
     }
 lists-of (block (binaryGroup k a b) m) {bs} s =
     let o = two-lists bs k a b m (s .fits) (s .bytes) in
-    let e : RECORD + RECORD * field 1 bs - RECORD ≡ RECORD * field 1 bs = omega arith in
-    let front : part RECORD (RECORD + RECORD * field 1 bs) bs ≡ take (RECORD * field 1 bs) (drop RECORD bs) = ap (λ (j : ℕ). take j (drop RECORD bs)) e in
-    let back = part-rest (RECORD + RECORD * field 1 bs) bs in
+    let e : RECORD + RECORD * field FIRST bs - RECORD ≡ RECORD * field FIRST bs = omega arith in
+    let front : part RECORD (RECORD + RECORD * field FIRST bs) bs ≡ take (RECORD * field FIRST bs) (drop RECORD bs) = ap (λ (j : ℕ). take j (drop RECORD bs)) e in
+    let back = part-rest (RECORD + RECORD * field FIRST bs) bs in
     record {
       least = omega arith;
       most = omega (arith, o .long);
@@ -195,7 +195,7 @@ front-record bs e h = ap (take RECORD) (part-front e bs) ∙ take-take RECORD e 
 pub front-field : (bs : List ℕ) (e : ℕ) → RECORD ≤ e → (i : ℕ) → field i (part 0 e bs) ≡ field i bs
 front-field bs e h i = ap (λ (l : List ℕ). getD (cut widths l) i 0) (front-record bs e h)
 
-pub first-low : {bs : List ℕ} {e k : ℕ} → FirstNode bs e → k ≡ field 0 bs / 16 → k ≤ 5 → field 0 (part 0 e bs) / 16 ≤ 5
+pub first-low : {bs : List ℕ} {e k : ℕ} → FirstNode bs e → k ≡ kindAt bs → k ≤ 5 → kindAt (part 0 e bs) ≤ 5
 first-low {bs} {e} f q h = omega (arith, front-field bs e (f .least) 0)
 
 pub first-head : {bs : List ℕ} {e : ℕ} (f : FirstNode bs e) → headAt bs ≡ nodeHead (f .node)
@@ -207,12 +207,12 @@ pub record FirstLeaf (bs : List ℕ) : Type 0 where
   pub first : FirstNode bs RECORD
   pub isStep : first .node ≡ leaf step
 
-leaf-of : {bs : List ℕ} (n : Node Leaf) → IsNode bs n → 5 < field 0 bs / 16 → (x : Leaf) × (n ≡ leaf x)
+leaf-of : {bs : List ℕ} (n : Node Leaf) → IsNode bs n → 5 < kindAt bs → (x : Leaf) × (n ≡ leaf x)
 leaf-of (leaf x) s h = (x, refl)
 leaf-of (block (group g a) m) s h = absurd (omega (arith, kind-of s, group-kind g))
 leaf-of (block (binaryGroup g a b) m) s h = absurd (omega (arith, kind-of s, binary-kind g .1))
 
-pub first-leaf : {bs : List ℕ} {k : ℕ} → Packed bs → 0 < length bs → k ≡ field 0 bs / 16 → 5 < k → FirstLeaf bs
+pub first-leaf : {bs : List ℕ} {k : ℕ} → Packed bs → 0 < length bs → k ≡ kindAt bs → 5 < k → FirstLeaf bs
 first-leaf {bs} {k} p h q l =
     let f = first-of bs p h in
     go (nodeEnd bs) f (leaf-of (f .node) (f .isNode) (omega (arith, front-field bs (nodeEnd bs) (f .least) 0)))

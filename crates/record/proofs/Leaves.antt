@@ -13,7 +13,7 @@ use Rattle.notation.specs.Packed.{nowhere, familyAt, lowAndHigh, Head, headFiel
 use Rattle.notation.specs.Clauses.{Fields, kind, tilde, form, present, number, other, family, isGroup, isBinary, isMove, isPair, hasMultiplier, hasFamily, hasConstraints, hasSet, kindOk}
 use Rattle.notation.proofs.Bools.{false-true, and-left, and-right, and-both, above}
 use Rattle.numbers.proofs.Positional.{Below}
-use Rattle.record.specs.Meaning.{field, bothZero, spanAt, layersAt}
+use Rattle.record.specs.Meaning.{field, bothZero, spanAt, layersAt, kindAt, SMALL, FIRST, NUMBER, OTHER, FAMILY, FAMILY-SIZE, CONSTRAINTS, LAYER-SET, COUNT}
 use Rattle.record.specs.Unused.{familyWritten, partsWritten, setWritten}
 use Rattle.record.proofs.Packed.{by-kind, headAt-kind}
 use Rattle.record.proofs.Same.{same-refl, same-eq, refuted}
@@ -41,18 +41,18 @@ module _ (bs : List ℕ) (i : ℕ) where
   kept-part true e = refl
   kept-part false e = is-nowhere e
 
-family-kept : (bs : List ℕ) → familyWritten bs ≡ true → familyAt (field 5 bs) (field 6 bs) ≡ spanAt 5 bs
-family-kept bs = go (eqb (field 6 bs) 0) refl
+family-kept : (bs : List ℕ) → familyWritten bs ≡ true → familyAt (field FAMILY bs) (field FAMILY-SIZE bs) ≡ spanAt FAMILY bs
+family-kept bs = go (eqb (field FAMILY-SIZE bs) 0) refl
   where
-    go : (t : Bool) → eqb (field 6 bs) 0 ≡ t → (not t || eqb (field 5 bs) 0) ≡ true → pick t nowhere (span (field 5 bs) (field 6 bs)) ≡ spanAt 5 bs
-    go true e h = ap₂ span (sym (eqb-true (field 5 bs) 0 h)) (sym (eqb-true (field 6 bs) 0 e))
+    go : (t : Bool) → eqb (field FAMILY-SIZE bs) 0 ≡ t → (not t || eqb (field FAMILY bs) 0) ≡ true → pick t nowhere (span (field FAMILY bs) (field FAMILY-SIZE bs)) ≡ spanAt FAMILY bs
+    go true e h = ap₂ span (sym (eqb-true (field FAMILY bs) 0 h)) (sym (eqb-true (field FAMILY-SIZE bs) 0 e))
     go false e h = refl
 
-kept-family : (bs : List ℕ) → familyAt (field 5 bs) (field 6 bs) ≡ spanAt 5 bs → familyWritten bs ≡ true
-kept-family bs = go (eqb (field 6 bs) 0)
+kept-family : (bs : List ℕ) → familyAt (field FAMILY bs) (field FAMILY-SIZE bs) ≡ spanAt FAMILY bs → familyWritten bs ≡ true
+kept-family bs = go (eqb (field FAMILY-SIZE bs) 0)
   where
-    go : (t : Bool) → pick t nowhere (span (field 5 bs) (field 6 bs)) ≡ spanAt 5 bs → (not t || eqb (field 5 bs) 0) ≡ true
-    go true e = eq-eqb (field 5 bs) 0 (ap (λ (p : Span). p .offset) (sym e))
+    go : (t : Bool) → pick t nowhere (span (field FAMILY bs) (field FAMILY-SIZE bs)) ≡ spanAt FAMILY bs → (not t || eqb (field FAMILY bs) 0) ≡ true
+    go true e = eq-eqb (field FAMILY bs) 0 (ap (λ (p : Span). p .offset) (sym e))
     go false e = refl
 
 -- What a leaf uses: tilde and layers, a family, a number, d of a pair.
@@ -96,74 +96,74 @@ no-bits : (s : ℕ) → 0 ≡ s / 8 % 2 → 0 ≡ s / 2 % 4 → 0 ≡ s % 2 → 
 no-bits s t f p = let same : s / 2 / 8 ≡ s / 16 = omega arith in let l = no-layers s t f in omega arith
 
 -- The tests of each kind say that the record is clean, and a clean record passes them.
-module _ (bs : List ℕ) (lists : bothZero 1 bs ≡ true) where
+module _ (bs : List ℕ) (lists : bothZero FIRST bs ≡ true) where
   abbrev r : Fields
   r = fieldsAt bs
 
   small-zero : getD r 0 0 % 16 ≡ 0 → (0 ≡ tilde r) × (0 ≡ form r) × (0 ≡ present r)
   small-zero e = (omega arith, omega arith, omega arith)
 
-  move-clean : Uses r true true true false → eqb (field 4 bs) (lowAndHigh (layersAt bs)) ≡ true → setWritten bs ≡ true → partsWritten bs ≡ true → Clean r
+  move-clean : Uses r true true true false → eqb (field OTHER bs) (lowAndHigh (layersAt bs)) ≡ true → setWritten bs ≡ true → partsWritten bs ≡ true → Clean r
   move-clean u o s p =
       record {
         tilde-used = rw (u .moves); form-used = rw (u .moves); present-used = rw (u .named);
         first-used = rw (u .alone) (sym (zeros bs 1 lists .0)); second-used = rw (u .single) (sym (zeros bs 1 lists .1));
         number-used = rw (u .numbered);
-        other-used = rw (u .paired) (sym (layers-numbers r (form r) (omega arith)) ∙ sym (eqb-true (field 4 bs) (lowAndHigh (layersAt bs)) o));
+        other-used = rw (u .paired) (sym (layers-numbers r (form r) (omega arith)) ∙ sym (eqb-true (field OTHER bs) (lowAndHigh (layersAt bs)) o));
         family-used = rw (u .named) (family-kept bs (and-left _ _ p));
         constraints-used = part-kept bs 7 (hasConstraints r) (and-right (familyWritten bs) _ p);
         set-used = part-kept bs 9 (hasSet r) s;
       }
 
-  clean-move : Uses r true true true false → Clean r → (eqb (field 4 bs) (lowAndHigh (layersAt bs)) && (setWritten bs && partsWritten bs)) ≡ true
+  clean-move : Uses r true true true false → Clean r → (eqb (field OTHER bs) (lowAndHigh (layersAt bs)) && (setWritten bs && partsWritten bs)) ≡ true
   clean-move u c =
-      and-both _ _ (eq-eqb (field 4 bs) (lowAndHigh (layersAt bs)) (sym (rw (u .paired) at (c .other-used)) ∙ sym (layers-numbers r (form r) (omega arith))))
+      and-both _ _ (eq-eqb (field OTHER bs) (lowAndHigh (layersAt bs)) (sym (rw (u .paired) at (c .other-used)) ∙ sym (layers-numbers r (form r) (omega arith))))
       (and-both _ _ (kept-part bs 9 (hasSet r) (c .set-used))
       (and-both _ _ (kept-family bs (rw (u .named) at (c .family-used))) (kept-part bs 7 (hasConstraints r) (c .constraints-used))))
 
-  rotation-clean : Uses r false true true false → eqb (field 0 bs / 2 % 8) 0 ≡ true → eqb (field 4 bs) 0 ≡ true → bothZero 9 bs ≡ true → partsWritten bs ≡ true → Clean r
+  rotation-clean : Uses r false true true false → eqb (field SMALL bs / 2 % 8) 0 ≡ true → eqb (field OTHER bs) 0 ≡ true → bothZero LAYER-SET bs ≡ true → partsWritten bs ≡ true → Clean r
   rotation-clean u t o s p =
-      let z : getD r 0 0 / 2 % 8 ≡ 0 = eqb-true (field 0 bs / 2 % 8) 0 t in
+      let z : getD r 0 0 / 2 % 8 ≡ 0 = eqb-true (field SMALL bs / 2 % 8) 0 t in
       let bare : 0 ≡ form r = omega arith in
       record {
         tilde-used = rw (u .moves) (omega arith); form-used = rw (u .moves) bare; present-used = rw (u .named);
         first-used = rw (u .alone) (sym (zeros bs 1 lists .0)); second-used = rw (u .single) (sym (zeros bs 1 lists .1));
         number-used = rw (u .numbered);
-        other-used = rw (u .paired, ← bare) (sym (eqb-true (field 4 bs) 0 o));
+        other-used = rw (u .paired, ← bare) (sym (eqb-true (field OTHER bs) 0 o));
         family-used = rw (u .named) (family-kept bs (and-left _ _ p));
         constraints-used = part-kept bs 7 (hasConstraints r) (and-right (familyWritten bs) _ p);
         set-used = rw (← bare) (nowhere-is bs 9 s);
       }
 
-  clean-rotation : Uses r false true true false → Clean r → (eqb (field 0 bs / 2 % 8) 0 && (eqb (field 4 bs) 0 && (bothZero 9 bs && partsWritten bs))) ≡ true
+  clean-rotation : Uses r false true true false → Clean r → (eqb (field SMALL bs / 2 % 8) 0 && (eqb (field OTHER bs) 0 && (bothZero LAYER-SET bs && partsWritten bs))) ≡ true
   clean-rotation u c =
       let t : 0 ≡ tilde r = rw (u .moves) at (c .tilde-used) in
       let f : 0 ≡ form r = rw (u .moves) at (c .form-used) in
-      let z : field 0 bs / 2 % 8 ≡ 0 = no-layers (field 0 bs) t f in
-      and-both _ _ (eq-eqb (field 0 bs / 2 % 8) 0 z)
-      (and-both _ _ (eq-eqb (field 4 bs) 0 (sym (rw (u .paired, ← f) at (c .other-used))))
+      let z : field SMALL bs / 2 % 8 ≡ 0 = no-layers (field SMALL bs) t f in
+      and-both _ _ (eq-eqb (field SMALL bs / 2 % 8) 0 z)
+      (and-both _ _ (eq-eqb (field OTHER bs) 0 (sym (rw (u .paired, ← f) at (c .other-used))))
       (and-both _ _ (is-nowhere bs 9 (rw (← f) at (c .set-used)))
       (and-both _ _ (kept-family bs (rw (u .named) at (c .family-used))) (kept-part bs 7 (hasConstraints r) (c .constraints-used)))))
 
   -- a pair, or a kind alone: nothing beside the kind but numbers
   abbrev alone : Bool
-  alone = eqb (field 0 bs % 16) 0 && (bothZero 5 bs && (bothZero 7 bs && bothZero 9 bs))
+  alone = eqb (field SMALL bs % 16) 0 && (bothZero FAMILY bs && (bothZero CONSTRAINTS bs && bothZero LAYER-SET bs))
 
   bare-clean : {n p : Bool} → Uses r false false n p → alone ≡ true → pick n (number r) 0 ≡ number r → (0 ≡ form r → pick p (other r) (getD (layerNumbers r) (form r) 0) ≡ other r) → Clean r
   bare-clean u a n o =
-      let z : getD r 0 0 % 16 ≡ 0 = eqb-true (field 0 bs % 16) 0 (and-left _ _ a) in
+      let z : getD r 0 0 % 16 ≡ 0 = eqb-true (field SMALL bs % 16) 0 (and-left _ _ a) in
       let t : 0 ≡ tilde r = omega arith in
       let f : 0 ≡ form r = omega arith in
       let p : 0 ≡ present r = omega arith in
-      let parts = and-right (eqb (field 0 bs % 16) 0) _ a in
+      let parts = and-right (eqb (field SMALL bs % 16) 0) _ a in
       record {
         tilde-used = rw (u .moves) t; form-used = rw (u .moves) f; present-used = rw (u .named) p;
         first-used = rw (u .alone) (sym (zeros bs 1 lists .0)); second-used = rw (u .single) (sym (zeros bs 1 lists .1));
         number-used = rw (u .numbered) n;
         other-used = rw (u .paired) (o f);
         family-used = rw (u .named) (nowhere-is bs 5 (and-left _ _ parts));
-        constraints-used = rw (← p) (nowhere-is bs 7 (and-left _ _ (and-right (bothZero 5 bs) _ parts)));
-        set-used = rw (← f) (nowhere-is bs 9 (and-right (bothZero 7 bs) _ (and-right (bothZero 5 bs) _ parts)));
+        constraints-used = rw (← p) (nowhere-is bs 7 (and-left _ _ (and-right (bothZero FAMILY bs) _ parts)));
+        set-used = rw (← f) (nowhere-is bs 9 (and-right (bothZero CONSTRAINTS bs) _ (and-right (bothZero FAMILY bs) _ parts)));
       }
 
   clean-bare : {n p : Bool} → Uses r false false n p → Clean r → alone ≡ true
@@ -171,13 +171,13 @@ module _ (bs : List ℕ) (lists : bothZero 1 bs ≡ true) where
       let t : 0 ≡ tilde r = rw (u .moves) at (c .tilde-used) in
       let f : 0 ≡ form r = rw (u .moves) at (c .form-used) in
       let p : 0 ≡ present r = rw (u .named) at (c .present-used) in
-      let z : field 0 bs % 16 ≡ 0 = no-bits (field 0 bs) t f p in
-      and-both _ _ (eq-eqb (field 0 bs % 16) 0 z)
+      let z : field SMALL bs % 16 ≡ 0 = no-bits (field SMALL bs) t f p in
+      and-both _ _ (eq-eqb (field SMALL bs % 16) 0 z)
       (and-both _ _ (is-nowhere bs 5 (rw (u .named) at (c .family-used)))
       (and-both _ _ (is-nowhere bs 7 (rw (← p) at (c .constraints-used))) (is-nowhere bs 9 (rw (← f) at (c .set-used)))))
 
 -- A leaf's record by its kind.
-module _ (bs : List ℕ) (below : Below 256 bs) (k : ℕ) (e : k ≡ field 0 bs / 16) (leafy : 6 ≤ k) (one : field 11 bs ≡ 1) where
+module _ (bs : List ℕ) (below : Below 256 bs) (k : ℕ) (e : k ≡ kindAt bs) (leafy : 6 ≤ k) (one : field COUNT bs ≡ 1) where
   abbrev same : Bool
   same = sameList (headFields (headAt bs)) (fieldsAt bs)
 
@@ -207,7 +207,7 @@ module _ (bs : List ℕ) (below : Below 256 bs) (k : ℕ) (e : k ≡ field 0 bs 
       (λ l. (refl, refl), (λ l. (refl, refl), (λ l. (refl, refl), (λ l. (refl, refl), (λ l. (refl, refl), (λ l. (refl, refl), (λ l. (refl, refl), (λ l. (refl, refl), (λ l. (refl, refl), tt)))))))))))))))
       (λ j z l. (refl, refl)) leafy
 
-  pub with-lists : bothZero 1 bs ≡ false → false ≡ same
+  pub with-lists : bothZero FIRST bs ≡ false → false ≡ same
   with-lists n = refuted same λ q.
       let z = same-eq (headFields (headAt bs)) (fieldsAt bs) q in
       let at : (i : ℕ) → getD (headFields (headAt bs)) i 0 ≡ field i bs = λ i. ap (λ (l : List ℕ). getD l i 0) z in
@@ -217,27 +217,27 @@ module _ (bs : List ℕ) (below : Below 256 bs) (k : ℕ) (e : k ≡ field 0 bs 
   pub no-kind : k ≡ 15 → false ≡ same
   no-kind z = refuted same λ q.
       let l = same-eq (headFields (headAt bs)) (fieldsAt bs) q in
-      let small : getD (headFields (headAt bs)) 0 0 ≡ field 0 bs = ap (λ (s : List ℕ). getD s 0 0) l in
+      let small : getD (headFields (headAt bs)) 0 0 ≡ field SMALL bs = ap (λ (s : List ℕ). getD s 0 0) l in
       let pauses : getD (headFields (headAt bs)) 0 0 ≡ 128 = ap (λ (h : Head). getD (headFields h) 0 0) (headAt-kind bs 15 (sym z ∙ e)) in
       omega arith
 
-  module _ (lists : bothZero 1 bs ≡ true) where
-    pub a-move : k ≡ 7 → (t : Bool) → t ≡ (eqb (field 4 bs) (lowAndHigh (layersAt bs)) && (setWritten bs && partsWritten bs)) → t ≡ same
+  module _ (lists : bothZero FIRST bs ≡ true) where
+    pub a-move : k ≡ 7 → (t : Bool) → t ≡ (eqb (field OTHER bs) (lowAndHigh (layersAt bs)) && (setWritten bs && partsWritten bs)) → t ≡ same
     a-move z t p =
         let u = uses-move (fieldsAt bs) (sym e ∙ z) in
         tells (omega arith) t
-        (λ h. let q = sym p ∙ h in let s = and-right (eqb (field 4 bs) (lowAndHigh (layersAt bs))) _ q in move-clean bs lists u (and-left _ _ q) (and-left _ _ s) (and-right (setWritten bs) _ s))
+        (λ h. let q = sym p ∙ h in let s = and-right (eqb (field OTHER bs) (lowAndHigh (layersAt bs))) _ q in move-clean bs lists u (and-left _ _ q) (and-left _ _ s) (and-right (setWritten bs) _ s))
         (λ c. p ∙ clean-move bs lists u c)
 
-    pub a-rotation : k ≡ 6 → (t : Bool) → t ≡ (eqb (field 0 bs / 2 % 8) 0 && (eqb (field 4 bs) 0 && (bothZero 9 bs && partsWritten bs))) → t ≡ same
+    pub a-rotation : k ≡ 6 → (t : Bool) → t ≡ (eqb (field SMALL bs / 2 % 8) 0 && (eqb (field OTHER bs) 0 && (bothZero LAYER-SET bs && partsWritten bs))) → t ≡ same
     a-rotation z t p =
         let u = uses-rotation (fieldsAt bs) (sym e ∙ z) in
         tells (omega arith) t
         (λ h.
             let q = sym p ∙ h in
-            let s = and-right (eqb (field 0 bs / 2 % 8) 0) _ q in
-            let v = and-right (eqb (field 4 bs) 0) _ s in
-            rotation-clean bs lists u (and-left _ _ q) (and-left _ _ s) (and-left _ _ v) (and-right (bothZero 9 bs) _ v))
+            let s = and-right (eqb (field SMALL bs / 2 % 8) 0) _ q in
+            let v = and-right (eqb (field OTHER bs) 0) _ s in
+            rotation-clean bs lists u (and-left _ _ q) (and-left _ _ s) (and-left _ _ v) (and-right (bothZero LAYER-SET bs) _ v))
         (λ c. p ∙ clean-rotation bs lists u c)
 
     pub a-pair : k ≡ 9 → (t : Bool) → t ≡ alone bs lists → t ≡ same
@@ -245,7 +245,7 @@ module _ (bs : List ℕ) (below : Below 256 bs) (k : ℕ) (e : k ≡ field 0 bs 
         let u = uses-pair (fieldsAt bs) (sym e ∙ z) in
         tells (omega arith) t (λ h. bare-clean bs lists u (sym p ∙ h) refl (λ f. refl)) (λ c. p ∙ clean-bare bs lists u c)
 
-    pub a-kind : (k ≡ 6 → ⊥) → (k ≡ 7 → ⊥) → (k ≡ 9 → ⊥) → k ≤ 14 → (t : Bool) → t ≡ (alone bs lists && bothZero 3 bs) → t ≡ same
+    pub a-kind : (k ≡ 6 → ⊥) → (k ≡ 7 → ⊥) → (k ≡ 9 → ⊥) → k ≤ 14 → (t : Bool) → t ≡ (alone bs lists && bothZero NUMBER bs) → t ≡ same
     a-kind six seven nine few t p =
         let u = uses-none (fieldsAt bs) (omega (arith, six, seven)) (λ z. nine (e ∙ z)) in
         tells few t

@@ -23,7 +23,7 @@ use Rattle.notation.specs.declared.common.BinaryGroupKind.the-variants.{Commuta
 use Rattle.notation.specs.declared.common.MegaminxScrambleMove.the-variants.{Rpp, Rmm, Dpp, Dmm}
 use Rattle.numbers.proofs.Positional.{Below, below-take, below-drop}
 use Rattle.numbers.proofs.BigEndian.{fromBigEndian-lt, two-parts, first-part, last-part}
-use Rattle.record.specs.Meaning.{start, field, groupAt, binaryAt, rotationAt, moveAt}
+use Rattle.record.specs.Meaning.{start, field, groupAt, binaryAt, rotationAt, moveAt, kindAt, NUMBER, OTHER, COUNT}
 use Rattle.record.proofs.Cut.{Fits, none as no-field, one as and-field, field-ends, cut-front, length-layOut, stores, stores-layOut}
 
 -- field i stands after the widths before it: what ties an offset of the code to the list of widths
@@ -66,15 +66,15 @@ module _ (s : List ℕ) (at : ℕ) (below : Below 256 s) (room : at + 6 ≤ leng
 -- the step count by the first of its five bytes and by the other four
 module _ (bs : List ℕ) (long : RECORD ≤ length bs) (high low : ℕ)
     (e : high ≡ fromBigEndian (take 1 (drop (start widths 11) bs))) (f : low ≡ fromBigEndian (take 4 (drop (start widths 11 + 1) bs))) where
-  count-parts : field 11 bs ≡ high * 4294967296 + low
+  count-parts : field COUNT bs ≡ high * 4294967296 + low
   count-parts = field-at bs 11 (lit< tt) ∙ two-parts bs (start widths 11) 1 4 long ∙ rw (e, f)
 
-  pub more-than-one : (high ≡ 0 → ⊥) → eqb high 0 ≡ eqb (field 11 bs) 1
-  more-than-one n = ne-eqb high 0 n ∙ sym (ne-eqb (field 11 bs) 1 (λ z. n (omega (arith, count-parts))))
+  pub more-than-one : (high ≡ 0 → ⊥) → eqb high 0 ≡ eqb (field COUNT bs) 1
+  more-than-one n = ne-eqb high 0 n ∙ sym (ne-eqb (field COUNT bs) 1 (λ z. n (omega (arith, count-parts))))
 
-  pub one-by-low : high ≡ 0 → eqb low 1 ≡ eqb (field 11 bs) 1
+  pub one-by-low : high ≡ 0 → eqb low 1 ≡ eqb (field COUNT bs) 1
   one-by-low z =
-      let same : low ≡ field 11 bs = omega (arith, count-parts) in
+      let same : low ≡ field COUNT bs = omega (arith, count-parts) in
       ap (λ (n : ℕ). eqb n 1) same
 
 -- what a record says, by its kind
@@ -83,10 +83,10 @@ byKind bs =
     groupAt Simple bs ∷ groupAt Macro bs ∷ groupAt Simultaneous bs ∷ groupAt Niss bs
     ∷ binaryAt Commutator bs ∷ binaryAt Conjugate bs
     ∷ rotationAt bs ∷ moveAt bs ∷ leafHead pause
-    ∷ leafHead (pair (fromBits 32 (field 3 bs)) (fromBits 32 (field 4 bs))) ∷ leafHead slash
+    ∷ leafHead (pair (fromBits 32 (field NUMBER bs)) (fromBits 32 (field OTHER bs))) ∷ leafHead slash
     ∷ leafHead (megaminx Rpp) ∷ leafHead (megaminx Rmm) ∷ leafHead (megaminx Dpp) ∷ leafHead (megaminx Dmm) ∷ []
 
-pub headAt-kind : (bs : List ℕ) (k : ℕ) → k ≡ field 0 bs / 16 → headAt bs ≡ getD (byKind bs) k (leafHead pause)
+pub headAt-kind : (bs : List ℕ) (k : ℕ) → k ≡ kindAt bs → headAt bs ≡ getD (byKind bs) k (leafHead pause)
 unfolding headOf
 headAt-kind bs k e = rw e
 
@@ -104,7 +104,7 @@ pub numbered-at : {A : Type 0} (P : ℕ → A → Type 0) (l : List A) (d : A) �
 numbered-at P l d all p i = numbered-from P l d 0 all (λ j h. p j (omega arith)) i i (omega arith)
 
 -- what holds of a record by its kind, and of a pause, for which a kind above 14 is taken
-pub by-kind : (P : ℕ → Head → Type 0) (bs : List ℕ) (k : ℕ) → k ≡ field 0 bs / 16 → Numbered P 0 (byKind bs) → ((j : ℕ) → 15 ≤ j → P j (leafHead pause)) → P k (headAt bs)
+pub by-kind : (P : ℕ → Head → Type 0) (bs : List ℕ) (k : ℕ) → k ≡ kindAt bs → Numbered P 0 (byKind bs) → ((j : ℕ) → 15 ≤ j → P j (leafHead pause)) → P k (headAt bs)
 by-kind P bs k e all p = subst (P k) (sym (headAt-kind bs k e)) (numbered-at P (byKind bs) (leafHead pause) all p k)
 
 -- a number that is none of those below n, as a `match` with an arm for each leaves it

@@ -58,6 +58,7 @@ use Rattle.notation.specs.declared.common.MegaminxScrambleMove.the-variants.{Rp
 use Rattle.numbers.proofs.Positional.{Below}
 use Rattle.numbers.proofs.TwosComplement.{toBits-lt, fromBits-toBits}
 use Rattle.record.specs.Range.{FitsField, FitsSpan, FitsFamily, FitsConstraints, FitsLayers, FitsNumber, FitsHead}
+use Rattle.record.specs.Meaning.{FIRST, SECOND, COUNT}
 use Rattle.record.proofs.Cut.{Fits, none as no-field, one as and-field, length-layOut, layOut-below, cut-layOut}
 use Rattle.record.proofs.Packed.{bit-lt, present-lt, layerForm-lt, groupNumber-lt, binaryNumber-lt, megaminxNumber-lt}
 
@@ -94,8 +95,8 @@ module _ (k t f p : ℕ) (t-fits : t < 2) (f-fits : f < 4) (p-fits : p < 2) wher
   small-present = omega arith
 
 -- the fields of a head in range fit their widths
-in-order-fits : (k t f p n n′ m o : ℕ) (family constraints set : Span) (count : ℕ) → k < 16 → t < 2 → f < 4 → p < 2 → FitsField 1 n → FitsField 2 n′
-    → m < 2 ^ 32 → o < 2 ^ 32 → FitsSpan family → FitsSpan constraints → FitsSpan set → FitsField 11 count
+in-order-fits : (k t f p n n′ m o : ℕ) (family constraints set : Span) (count : ℕ) → k < 16 → t < 2 → f < 4 → p < 2 → FitsField FIRST n → FitsField SECOND n′
+    → m < 2 ^ 32 → o < 2 ^ 32 → FitsSpan family → FitsSpan constraints → FitsSpan set → FitsField COUNT count
     → Fits widths (inOrder k t f p n n′ m o family constraints set count)
 in-order-fits k t f p n n′ m o family constraints set count hk ht hf hp hn hn′ hm ho a b c hc =
     let byte : k * 16 + t * 8 + f * 2 + p < 256 ^ 1 = omega arith in
@@ -134,7 +135,7 @@ low-and-high-fits (layerSet p) h = lit< tt
 number-fits : (z : ℤ) → FitsNumber z → toBits 32 z < 2 ^ 32
 number-fits z h = toBits-lt 32 z (lit< tt) h
 
-without-parts-fits : (k n n′ m o c : ℕ) → k < 16 → FitsField 1 n → FitsField 2 n′ → m < 2 ^ 32 → o < 2 ^ 32 → FitsField 11 c
+without-parts-fits : (k n n′ m o c : ℕ) → k < 16 → FitsField FIRST n → FitsField SECOND n′ → m < 2 ^ 32 → o < 2 ^ 32 → FitsField COUNT c
     → Fits widths (inOrder k 0 0 0 n n′ m o nowhere nowhere nowhere c)
 without-parts-fits k n n′ m o c hk hn hn′ hm ho hc =
     in-order-fits k 0 0 0 n n′ m o nowhere nowhere nowhere c hk (lit< tt) (lit< tt) (lit< tt) hn hn′ hm ho nowhere-fits nowhere-fits nowhere-fits hc

@@ -12,7 +12,7 @@ use Rattle.notation.specs.Basics.{sameList}
 use Rattle.notation.specs.Packed.{RECORD, widths, layOut, cut, Head, headFields, headRecord}
 use Rattle.notation.proofs.Bools.{false-true, and-left as left, and-right as right, and-both as both}
 use Rattle.numbers.proofs.Positional.{Below, below-take}
-use Rattle.record.specs.Meaning.{field, span, spanAt, uncounted, listed}
+use Rattle.record.specs.Meaning.{field, span, spanAt, uncounted, listed, SMALL, FIRST, SECOND, NUMBER, OTHER, FAMILY, CONSTRAINTS, LAYER-SET, COUNT}
 use Rattle.record.specs.declared.encode.Fields.{Fields}
 use Rattle.record.specs.declared.spanned.Span.{Span}
 use Rattle.record.proofs.Cut.{Fits, cut-layOut, layOut-cut}
@@ -70,8 +70,8 @@ one-same x y = go (eqb x y)
 
 -- the fields of a record are all there is to cut from it
 pub all-fields : (t : List ℕ) {small first second number other count : ℕ} {family constraints set : Span} →
-    small ≡ field 0 t → first ≡ field 1 t → second ≡ field 2 t → number ≡ field 3 t → other ≡ field 4 t →
-    span family ≡ spanAt 5 t → span constraints ≡ spanAt 7 t → span set ≡ spanAt 9 t → count ≡ field 11 t →
+    small ≡ field SMALL t → first ≡ field FIRST t → second ≡ field SECOND t → number ≡ field NUMBER t → other ≡ field OTHER t →
+    span family ≡ spanAt FAMILY t → span constraints ≡ spanAt CONSTRAINTS t → span set ≡ spanAt LAYER-SET t → count ≡ field COUNT t →
     small ∷ first ∷ second ∷ number ∷ other ∷ family .offset ∷ family .size ∷ constraints .offset ∷ constraints .size ∷ set .offset ∷ set .size ∷ count ∷ []
     ≡ cut widths (take RECORD t)
 unfolding cut

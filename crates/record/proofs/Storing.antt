@@ -13,7 +13,7 @@ use Rattle.notation.specs.Numbers.{bigEndian, fromBigEndian}
 use Rattle.notation.specs.Packed.{RECORD, widths, layOut, binaryHead, headFields, headRecord}
 use Rattle.notation.specs.declared.common.BinaryGroupKind.{BinaryGroupKind}
 use Rattle.numbers.proofs.BigEndian.{length-bigEndian}
-use Rattle.record.specs.Meaning.{start, field, withField, withLists}
+use Rattle.record.specs.Meaning.{start, field, withField, withLists, SECOND}
 use Rattle.record.proofs.Cut.{next-start, field-ends}
 use Rattle.record.proofs.Packed.{field-at}
 
@@ -82,5 +82,5 @@ pub lists-set : (k : BinaryGroupKind) (n n′ a a′ : ℕ) (m : ℤ) (c : ℕ) 
 unfolding headRecord
 lists-set k n n′ a a′ m c rest =
     let fs = headFields (binaryHead k n n′ m c) in
-    ap (withField 2 a′) (store-field widths fs rest 1 a (lit< tt) refl)
+    ap (withField SECOND a′) (store-field widths fs rest 1 a (lit< tt) refl)
     ∙ store-field widths (set fs 1 a) rest 2 a′ (lit< tt) refl

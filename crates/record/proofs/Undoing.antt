@@ -16,7 +16,7 @@ use Rattle.notation.specs.declared.common.GroupKind.the-variants.{Simple, Macro
 use Rattle.notation.specs.declared.common.BinaryGroupKind.the-variants.{Commutator, Conjugate}
 use Rattle.notation.specs.declared.common.MegaminxScrambleMove.the-variants.{Rpp, Rmm, Dpp, Dmm}
 use Rattle.numbers.proofs.TwosComplement.{fromBits-toBits}
-use Rattle.record.specs.Meaning.{field, withField}
+use Rattle.record.specs.Meaning.{field, withField, kindAt, SMALL, NUMBER, OTHER}
 use Rattle.record.specs.Range.{FitsNumber, FitsHead}
 use Rattle.record.specs.Undone.{StartsRecord, undoneHead}
 use Rattle.record.proofs.Numbered.{kindOf, kind-field}
@@ -95,7 +95,7 @@ module _ (bs : List ℕ) (s : StartsRecord bs) where
       ap (λ (l : List ℕ). getD (cut widths (take RECORD l)) i 0) (sym (s .whole))
       ∙ ap (λ (l : List ℕ). getD l i 0) (cut-headRecord (headAt bs) (drop RECORD bs) (s .fits))
 
-  pub kind-is : field 0 bs / 16 ≡ kindOf (headAt bs)
+  pub kind-is : kindAt bs ≡ kindOf (headAt bs)
   kind-is = ap (λ (k : ℕ). k / 16) (field-is 0) ∙ kind-field (headAt bs)
 
   -- the fields of the record, some of them changed
@@ -114,10 +114,10 @@ module _ (bs : List ℕ) (s : StartsRecord bs) where
   stored fs i n l h = store-field widths fs (drop RECORD bs) i n h l
 
   -- The three ways through `undo_record`: the number was negated first.
-  module _ {k n n′ : ℕ} {r : List ℕ} (ek : k ≡ field 0 bs / 16) (en : n ≡ field 3 bs) (en′ : n′ ≡ negated n) (e : r ≡ withField 3 n′ bs) where
+  module _ {k n n′ : ℕ} {r : List ℕ} (ek : k ≡ kindAt bs) (en : n ≡ field NUMBER bs) (en′ : n′ ≡ negated n) (e : r ≡ withField NUMBER n′ bs) where
     half-is : r ≡ laid (halfFields (headAt bs))
     half-is =
-        e ∙ ap₂ (λ (l : List ℕ) (m : ℕ). withField 3 m l) laid-whole (en′ ∙ ap negated (en ∙ field-is 3))
+        e ∙ ap₂ (λ (l : List ℕ) (m : ℕ). withField NUMBER m l) laid-whole (en′ ∙ ap negated (en ∙ field-is 3))
         ∙ stored (headFields (headAt bs)) 3 _ (length-headFields (headAt bs)) (lit< tt)
 
     half-long : length (halfFields (headAt bs)) ≡ length widths
@@ -129,18 +129,18 @@ module _ (bs : List ℕ) (s : StartsRecord bs) where
     pub number-undone : (k ≡ 9 → ⊥) → k ≤ 10 → Undone bs r
     number-undone h l = undone-of _ half-is (half-undone (headAt bs) (s .fits) (λ z. h (sym kind-of ∙ z)) (rw kind-of l))
 
-    pub pair-undone : k ≡ 9 → {o o′ : ℕ} {r′ : List ℕ} → o ≡ field 4 r → o′ ≡ negated o → r′ ≡ withField 4 o′ r → Undone bs r′
+    pub pair-undone : k ≡ 9 → {o o′ : ℕ} {r′ : List ℕ} → o ≡ field OTHER r → o′ ≡ negated o → r′ ≡ withField OTHER o′ r → Undone bs r′
     pair-undone h {o} {o′} eo eo′ e′ =
         let other : o ≡ getD (headFields (headAt bs)) 4 0 = eo ∙ ap (field 4) e ∙ next-kept bs 3 n′ (lit< tt) (s .long) ∙ field-is 4 in
         undone-of _
-        (e′ ∙ ap₂ (λ (l : List ℕ) (m : ℕ). withField 4 m l) half-is (eo′ ∙ ap negated other) ∙ stored (halfFields (headAt bs)) 4 _ half-long (lit< tt))
+        (e′ ∙ ap₂ (λ (l : List ℕ) (m : ℕ). withField OTHER m l) half-is (eo′ ∙ ap negated other) ∙ stored (halfFields (headAt bs)) 4 _ half-long (lit< tt))
         (both-undone (headAt bs) (s .fits) (kind-of ∙ h))
 
     pub kind-undone : 10 < k → {x : ℕ} {r′ : List ℕ} → ((j : MegaminxScrambleMove) → k ≡ megaminxNumber j → x ≡ megaminxNumber (exchanged j))
-        → r′ ≡ withField 0 (x * 16) r → Undone bs r′
+        → r′ ≡ withField SMALL (x * 16) r → Undone bs r′
     kind-undone h {x} ex e′ =
         undone-of _
-        (e′ ∙ ap (withField 0 (x * 16)) half-is ∙ stored (halfFields (headAt bs)) 0 _ half-long (lit< tt))
+        (e′ ∙ ap (withField SMALL (x * 16)) half-is ∙ stored (halfFields (headAt bs)) 0 _ half-long (lit< tt))
         (move-undone (headAt bs) (rw kind-of h) x (λ j z. ex j (sym kind-of ∙ z)))
 
 -- Bytes that are a record and more: they start with it, and are undone by it.

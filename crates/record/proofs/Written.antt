@@ -22,7 +22,7 @@ use Rattle.notation.specs.Clauses.{
 }
 use Rattle.numbers.proofs.Positional.{Below}
 use Rattle.numbers.proofs.TwosComplement.{toBits-fromBits}
-use Rattle.record.specs.Meaning.{field, rotationAt, moveAt}
+use Rattle.record.specs.Meaning.{field, rotationAt, moveAt, NUMBER, OTHER}
 use Rattle.record.proofs.Packed.{field-lt, by-kind}
 
 -- the fields of a record one by one
@@ -97,11 +97,11 @@ unfolding cut
 listed-same bs = refl
 
 module _ (bs : List ℕ) (below : Below 256 bs) where
-  bits : toBits 32 (fromBits 32 (field 3 bs)) ≡ field 3 bs
-  bits = toBits-fromBits 32 (field 3 bs) (field-lt bs below 3 (lit< tt))
+  bits : toBits 32 (fromBits 32 (field NUMBER bs)) ≡ field NUMBER bs
+  bits = toBits-fromBits 32 (field NUMBER bs) (field-lt bs below 3 (lit< tt))
 
-  bits′ : toBits 32 (fromBits 32 (field 4 bs)) ≡ field 4 bs
-  bits′ = toBits-fromBits 32 (field 4 bs) (field-lt bs below 4 (lit< tt))
+  bits′ : toBits 32 (fromBits 32 (field OTHER bs)) ≡ field OTHER bs
+  bits′ = toBits-fromBits 32 (field OTHER bs) (field-lt bs below 4 (lit< tt))
 
   rotation-written : headFields (rotationAt bs) ≡ cleaned 6 (fieldsAt bs)
   rotation-written =

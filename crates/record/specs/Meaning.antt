@@ -50,12 +50,56 @@ rotationLeaf x = rotation (span (x .family)) (spanOption (x .constraints)) (from
 abbrev pub moveLeaf : Move → Leaf
 moveLeaf x = move (x .inverted) (layers (x .layers)) (span (x .family)) (spanOption (x .constraints)) (fromBits 32 (x .multiplier))
 
+-- The fields of a record by name: their numbers in `widths`. A part of the text has two, its offset and its size.
+abbrev pub SMALL : ℕ
+SMALL = 0
+
+abbrev pub FIRST : ℕ
+FIRST = 1
+
+abbrev pub SECOND : ℕ
+SECOND = 2
+
+abbrev pub NUMBER : ℕ
+NUMBER = 3
+
+abbrev pub OTHER : ℕ
+OTHER = 4
+
+abbrev pub FAMILY : ℕ
+FAMILY = 5
+
+abbrev pub FAMILY-SIZE : ℕ
+FAMILY-SIZE = 6
+
+abbrev pub CONSTRAINTS : ℕ
+CONSTRAINTS = 7
+
+abbrev pub LAYER-SET : ℕ
+LAYER-SET = 9
+
+abbrev pub COUNT : ℕ
+COUNT = 11
+
 -- field i of the first record, and the part of the text that fields i and i + 1 name
 abbrev pub field : ℕ → List ℕ → ℕ
 field i bs = getD (cut widths (take RECORD bs)) i 0
 
 abbrev pub spanAt : ℕ → List ℕ → tree.Span
 spanAt i bs = tree.span (field i bs) (field (i + 1) bs)
+
+-- what its first byte holds: the kind, whether it has a tilde, the form of its layers, and whether it has constraints
+abbrev pub kindAt : List ℕ → ℕ
+kindAt bs = field SMALL bs / 16
+
+abbrev pub tildeAt : List ℕ → Bool
+tildeAt bs = eqb (field SMALL bs / 8 % 2) 1
+
+abbrev pub formAt : List ℕ → ℕ
+formAt bs = field SMALL bs / 2 % 4
+
+abbrev pub presentAt : List ℕ → Bool
+presentAt bs = eqb (field SMALL bs % 2) 1
 
 -- whether fields i and i + 1 are 0
 abbrev pub bothZero : ℕ → List ℕ → Bool
@@ -73,7 +117,7 @@ abbrev pub withField : ℕ → ℕ → List ℕ → List ℕ
 withField i n bs = sets bs (start widths i) (bigEndian (getD widths i 0) n)
 
 abbrev pub withLists : ℕ → ℕ → List ℕ → List ℕ
-withLists first second bs = withField 2 second (withField 1 first bs)
+withLists first second bs = withField SECOND second (withField FIRST first bs)
 
 abbrev pub withSpan : ℕ → Span → List ℕ → List ℕ
 withSpan i p bs = withField (i + 1) (p .size) (withField i (p .offset) bs)
@@ -84,27 +128,27 @@ placeWidth = getD widths 5 0
 
 -- what the record says if it is of this kind, in the words of `headOf`
 abbrev pub groupAt : GroupKind → List ℕ → Head
-groupAt k bs = groupHead k (field 1 bs) (fromBits 32 (field 3 bs)) (field 11 bs)
+groupAt k bs = groupHead k (field FIRST bs) (fromBits 32 (field NUMBER bs)) (field COUNT bs)
 
 abbrev pub binaryAt : BinaryGroupKind → List ℕ → Head
-binaryAt k bs = binaryHead k (field 1 bs) (field 2 bs) (fromBits 32 (field 3 bs)) (field 11 bs)
+binaryAt k bs = binaryHead k (field FIRST bs) (field SECOND bs) (fromBits 32 (field NUMBER bs)) (field COUNT bs)
 
 abbrev pub constraintsAt : List ℕ → Option tree.Span
-constraintsAt bs = pick (eqb (field 0 bs % 2) 1) (some (spanAt 7 bs)) none
+constraintsAt bs = pick (presentAt bs) (some (spanAt CONSTRAINTS bs)) none
 
 abbrev pub layersAt : List ℕ → Layers tree.Span
 layersAt bs =
-    let low = field 4 bs / 65536 in
-    let high = field 4 bs % 65536 in
-    getD (noLayers ∷ singleLayer low ∷ layerRange low high ∷ layerSet (spanAt 9 bs) ∷ []) (field 0 bs / 2 % 4) noLayers
+    let low = field OTHER bs / 65536 in
+    let high = field OTHER bs % 65536 in
+    getD (noLayers ∷ singleLayer low ∷ layerRange low high ∷ layerSet (spanAt LAYER-SET bs) ∷ []) (formAt bs) noLayers
 
 abbrev pub rotationAt : List ℕ → Head
-rotationAt bs = leafHead (rotation (familyAt (field 5 bs) (field 6 bs)) (constraintsAt bs) (fromBits 32 (field 3 bs)))
+rotationAt bs = leafHead (rotation (familyAt (field FAMILY bs) (field FAMILY-SIZE bs)) (constraintsAt bs) (fromBits 32 (field NUMBER bs)))
 
 abbrev pub moveAt : List ℕ → Head
 moveAt bs =
     leafHead
-    (move (eqb (field 0 bs / 8 % 2) 1) (layersAt bs) (familyAt (field 5 bs) (field 6 bs)) (constraintsAt bs) (fromBits 32 (field 3 bs)))
+    (move (tildeAt bs) (layersAt bs) (familyAt (field FAMILY bs) (field FAMILY-SIZE bs)) (constraintsAt bs) (fromBits 32 (field NUMBER bs)))
 
 -- the fields of a record in order; those before the step count
 abbrev pub uncounted : Fields → List ℕ

@@ -22,14 +22,15 @@ use Rattle.notation.specs.Tree.{
   megaminx,
 }
 use Rattle.notation.specs.Packed.{widths, Head, leafHead, groupHead, binaryHead}
+use Rattle.record.specs.Meaning.{FIRST, SECOND, FAMILY, FAMILY-SIZE, COUNT}
 
 -- a number that field i has room for
 abbrev pub FitsField : ℕ → ℕ → Type 0
 FitsField i n = n < 256 ^ getD widths i 0
 
 pub record FitsSpan (p : Span) : Type 0 where
-  pub offset : FitsField 5 (p .offset)
-  pub size : FitsField 6 (p .size)
+  pub offset : FitsField FAMILY (p .offset)
+  pub size : FitsField FAMILY-SIZE (p .size)
 
 pub record FitsFamily (p : Span) : Type 0 where
   pub span : FitsSpan p
@@ -59,5 +60,5 @@ FitsLeaf (megaminx k) = Unit {0}
 
 abbrev pub FitsHead : Head → Type 0
 FitsHead (leafHead x) = FitsLeaf x
-FitsHead (groupHead k n m c) = FitsField 1 n × FitsNumber m × FitsField 11 c
-FitsHead (binaryHead k n n′ m c) = FitsField 1 n × FitsField 2 n′ × FitsNumber m × FitsField 11 c
+FitsHead (groupHead k n m c) = FitsField FIRST n × FitsNumber m × FitsField COUNT c
+FitsHead (binaryHead k n n′ m c) = FitsField FIRST n × FitsField SECOND n′ × FitsNumber m × FitsField COUNT c

@@ -3,16 +3,16 @@ use Prim.Native.Nat.{ℕ, _/_, _%_}
 use mathlib.Core.Bool.{Bool, not, _&&_, _||_}
 use mathlib.Core.List.{List}
 use lib.Dec.{eqb}
-use Rattle.record.specs.Meaning.{field, bothZero}
+use Rattle.record.specs.Meaning.{field, bothZero, formAt, presentAt, FAMILY, FAMILY-SIZE, CONSTRAINTS, LAYER-SET}
 
 abbrev pub familyWritten : List ℕ → Bool
-familyWritten bs = not (eqb (field 6 bs) 0) || eqb (field 5 bs) 0
+familyWritten bs = not (eqb (field FAMILY-SIZE bs) 0) || eqb (field FAMILY bs) 0
 
 abbrev pub constraintsWritten : List ℕ → Bool
-constraintsWritten bs = eqb (field 0 bs % 2) 1 || bothZero 7 bs
+constraintsWritten bs = presentAt bs || bothZero CONSTRAINTS bs
 
 abbrev pub partsWritten : List ℕ → Bool
 partsWritten bs = familyWritten bs && constraintsWritten bs
 
 abbrev pub setWritten : List ℕ → Bool
-setWritten bs = eqb (field 0 bs / 2 % 4) 3 || bothZero 9 bs
+setWritten bs = eqb (formAt bs) 3 || bothZero LAYER-SET bs

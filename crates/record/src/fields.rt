@@ -9,7 +9,7 @@ ghost use Rattle.notation.specs.Numbers.{bigEndian, fromBigEndian};
 ghost use Rattle.notation.specs.Tree as tree;
 ghost use Rattle.notation.specs.Packed.{RECORD};
 ghost use Rattle.record.specs.Range.{FitsSpan};
-ghost use Rattle.record.specs.Meaning.{field, bothZero, placeWidth, spanAt, span, withField, withLists, withSpan};
+ghost use Rattle.record.specs.Meaning.{field, bothZero, placeWidth, spanAt, span, withField, withLists, withSpan, kindAt, tildeAt, formAt, presentAt, SMALL, FIRST, SECOND, NUMBER, OTHER, FAMILY, CONSTRAINTS, LAYER-SET, COUNT};
 use crate::layout;
 use crate::spanned::Span;
 use numbers::big_endian::read_u8;
@@ -25,7 +25,7 @@ use numbers::big_endian::write_u40;
 // The kind, and of a move its tilde, layer form and whether it has constraints.
 pub fn small(t: &[u8]) -> u8
     requires { ⌜ RECORD ≤ length (now t) ⌝ }
-    ensures { λ r. ⌜ r ≡ field 0 (now (t .entry)) ⌝ }
+    ensures { λ r. ⌜ r ≡ field SMALL (now (t .entry)) ⌝ }
 {
     read_u8(t, layout::SMALL)
 }
@@ -33,14 +33,14 @@ pub fn small(t: &[u8]) -> u8
 // Which node it is: the first four bits.
 pub fn kind(t: &[u8]) -> u8
     requires { ⌜ RECORD ≤ length (now t) ⌝ }
-    ensures { λ r. ⌜ r ≡ field 0 (now (t .entry)) / 16 ⌝ }
+    ensures { λ r. ⌜ r ≡ kindAt (now (t .entry)) ⌝ }
 {
     small(t) / 16
 }
 
 pub fn tilde(t: &[u8]) -> bool
     requires { ⌜ RECORD ≤ length (now t) ⌝ }
-    ensures { λ r. ⌜ r ≡ eqb (field 0 (now (t .entry)) / 8 % 2) 1 ⌝ }
+    ensures { λ r. ⌜ r ≡ tildeAt (now (t .entry)) ⌝ }
 {
     small(t) / 8 % 2 == 1
 }
@@ -48,14 +48,14 @@ pub fn tilde(t: &[u8]) -> bool
 // 0 none, 1 single, 2 range, 3 set.
 pub fn layer_form(t: &[u8]) -> u8
     requires { ⌜ RECORD ≤ length (now t) ⌝ }
-    ensures { λ r. ⌜ r ≡ field 0 (now (t .entry)) / 2 % 4 ⌝ }
+    ensures { λ r. ⌜ r ≡ formAt (now (t .entry)) ⌝ }
 {
     small(t) / 2 % 4
 }
 
 pub fn constraints_present(t: &[u8]) -> bool
     requires { ⌜ RECORD ≤ length (now t) ⌝ }
-    ensures { λ r. ⌜ r ≡ eqb (field 0 (now (t .entry)) % 2) 1 ⌝ }
+    ensures { λ r. ⌜ r ≡ presentAt (now (t .entry)) ⌝ }
 {
     small(t) % 2 == 1
 }
@@ -63,7 +63,7 @@ pub fn constraints_present(t: &[u8]) -> bool
 // Records in the first list, nested ones included.
 pub fn first(t: &[u8]) -> u32
     requires { ⌜ RECORD ≤ length (now t) ⌝ }
-    ensures { λ r. ⌜ r ≡ field 1 (now (t .entry)) ⌝ }
+    ensures { λ r. ⌜ r ≡ field FIRST (now (t .entry)) ⌝ }
 {
     read_u24(t, layout::FIRST)
 }
@@ -71,7 +71,7 @@ pub fn first(t: &[u8]) -> u32
 // Records in the second list.
 pub fn second(t: &[u8]) -> u32
     requires { ⌜ RECORD ≤ length (now t) ⌝ }
-    ensures { λ r. ⌜ r ≡ field 2 (now (t .entry)) ⌝ }
+    ensures { λ r. ⌜ r ≡ field SECOND (now (t .entry)) ⌝ }
 {
     read_u24(t, layout::SECOND)
 }
@@ -79,7 +79,7 @@ pub fn second(t: &[u8]) -> u32
 // The multiplier, or u of a pair.
 pub fn number(t: &[u8]) -> u32
     requires { ⌜ RECORD ≤ length (now t) ⌝ }
-    ensures { λ r. ⌜ r ≡ field 3 (now (t .entry)) ⌝ }
+    ensures { λ r. ⌜ r ≡ field NUMBER (now (t .entry)) ⌝ }
 {
     read_u32(t, layout::NUMBER)
 }
@@ -87,7 +87,7 @@ pub fn number(t: &[u8]) -> u32
 // d of a pair, or low and high layer.
 pub fn other(t: &[u8]) -> u32
     requires { ⌜ RECORD ≤ length (now t) ⌝ }
-    ensures { λ r. ⌜ r ≡ field 4 (now (t .entry)) ⌝ }
+    ensures { λ r. ⌜ r ≡ field OTHER (now (t .entry)) ⌝ }
 {
     read_u32(t, layout::OTHER)
 }
@@ -108,7 +108,7 @@ fn span_at(t: &[u8], at: usize) -> Span
 
 pub fn family(t: &[u8]) -> Span
     requires { ⌜ RECORD ≤ length (now t) ⌝ }
-    ensures { λ r. ⌜ span r ≡ spanAt 5 (now (t .entry)) ⌝ }
+    ensures { λ r. ⌜ span r ≡ spanAt FAMILY (now (t .entry)) ⌝ }
     ensures { λ r. ⌜ FitsSpan (span r) ⌝ }
 {
     span_at(t, layout::FAMILY)
@@ -117,7 +117,7 @@ pub fn family(t: &[u8]) -> Span
 // Meant only where constraints are present.
 pub fn constraints(t: &[u8]) -> Span
     requires { ⌜ RECORD ≤ length (now t) ⌝ }
-    ensures { λ r. ⌜ span r ≡ spanAt 7 (now (t .entry)) ⌝ }
+    ensures { λ r. ⌜ span r ≡ spanAt CONSTRAINTS (now (t .entry)) ⌝ }
     ensures { λ r. ⌜ FitsSpan (span r) ⌝ }
 {
     span_at(t, layout::CONSTRAINTS)
@@ -126,7 +126,7 @@ pub fn constraints(t: &[u8]) -> Span
 // Meant only where the layer form is a set.
 pub fn layer_set(t: &[u8]) -> Span
     requires { ⌜ RECORD ≤ length (now t) ⌝ }
-    ensures { λ r. ⌜ span r ≡ spanAt 9 (now (t .entry)) ⌝ }
+    ensures { λ r. ⌜ span r ≡ spanAt LAYER-SET (now (t .entry)) ⌝ }
     ensures { λ r. ⌜ FitsSpan (span r) ⌝ }
 {
     span_at(t, layout::LAYER_SET)
@@ -135,7 +135,7 @@ pub fn layer_set(t: &[u8]) -> Span
 // How many steps the node unrolls into, its repeats included.
 pub fn count(t: &[u8]) -> u64
     requires { ⌜ RECORD ≤ length (now t) ⌝ }
-    ensures { λ r. ⌜ r ≡ field 11 (now (t .entry)) ⌝ }
+    ensures { λ r. ⌜ r ≡ field COUNT (now (t .entry)) ⌝ }
 {
     read_u40(t, layout::COUNT)
 }
@@ -143,7 +143,7 @@ pub fn count(t: &[u8]) -> u64
 // Whether it is 1, as a leaf's is: told by two parts of the field, which is quicker than to put five bytes together.
 pub fn counts_one(t: &[u8]) -> bool
     requires { ⌜ RECORD ≤ length (now t) ⌝ }
-    ensures { λ r. ⌜ r ≡ eqb (field 11 (now (t .entry))) 1 ⌝ }
+    ensures { λ r. ⌜ r ≡ eqb (field COUNT (now (t .entry))) 1 ⌝ }
 {
     read_u8(t, layout::COUNT) == 0 && read_u32(t, layout::COUNT + 1) == 1
 }
@@ -158,35 +158,35 @@ fn both_zero(t: &[u8], at: usize) -> bool
 
 pub fn no_lists(t: &[u8]) -> bool
     requires { ⌜ RECORD ≤ length (now t) ⌝ }
-    ensures { λ r. ⌜ r ≡ bothZero 1 (now (t .entry)) ⌝ }
+    ensures { λ r. ⌜ r ≡ bothZero FIRST (now (t .entry)) ⌝ }
 {
     both_zero(t, layout::FIRST)
 }
 
 pub fn no_family(t: &[u8]) -> bool
     requires { ⌜ RECORD ≤ length (now t) ⌝ }
-    ensures { λ r. ⌜ r ≡ bothZero 5 (now (t .entry)) ⌝ }
+    ensures { λ r. ⌜ r ≡ bothZero FAMILY (now (t .entry)) ⌝ }
 {
     both_zero(t, layout::FAMILY)
 }
 
 pub fn no_constraints(t: &[u8]) -> bool
     requires { ⌜ RECORD ≤ length (now t) ⌝ }
-    ensures { λ r. ⌜ r ≡ bothZero 7 (now (t .entry)) ⌝ }
+    ensures { λ r. ⌜ r ≡ bothZero CONSTRAINTS (now (t .entry)) ⌝ }
 {
     both_zero(t, layout::CONSTRAINTS)
 }
 
 pub fn no_layer_set(t: &[u8]) -> bool
     requires { ⌜ RECORD ≤ length (now t) ⌝ }
-    ensures { λ r. ⌜ r ≡ bothZero 9 (now (t .entry)) ⌝ }
+    ensures { λ r. ⌜ r ≡ bothZero LAYER-SET (now (t .entry)) ⌝ }
 {
     both_zero(t, layout::LAYER_SET)
 }
 
 pub fn set_small(out: &mut [u8], n: u8)
     requires { ⌜ RECORD ≤ length (now out) ⌝ }
-    ensures { λ _. ⌜ now (out .exit) ≡ withField 0 n (now (out .entry)) ⌝ }
+    ensures { λ _. ⌜ now (out .exit) ≡ withField SMALL n (now (out .entry)) ⌝ }
 {
     write_u8(out, layout::SMALL, n);
 }
@@ -202,14 +202,14 @@ pub fn set_lists(out: &mut [u8], first: u32, second: u32)
 
 pub fn set_number(out: &mut [u8], n: u32)
     requires { ⌜ RECORD ≤ length (now out) ⌝ }
-    ensures { λ _. ⌜ now (out .exit) ≡ withField 3 n (now (out .entry)) ⌝ }
+    ensures { λ _. ⌜ now (out .exit) ≡ withField NUMBER n (now (out .entry)) ⌝ }
 {
     write_u32(out, layout::NUMBER, n);
 }
 
 pub fn set_other(out: &mut [u8], n: u32)
     requires { ⌜ RECORD ≤ length (now out) ⌝ }
-    ensures { λ _. ⌜ now (out .exit) ≡ withField 4 n (now (out .entry)) ⌝ }
+    ensures { λ _. ⌜ now (out .exit) ≡ withField OTHER n (now (out .entry)) ⌝ }
 {
     write_u32(out, layout::OTHER, n);
 }
@@ -224,28 +224,28 @@ fn set_span(out: &mut [u8], at: usize, p: Span)
 
 pub fn set_family(out: &mut [u8], p: Span)
     requires { ⌜ RECORD ≤ length (now out) ⌝ }
-    ensures { λ _. ⌜ now (out .exit) ≡ withSpan 5 p (now (out .entry)) ⌝ }
+    ensures { λ _. ⌜ now (out .exit) ≡ withSpan FAMILY p (now (out .entry)) ⌝ }
 {
     set_span(out, layout::FAMILY, p);
 }
 
 pub fn set_constraints(out: &mut [u8], p: Span)
     requires { ⌜ RECORD ≤ length (now out) ⌝ }
-    ensures { λ _. ⌜ now (out .exit) ≡ withSpan 7 p (now (out .entry)) ⌝ }
+    ensures { λ _. ⌜ now (out .exit) ≡ withSpan CONSTRAINTS p (now (out .entry)) ⌝ }
 {
     set_span(out, layout::CONSTRAINTS, p);
 }
 
 pub fn set_layer_set(out: &mut [u8], p: Span)
     requires { ⌜ RECORD ≤ length (now out) ⌝ }
-    ensures { λ _. ⌜ now (out .exit) ≡ withSpan 9 p (now (out .entry)) ⌝ }
+    ensures { λ _. ⌜ now (out .exit) ≡ withSpan LAYER-SET p (now (out .entry)) ⌝ }
 {
     set_span(out, layout::LAYER_SET, p);
 }
 
 pub fn set_count(out: &mut [u8], n: u64)
     requires { ⌜ RECORD ≤ length (now out) ⌝ }
-    ensures { λ _. ⌜ now (out .exit) ≡ withField 11 n (now (out .entry)) ⌝ }
+    ensures { λ _. ⌜ now (out .exit) ≡ withField COUNT n (now (out .entry)) ⌝ }
 {
     write_u40(out, layout::COUNT, n);
 }

@@ -7,7 +7,7 @@ ghost use lib.Dec.{eqb};
 ghost use lib.ListN.{length, take};
 ghost use Rattle.notation.specs.Basics.{sameList};
 ghost use Rattle.notation.specs.Packed.{RECORD, widths, cut, lowAndHigh, headFields, headAt};
-ghost use Rattle.record.specs.Meaning.{field, bothZero, layersAt};
+ghost use Rattle.record.specs.Meaning.{field, bothZero, layersAt, kindAt, SMALL, NUMBER, OTHER, FAMILY, CONSTRAINTS, LAYER-SET, COUNT};
 ghost use Rattle.record.specs.Unused.{familyWritten, constraintsWritten, partsWritten, setWritten};
 use crate::decode::layers;
 use crate::encode::low_and_high;
@@ -17,8 +17,8 @@ use crate::kinds;
 // Whether a leaf's record, which counts 1, is what packing writes of what it says. No record has kind 15.
 pub fn leaf_written(t: &[u8]) -> bool
     requires { ⌜ RECORD ≤ length (now t) ⌝ }
-    requires { ⌜ 6 ≤ field 0 (now t) / 16 ⌝ }
-    requires { ⌜ field 11 (now t) ≡ 1 ⌝ }
+    requires { ⌜ 6 ≤ kindAt (now t) ⌝ }
+    requires { ⌜ field COUNT (now t) ≡ 1 ⌝ }
     ensures { λ r. ⌜ r ≡ sameList (headFields (headAt (now (t .entry)))) (cut widths (take RECORD (now (t .entry)))) ⌝ }
 {
     if !fields::no_lists(t) {
@@ -36,7 +36,7 @@ pub fn leaf_written(t: &[u8]) -> bool
 // Whether nothing stands beside the kind but perhaps numbers.
 fn kind_alone(t: &[u8]) -> bool
     requires { ⌜ RECORD ≤ length (now t) ⌝ }
-    ensures { λ r. ⌜ r ≡ (eqb (field 0 (now (t .entry)) % 16) 0 && (bothZero 5 (now (t .entry)) && (bothZero 7 (now (t .entry)) && bothZero 9 (now (t .entry))))) ⌝ }
+    ensures { λ r. ⌜ r ≡ (eqb (field SMALL (now (t .entry)) % 16) 0 && (bothZero FAMILY (now (t .entry)) && (bothZero CONSTRAINTS (now (t .entry)) && bothZero LAYER-SET (now (t .entry))))) ⌝ }
 {
     fields::small(t) % 16 == 0
         && (fields::no_family(t) && (fields::no_constraints(t) && fields::no_layer_set(t)))
@@ -44,14 +44,14 @@ fn kind_alone(t: &[u8]) -> bool
 
 fn no_numbers(t: &[u8]) -> bool
     requires { ⌜ RECORD ≤ length (now t) ⌝ }
-    ensures { λ r. ⌜ r ≡ bothZero 3 (now (t .entry)) ⌝ }
+    ensures { λ r. ⌜ r ≡ bothZero NUMBER (now (t .entry)) ⌝ }
 {
     fields::number(t) == 0 && fields::other(t) == 0
 }
 
 fn move_written(t: &[u8]) -> bool
     requires { ⌜ RECORD ≤ length (now t) ⌝ }
-    ensures { λ r. ⌜ r ≡ (eqb (field 4 (now (t .entry))) (lowAndHigh (layersAt (now (t .entry)))) && (setWritten (now (t .entry)) && partsWritten (now (t .entry)))) ⌝ }
+    ensures { λ r. ⌜ r ≡ (eqb (field OTHER (now (t .entry))) (lowAndHigh (layersAt (now (t .entry)))) && (setWritten (now (t .entry)) && partsWritten (now (t .entry)))) ⌝ }
 {
     fields::other(t) == low_and_high(layers(t)) && (set_written(t) && parts_written(t))
 }
@@ -59,7 +59,7 @@ fn move_written(t: &[u8]) -> bool
 // A rotation has no tilde and no layers.
 fn rotation_written(t: &[u8]) -> bool
     requires { ⌜ RECORD ≤ length (now t) ⌝ }
-    ensures { λ r. ⌜ r ≡ (eqb (field 0 (now (t .entry)) / 2 % 8) 0 && (eqb (field 4 (now (t .entry))) 0 && (bothZero 9 (now (t .entry)) && partsWritten (now (t .entry))))) ⌝ }
+    ensures { λ r. ⌜ r ≡ (eqb (field SMALL (now (t .entry)) / 2 % 8) 0 && (eqb (field OTHER (now (t .entry))) 0 && (bothZero LAYER-SET (now (t .entry)) && partsWritten (now (t .entry))))) ⌝ }
 {
     fields::small(t) / 2 % 8 == 0
         && (fields::other(t) == 0 && (fields::no_layer_set(t) && parts_written(t)))

@@ -11,9 +11,9 @@ use lib.ListN.{getD, set}
 use Rattle.notation.specs.Basics.{pick}
 use Rattle.notation.specs.Numbers.{fromBits}
 use Rattle.notation.specs.Counts.{CAP, cap}
-use Rattle.record.specs.Meaning.{field}
+use Rattle.record.specs.Meaning.{field, NUMBER, COUNT, kindAt}
 use Rattle.counts.specs.Groups.{contents, groupCount}
-use Rattle.tally.specs.Tallies.{kindAt, ownCount, added, Capped}
+use Rattle.tally.specs.Tallies.{ownCount, added, Capped}
 use Rattle.tally.proofs.Passes.{capped-set}
 
 group-most : (k : ℕ) (m : ℤ) (a b : ℕ) → groupCount k m a b ≤ CAP
@@ -23,9 +23,9 @@ group-most k m a b = go (eqb k 3)
     go true = omega arith
     go false = omega arith
 
-module _ (r sums : List ℕ) {n k : ℕ} (e : n ≡ field 11 r) (f : k ≡ kindAt r) where
+module _ (r sums : List ℕ) {n k : ℕ} (e : n ≡ field COUNT r) (f : k ≡ kindAt r) where
   module _ (low : k < 6) (freed : List ℕ) (s : freed ≡ set (set sums (n % 256 + 2) 0) (n % 256 + 1) 0) (c : ℕ)
-      (is : c ≡ groupCount (kindAt r) (fromBits 32 (field 3 r)) (getD sums (n % 256 + 2) 0) (getD sums (n % 256 + 1) 0)) where
+      (is : c ≡ groupCount (kindAt r) (fromBits 32 (field NUMBER r)) (getD sums (n % 256 + 2) 0) (getD sums (n % 256 + 1) 0)) where
     group-test : ltb (kindAt r) 6 ≡ true
     group-test = lt-ltb (kindAt r) 6 (omega arith)
 
@@ -33,7 +33,7 @@ module _ (r sums : List ℕ) {n k : ℕ} (e : n ≡ field 11 r) (f : k ≡ kindA
     group-fits h =
         let start = set sums (n % 256 + 2) 0 in
         let capped : Capped freed = rw s (capped-set start (n % 256 + 1) 0 (capped-set sums (n % 256 + 2) 0 h (omega arith)) (omega arith)) in
-        let most = group-most (kindAt r) (fromBits 32 (field 3 r)) (getD sums (n % 256 + 2) 0) (getD sums (n % 256 + 1) 0) in
+        let most = group-most (kindAt r) (fromBits 32 (field NUMBER r)) (getD sums (n % 256 + 2) 0) (getD sums (n % 256 + 1) 0) in
         omega (arith, capped (n % 256), is, most)
 
     pub group-counts : c ≡ ownCount r sums

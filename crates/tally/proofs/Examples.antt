@@ -8,7 +8,7 @@ use Rattle.notation.specs.Numbers.{positional, digits}
 use Rattle.notation.specs.Tree.{slash, pause, leaf, block, binaryGroup, nil, cons, Tree}
 use Rattle.notation.specs.Packed.{RECORD, layOut, cut}
 use Rattle.notation.specs.declared.common.BinaryGroupKind.the-variants.{Conjugate}
-use Rattle.record.specs.Meaning.{field}
+use Rattle.record.specs.Meaning.{field, COUNT}
 use Rattle.tally.specs.Tallies.{tallyNode, tallyBody, tallyList}
 use Rattle.tally.proofs.Passes.{start, passed}
 
@@ -17,7 +17,7 @@ written = cons (block (binaryGroup Conjugate (cons (leaf slash) nil) (cons (leaf
 
 abbrev fieldsIn : ℕ → List ℕ → List ℕ
 fieldsIn zero bs = []
-fieldsIn (suc k) bs = field 11 bs ∷ fieldsIn k (drop RECORD bs)
+fieldsIn (suc k) bs = field COUNT bs ∷ fieldsIn k (drop RECORD bs)
 
 before : fieldsIn 4 (tallyList 0 written) ≡ 0 ∷ 2 ∷ 1 ∷ 0 ∷ []
 unfolding positional digits layOut cut tallyNode tallyBody tallyList

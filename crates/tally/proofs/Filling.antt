@@ -9,7 +9,7 @@ use lib.Seq.{take-take, drop-drop, drop-at, take-add, length-take-le, length-set
 use Rattle.notation.specs.Tree.{Tree}
 use Rattle.notation.specs.Packed.{RECORD, widths, size, pack}
 use Rattle.notation.specs.Numbers.{bigEndian}
-use Rattle.record.specs.Meaning.{start as fieldStart, withField}
+use Rattle.record.specs.Meaning.{start as fieldStart, withField, COUNT}
 use Rattle.tally.specs.Tallies.{tallyList, Tallied, ownCount, added, Capped, Open}
 use Rattle.tally.proofs.Sizes.{length-tallyList}
 use Rattle.tally.proofs.Passes.{Pass, start, step, passed, tree-passed, capped-passed}
@@ -88,7 +88,7 @@ module _ (old : List ℕ) (t : Tree) (tallied : Tallied t old) where
     pub sums-capped : Capped sums
     sums-capped = rw (f .sum) (capped-passed (f .filled) (drop at old))
 
-    pub filling-on : (part further : List ℕ) → part ≡ withField 11 (ownCount own sums) own → further ≡ added own sums →
+    pub filling-on : (part further : List ℕ) → part ≡ withField COUNT (ownCount own sums) own → further ≡ added own sums →
         Filling old (putMid next (next + RECORD - next) new part) further next
     filling-on part further p q =
         let a : at ≤ length old = omega (arith, f .place, f .whole) in

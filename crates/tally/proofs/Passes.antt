@@ -15,8 +15,8 @@ use Rattle.notation.specs.Basics.{pick}
 use Rattle.notation.specs.WellFormed.{MAX-NESTING, nodeDepth, bodyDepth, depth}
 use Rattle.laws.proofs.Packing.{FitsNode, FitsBody, FitsTree}
 use Rattle.laws.proofs.Walking.{nodeHead, node-head-fits}
-use Rattle.record.specs.Meaning.{withField}
-use Rattle.tally.specs.Tallies.{TALLIES, tallyRecord, tallyNode, tallyBody, tallyList, tallyAt, kindAt, ownCount, freed, added, Capped}
+use Rattle.record.specs.Meaning.{withField, COUNT, kindAt}
+use Rattle.tally.specs.Tallies.{TALLIES, tallyRecord, tallyNode, tallyBody, tallyList, tallyAt, ownCount, freed, added, Capped}
 use Rattle.tally.proofs.Sizes.{length-tallyRecord, length-tallyNode, length-tallyList}
 use Rattle.tally.proofs.Records.{tally-is, filled, firstCount, secondCount, leaf-counted, leaf-freed, group-counted, group-freed}
 
@@ -30,7 +30,7 @@ pass sums done = record { sums = sums; done = done }
 
 -- one record more in front
 abbrev pub step : List ℕ → Pass → Pass
-step r p = record { sums = added r (p .sums); done = withField 11 (ownCount r (p .sums)) r ++ p .done }
+step r p = record { sums = added r (p .sums); done = withField COUNT (ownCount r (p .sums)) r ++ p .done }
 
 -- k records, the last of them first
 abbrev pub passed : ℕ → List ℕ → Pass → Pass

@@ -18,13 +18,13 @@ use Rattle.counts.proofs.Capped.{group-stored, binary-stored}
 use Rattle.numbers.proofs.TwosComplement.{fromBits-toBits}
 use Rattle.laws.proofs.Walking.{nodeHead, head-stored}
 use Rattle.nodes.proofs.Nodes.{leaf-kind, group-kind, binary-kind}
-use Rattle.record.specs.Meaning.{field, withField}
+use Rattle.record.specs.Meaning.{field, withField, NUMBER, COUNT, kindAt}
 use Rattle.record.specs.Range.{FitsHead}
 use Rattle.record.proofs.Cut.{Fits, none as no-field, one as and-field, cut-layOut}
 use Rattle.record.proofs.Numbered.{kindOf, kind-field}
 use Rattle.record.proofs.RoundTrip.{length-headFields, headFields-fit}
 use Rattle.record.proofs.Storing.{store-field}
-use Rattle.tally.specs.Tallies.{tallyRecord, tallyAt, kindAt, ownCount, freed}
+use Rattle.tally.specs.Tallies.{tallyRecord, tallyAt, ownCount, freed}
 use Rattle.tally.proofs.Sizes.{length-tallyRecord}
 
 fits-set : {ws fs : List ℕ} → Fits ws fs → (i n : ℕ) → n < 256 ^ getD ws i 0 → Fits ws (set fs i n)
@@ -44,7 +44,7 @@ module _ (h : ℕ) (x : Head) (small : h < 256) (fits : FitsHead x) where
   pub kind-is : kindAt (tallyRecord h x) ≡ kindOf x
   kind-is = ap (λ (n : ℕ). n / 16) (fields 0 ∙ getD-set-other (headFields x) 11 0 (h % 256) 0 (λ e. omega arith)) ∙ kind-field x
 
-  pub number-is : field 3 (tallyRecord h x) ≡ getD (headFields x) 3 0
+  pub number-is : field NUMBER (tallyRecord h x) ≡ getD (headFields x) 3 0
   number-is = fields 3 ∙ getD-set-other (headFields x) 11 3 (h % 256) 0 (λ e. omega arith)
 
 -- The counts of a group's lists; one that is no binary group has one list.
@@ -67,11 +67,11 @@ by-body (binaryGroup k a b) m f =
     ap (λ (z : ℤ). groupCount (binaryNumber k) z (cap (count a)) (cap (count b))) (fromBits-toBits 32 m (lit< tt) (f .2)) ∙ binary-stored k a b m
 
 -- the record of a node, its count filled in
-pub filled : (h : ℕ) (n : Node Leaf) → withField 11 (stored n) (tallyRecord h (nodeHead n)) ≡ headRecord (nodeHead n)
+pub filled : (h : ℕ) (n : Node Leaf) → withField COUNT (stored n) (tallyRecord h (nodeHead n)) ≡ headRecord (nodeHead n)
 unfolding headRecord
 filled h n =
     let fs = headFields (nodeHead n) in
-    ap (withField 11 (stored n)) (sym (append-nil (tallyRecord h (nodeHead n))))
+    ap (withField COUNT (stored n)) (sym (append-nil (tallyRecord h (nodeHead n))))
     ∙ store-field widths (set fs 11 (h % 256)) [] 11 (stored n) (lit< tt) (length-set fs 11 (h % 256) ∙ length-headFields (nodeHead n))
     ∙ append-nil (layOut widths (set (set fs 11 (h % 256)) 11 (stored n)))
     ∙ ap (layOut widths) (set-set fs 11 (h % 256) (stored n) ∙ ap (set fs 11) (sym (head-stored n)) ∙ set-getD fs 11 0)

@@ -11,7 +11,7 @@ use Rattle.notation.specs.Packed.{RECORD, widths, layOut, Head, leafHead, headF
 use Rattle.notation.specs.Counts.{CAP, cap}
 use Rattle.notation.specs.WellFormed.{MAX-NESTING, depth}
 use Rattle.laws.proofs.Packing.{FitsTree}
-use Rattle.record.specs.Meaning.{field}
+use Rattle.record.specs.Meaning.{field, kindAt, NUMBER, COUNT}
 use Rattle.counts.specs.Groups.{groupCount}
 
 -- A record with the number of its list's tally in place of its count: one byte, which suffices for 64 levels.
@@ -44,16 +44,13 @@ TALLIES = 1 + 2 * MAX-NESTING
 
 -- At one record, the sums being those of what lies behind it: the number of its list's tally, which one byte holds,
 abbrev pub tallyAt : List ℕ → ℕ
-tallyAt r = field 11 r % 256
-
-abbrev pub kindAt : List ℕ → ℕ
-kindAt r = field 0 r / 16
+tallyAt r = field COUNT r % 256
 
 -- its count, of a group by the sums of its lists,
 abbrev pub ownCount : List ℕ → List ℕ → ℕ
 ownCount r sums =
     pick (ltb (kindAt r) 6)
-    (groupCount (kindAt r) (fromBits 32 (field 3 r)) (getD sums (tallyAt r + 2) 0) (getD sums (tallyAt r + 1) 0))
+    (groupCount (kindAt r) (fromBits 32 (field NUMBER r)) (getD sums (tallyAt r + 2) 0) (getD sums (tallyAt r + 1) 0))
     1
 
 -- the sums, of which those of its lists start anew,

@@ -8,7 +8,7 @@ ghost use Rattle.notation.specs.Tree.{Tree};
 ghost use Rattle.notation.specs.Numbers.{fromBits};
 ghost use Rattle.notation.specs.Packed.{RECORD as recordSize, pack};
 ghost use Rattle.counts.specs.Groups.{groupCount};
-ghost use Rattle.record.specs.Meaning.{field, withField};
+ghost use Rattle.record.specs.Meaning.{field, withField, kindAt, NUMBER, COUNT};
 ghost use Rattle.tally.specs.Tallies as tallies;
 use counts::of_group;
 use counts::sum;
@@ -43,7 +43,7 @@ pub fn fill_counts(tree: &mut [u8])
 // Fills in one record, the sums being those of what lies behind it, and adds its count to its list's tally. A tally's number is held by the last byte of the field.
 fn fill_count(t: &mut [u8], sums: &mut [u64; TALLIES])
     requires { ⌜ tallies.Open (now t) × tallies.Capped (now sums) ⌝ }
-    ensures { λ _. ⌜ now (t .exit) ≡ withField 11 (tallies.ownCount (now (t .entry)) (now (sums .entry))) (now (t .entry)) ⌝ }
+    ensures { λ _. ⌜ now (t .exit) ≡ withField COUNT (tallies.ownCount (now (t .entry)) (now (sums .entry))) (now (t .entry)) ⌝ }
     ensures { λ _. ⌜ now (sums .exit) ≡ tallies.added (now (t .entry)) (now (sums .entry)) ⌝ }
 {
     let tally = (fields::count(t) % 256) as usize;
@@ -62,7 +62,7 @@ fn group_count(t: &[u8], tally: usize, sums: &mut [u64; TALLIES]) -> u64
     requires { ⌜ recordSize ≤ length (now t) ⌝ }
     requires { ⌜ tally + 2 < tallies.TALLIES ⌝ }
     requires { ⌜ tallies.Capped (now sums) ⌝ }
-    ensures { λ r. ⌜ r ≡ groupCount (field 0 (now (t .entry)) / 16) (fromBits 32 (field 3 (now (t .entry)))) (getD (now (sums .entry)) (tally + 2) 0) (getD (now (sums .entry)) (tally + 1) 0) ⌝ }
+    ensures { λ r. ⌜ r ≡ groupCount (kindAt (now (t .entry))) (fromBits 32 (field NUMBER (now (t .entry)))) (getD (now (sums .entry)) (tally + 2) 0) (getD (now (sums .entry)) (tally + 1) 0) ⌝ }
     ensures { λ _. ⌜ now (sums .exit) ≡ set (set (now (sums .entry)) (tally + 2) 0) (tally + 1) 0 ⌝ }
 {
     let first = tally + OF_FIRST as usize;

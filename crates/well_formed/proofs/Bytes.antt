@@ -15,7 +15,7 @@ use Rattle.notation.specs.Tree.{Span, span, Layers, noLayers, singleLayer, laye
 use Rattle.notation.specs.Packed.{RECORD, widths, cut, familyAt, nowhere, Head, leafHead, groupHead, binaryHead, nodeSize, bodySize, size, headAt, unpackFrom, unpack}
 use Rattle.notation.specs.WellFormed.{treeOk, depth, MAX-NESTING, wellFormed}
 use Rattle.numbers.proofs.Positional.{Below, below-take, below-drop}
-use Rattle.record.specs.Meaning.{field, placeWidth, spanAt, constraintsAt, layersAt}
+use Rattle.record.specs.Meaning.{field, placeWidth, spanAt, constraintsAt, layersAt, kindAt, formAt, presentAt, NUMBER, OTHER, FAMILY, FAMILY-SIZE, CONSTRAINTS, LAYER-SET}
 use Rattle.record.specs.Range.{FitsSpan, FitsFamily, FitsConstraints, FitsLayers, FitsNumber, FitsHead}
 use Rattle.record.proofs.Packed.{field-lt, Numbered, numbered-at, byKind, headAt-kind}
 use Rattle.laws.proofs.Packing.{FitsNode, FitsBody, FitsTree, opened, well-formed-packed, well-formed-ok, well-formed-depth}
@@ -43,30 +43,30 @@ module _ (bs : List ℕ) (h : Below 256 bs) where
         size = subst (λ (w : ℕ). field (i + 1) bs < 256 ^ w) e′ (field-lt bs h (i + 1) (omega arith));
       }
 
-  number-fits : FitsNumber (fromBits 32 (field 3 bs))
-  number-fits = fromBits-fits (field 3 bs) (field-lt bs h 3 (lit< tt))
+  number-fits : FitsNumber (fromBits 32 (field NUMBER bs))
+  number-fits = fromBits-fits (field NUMBER bs) (field-lt bs h 3 (lit< tt))
 
-  family-fits : FitsFamily (familyAt (field 5 bs) (field 6 bs))
-  family-fits = go (eqb (field 6 bs) 0) refl
+  family-fits : FitsFamily (familyAt (field FAMILY bs) (field FAMILY-SIZE bs))
+  family-fits = go (eqb (field FAMILY-SIZE bs) 0) refl
     where
-      go : (t : Bool) → eqb (field 6 bs) 0 ≡ t → FitsFamily (pick t nowhere (span (field 5 bs) (field 6 bs)))
+      go : (t : Bool) → eqb (field FAMILY-SIZE bs) 0 ≡ t → FitsFamily (pick t nowhere (span (field FAMILY bs) (field FAMILY-SIZE bs)))
       go true e = record { span = record { offset = lit< tt; size = lit< tt }; empty = λ z. refl }
-      go false e = record { span = span-fits 5 (lit< tt) refl refl; empty = λ z. absurd (eqb-false (field 6 bs) 0 e z) }
+      go false e = record { span = span-fits 5 (lit< tt) refl refl; empty = λ z. absurd (eqb-false (field FAMILY-SIZE bs) 0 e z) }
 
   constraints-fit : FitsConstraints (constraintsAt bs)
-  constraints-fit = go (eqb (field 0 bs % 2) 1)
+  constraints-fit = go (presentAt bs)
     where
-      go : (t : Bool) → FitsConstraints (pick t (some (spanAt 7 bs)) none)
+      go : (t : Bool) → FitsConstraints (pick t (some (spanAt CONSTRAINTS bs)) none)
       go true = span-fits 7 (lit< tt) refl refl
       go false = tt
 
   layers-fit : FitsLayers (layersAt bs)
   layers-fit =
-      let o : field 4 bs < 4294967296 = field-lt bs h 4 (lit< tt) in
-      let low : field 4 bs / 65536 < 65536 = omega arith in
-      let high : field 4 bs % 65536 < 65536 = omega arith in
-      let forms : List (Layers Span) = noLayers ∷ singleLayer (field 4 bs / 65536) ∷ layerRange (field 4 bs / 65536) (field 4 bs % 65536) ∷ layerSet (spanAt 9 bs) ∷ [] in
-      every-at FitsLayers forms noLayers (tt, (low, ((low, high), (span-fits 9 (lit< tt) refl refl, tt)))) tt (field 0 bs / 2 % 4)
+      let o : field OTHER bs < 4294967296 = field-lt bs h 4 (lit< tt) in
+      let low : field OTHER bs / 65536 < 65536 = omega arith in
+      let high : field OTHER bs % 65536 < 65536 = omega arith in
+      let forms : List (Layers Span) = noLayers ∷ singleLayer (field OTHER bs / 65536) ∷ layerRange (field OTHER bs / 65536) (field OTHER bs % 65536) ∷ layerSet (spanAt LAYER-SET bs) ∷ [] in
+      every-at FitsLayers forms noLayers (tt, (low, ((low, high), (span-fits 9 (lit< tt) refl refl, tt)))) tt (formAt bs)
 
   pub head-fits : FitsHead (headAt bs)
   head-fits =
@@ -74,8 +74,8 @@ module _ (bs : List ℕ) (h : Below 256 bs) where
       let n′ = field-lt bs h 2 (lit< tt) in
       let m = number-fits in
       let c = field-lt bs h 11 (lit< tt) in
-      let o : FitsNumber (fromBits 32 (field 4 bs)) = fromBits-fits (field 4 bs) (field-lt bs h 4 (lit< tt)) in
-      subst FitsHead (sym (headAt-kind bs (field 0 bs / 16) refl))
+      let o : FitsNumber (fromBits 32 (field OTHER bs)) = fromBits-fits (field OTHER bs) (field-lt bs h 4 (lit< tt)) in
+      subst FitsHead (sym (headAt-kind bs (kindAt bs) refl))
       (every-at FitsHead (byKind bs) (leafHead pause) (
         (n, m, c),
         (
@@ -95,7 +95,7 @@ module _ (bs : List ℕ) (h : Below 256 bs) where
           ),
         ),
       )
-      tt (field 0 bs / 16))
+      tt (kindAt bs))
 
 -- a list unpacked from so many bytes has no more records than fit there, the last of them perhaps cut off
 abbrev Few : ℕ → Type 0

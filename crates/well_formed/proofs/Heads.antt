@@ -19,7 +19,7 @@ use Rattle.notation.specs.declared.common.BinaryGroupKind.{BinaryGroupKind}
 use Rattle.notation.specs.declared.common.BinaryGroupKind.the-variants.{Commutator, Conjugate}
 use Rattle.numbers.proofs.Positional.{Below}
 use Rattle.numbers.proofs.TwosComplement.{toBits-fromBits}
-use Rattle.record.specs.Meaning.{field, groupAt, binaryAt, uncounted, listed}
+use Rattle.record.specs.Meaning.{field, groupAt, binaryAt, uncounted, listed, kindAt, FIRST, SECOND, NUMBER, COUNT}
 use Rattle.record.specs.declared.encode.Fields.{Fields}
 use Rattle.record.proofs.Packed.{field-lt, by-kind}
 use Rattle.record.proofs.RoundTrip.{headFields-fit}
@@ -32,15 +32,15 @@ use Rattle.well_formed.proofs.Bytes.{head-fits}
 
 -- A group's record.
 pub record GroupSays (bs : List ℕ) (k : ℕ) (h : Head) : Type 0 where
-  pub fields : headFields h ≡ inOrder k 0 0 0 (field 1 bs) (second h) (field 3 bs) 0 nowhere nowhere nowhere (field 11 bs)
-  pub asks : (text : List ℕ) (d : ℕ) → headOk text d h ≡ (ltb 0 d && multiplierOk (fromBits 32 (field 3 bs)))
+  pub fields : headFields h ≡ inOrder k 0 0 0 (field FIRST bs) (second h) (field NUMBER bs) 0 nowhere nowhere nowhere (field COUNT bs)
+  pub asks : (text : List ℕ) (d : ℕ) → headOk text d h ≡ (ltb 0 d && multiplierOk (fromBits 32 (field NUMBER bs)))
   pub one : k < 4 → second h ≡ 0
-  pub two : 4 ≤ k → second h ≡ field 2 bs
-  pub counts : (a b : Tree) → countOk h a b ≡ eqb (field 11 bs) (groupCount k (fromBits 32 (field 3 bs)) (cap (count a)) (cap (count b)))
+  pub two : 4 ≤ k → second h ≡ field SECOND bs
+  pub counts : (a b : Tree) → countOk h a b ≡ eqb (field COUNT bs) (groupCount k (fromBits 32 (field NUMBER bs)) (cap (count a)) (cap (count b)))
 
 module _ (bs : List ℕ) (below : Below 256 bs) where
-  bits : toBits 32 (fromBits 32 (field 3 bs)) ≡ field 3 bs
-  bits = toBits-fromBits 32 (field 3 bs) (field-lt bs below 3 (lit< tt))
+  bits : toBits 32 (fromBits 32 (field NUMBER bs)) ≡ field NUMBER bs
+  bits = toBits-fromBits 32 (field NUMBER bs) (field-lt bs below 3 (lit< tt))
 
   one-list : (g : GroupKind) → groupNumber g < 4 → GroupSays bs (groupNumber g) (groupAt g bs)
   one-list g l =
@@ -49,7 +49,7 @@ module _ (bs : List ℕ) (below : Below 256 bs) where
         asks = λ text d. refl;
         one = λ z. refl;
         two = λ z. absurd (omega arith);
-        counts = λ a b. ap (eqb (field 11 bs)) (sym (group-stored g a (fromBits 32 (field 3 bs)) (cap (count b))));
+        counts = λ a b. ap (eqb (field COUNT bs)) (sym (group-stored g a (fromBits 32 (field NUMBER bs)) (cap (count b))));
       }
 
   two-lists : (g : BinaryGroupKind) → 4 ≤ binaryNumber g → GroupSays bs (binaryNumber g) (binaryAt g bs)
@@ -59,10 +59,10 @@ module _ (bs : List ℕ) (below : Below 256 bs) where
         asks = λ text d. refl;
         one = λ z. absurd (omega arith);
         two = λ z. refl;
-        counts = λ a b. ap (eqb (field 11 bs)) (sym (binary-stored g a b (fromBits 32 (field 3 bs))));
+        counts = λ a b. ap (eqb (field COUNT bs)) (sym (binary-stored g a b (fromBits 32 (field NUMBER bs))));
       }
 
-  pub group-says : (k : ℕ) → k ≡ field 0 bs / 16 → k < 6 → GroupSays bs k (headAt bs)
+  pub group-says : (k : ℕ) → k ≡ kindAt bs → k < 6 → GroupSays bs k (headAt bs)
   group-says k e =
       by-kind (λ (k : ℕ) (h : Head). k < 6 → GroupSays bs k h) bs k e
       (λ l. one-list Simple (lit< tt), (λ l. one-list Macro (lit< tt), (λ l. one-list Simultaneous (lit< tt), (λ l. one-list Niss (lit< tt),
@@ -75,7 +75,7 @@ module _ (bs : List ℕ) (below : Below 256 bs) where
 abbrev pub Leafy : Head → Type 0
 Leafy h = (x : Leaf) × (leafHead x ≡ h)
 
-pub leaf-says : (bs : List ℕ) (k : ℕ) → k ≡ field 0 bs / 16 → 6 ≤ k → Leafy (headAt bs)
+pub leaf-says : (bs : List ℕ) (k : ℕ) → k ≡ kindAt bs → 6 ≤ k → Leafy (headAt bs)
 leaf-says bs k e =
     by-kind (λ (k : ℕ) (h : Head). 6 ≤ k → Leafy h) bs k e
     (λ l. absurd (omega arith), (λ l. absurd (omega arith), (λ l. absurd (omega arith), (λ l. absurd (omega arith), (λ l. absurd (omega arith), (λ l. absurd (omega arith),
@@ -83,7 +83,7 @@ leaf-says bs k e =
     (λ j z l. (_, refl))
 
 -- Of a leaf that is neither a rotation nor a move nothing is asked beside its record.
-pub asks-nothing : (text bs : List ℕ) (k : ℕ) → k ≡ field 0 bs / 16 → 6 ≤ k → (k ≡ 6 → ⊥) → (k ≡ 7 → ⊥) → headOk text 0 (headAt bs) ≡ true
+pub asks-nothing : (text bs : List ℕ) (k : ℕ) → k ≡ kindAt bs → 6 ≤ k → (k ≡ 6 → ⊥) → (k ≡ 7 → ⊥) → headOk text 0 (headAt bs) ≡ true
 unfolding leafOk
 asks-nothing text bs k e =
     by-kind (λ (k : ℕ) (h : Head). 6 ≤ k → (k ≡ 6 → ⊥) → (k ≡ 7 → ⊥) → headOk text 0 h ≡ true) bs k e
@@ -139,11 +139,11 @@ module _ (bs : List ℕ) (below : Below 256 bs) (long : RECORD ≤ length bs) wh
   pub field-written : sameList (headRecord (headAt bs)) (take RECORD bs) ≡ true → (i : ℕ) → field i bs ≡ getD (headFields (headAt bs)) i 0
   field-written e i = ap (λ (l : List ℕ). getD l i 0) (sym (same-eq (headFields (headAt bs)) (cut widths (take RECORD bs)) (by-fields ∙ e)))
 
-  pub first-written : sameList (headRecord (headAt bs)) (take RECORD bs) ≡ true → field 1 bs ≡ first (headAt bs)
+  pub first-written : sameList (headRecord (headAt bs)) (take RECORD bs) ≡ true → field FIRST bs ≡ first (headAt bs)
   first-written e = field-written e 1 ∙ first-field (headAt bs)
 
-  pub second-written : sameList (headRecord (headAt bs)) (take RECORD bs) ≡ true → field 2 bs ≡ second (headAt bs)
+  pub second-written : sameList (headRecord (headAt bs)) (take RECORD bs) ≡ true → field SECOND bs ≡ second (headAt bs)
   second-written e = field-written e 2 ∙ second-field (headAt bs)
 
-  pub count-written : sameList (headRecord (headAt bs)) (take RECORD bs) ≡ true → (a b : Tree) → countOk (headAt bs) a b ≡ true → field 11 bs ≡ stored (nodeOf (headAt bs) a b)
+  pub count-written : sameList (headRecord (headAt bs)) (take RECORD bs) ≡ true → (a b : Tree) → countOk (headAt bs) a b ≡ true → field COUNT bs ≡ stored (nodeOf (headAt bs) a b)
   count-written e a b r = field-written e 11 ∙ count-field (headAt bs) a b r

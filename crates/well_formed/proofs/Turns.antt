@@ -18,7 +18,7 @@ use Rattle.notation.specs.WellFormed.{leafOk, multiplierOk}
 use Rattle.numbers.proofs.Positional.{Below, below-drop}
 use Rattle.laws.proofs.Bools.{and-left, and-right, and-both, false-true}
 use Rattle.laws.proofs.Walking.{leaf-stored}
-use Rattle.record.specs.Meaning.{field, uncounted, listed}
+use Rattle.record.specs.Meaning.{field, uncounted, listed, kindAt, FIRST, SECOND, NUMBER, COUNT}
 use Rattle.record.specs.declared.encode.Fields.{Fields}
 use Rattle.record.proofs.Same.{same-refl, same-eq, refuted}
 use Rattle.counts.specs.Groups.{groupCount}
@@ -73,7 +73,7 @@ module _ (text : List ℕ) (d : ℕ) (bs : List ℕ) (below : Below 256 bs) (som
   too-short s = refuted (formed text d bs) λ e. let l = parts e .long in omega arith
 
   -- too short for the lists that the record counts
-  pub too-long : (end : ℕ) → RECORD ≤ length bs → end ≡ RECORD + RECORD * (field 1 bs + field 2 bs) → length bs < end → false ≡ formed text d bs
+  pub too-long : (end : ℕ) → RECORD ≤ length bs → end ≡ RECORD + RECORD * (field FIRST bs + field SECOND bs) → length bs < end → false ≡ formed text d bs
   too-long end l z s = refuted (formed text d bs) λ e.
       let p = parts e in
       let w = same-part p in
@@ -181,11 +181,11 @@ go-on text d list bs n left ok o holds end z l c n′ e s few =
     })
 
 -- the end of a group by the counts that are read
-pub counted : (bs : List ℕ) {n n′ : ℕ} → n ≡ field 1 bs → n′ ≡ field 2 bs → RECORD + RECORD * (n + n′) ≡ RECORD + RECORD * (field 1 bs + field 2 bs)
+pub counted : (bs : List ℕ) {n n′ : ℕ} → n ≡ field FIRST bs → n′ ≡ field SECOND bs → RECORD + RECORD * (n + n′) ≡ RECORD + RECORD * (field FIRST bs + field SECOND bs)
 counted bs e e′ = omega arith
 
 pub past-group : (text : List ℕ) (d : ℕ) (list bs : List ℕ) (n : ℕ) → Left text d list bs n → (ok : Bool) → ok ≡ firstOk text d bs → ok ≡ true →
-    (end : ℕ) → end ≡ RECORD + RECORD * (field 1 bs + field 2 bs) → end ≤ length bs → (c n′ : ℕ) → c ≡ field 11 bs → n′ ≡ cap (n + c) →
+    (end : ℕ) → end ≡ RECORD + RECORD * (field FIRST bs + field SECOND bs) → end ≤ length bs → (c n′ : ℕ) → c ≡ field COUNT bs → n′ ≡ cap (n + c) →
     Left text d list (take (length bs - end) (drop end bs)) n′
 past-group text d list bs n left ok o holds end z l c n′ e s =
     let w : same bs ≡ true = and-left _ _ (sym o ∙ holds) in
@@ -196,16 +196,16 @@ past-group text d list bs n left ok o holds end z l c n′ e s =
     c n′ (e ∙ count-written bs (left .below) long w (firstIn bs) (secondIn bs) right) (omega arith) (omega (arith, left .within))
 
 -- so that the sum has room
-pub count-capped : (text : List ℕ) (d : ℕ) (bs : List ℕ) → Below 256 bs → RECORD ≤ length bs → (ok : Bool) → ok ≡ firstOk text d bs → ok ≡ true → (c : ℕ) → c ≡ field 11 bs → c ≤ CAP
+pub count-capped : (text : List ℕ) (d : ℕ) (bs : List ℕ) → Below 256 bs → RECORD ≤ length bs → (ok : Bool) → ok ≡ firstOk text d bs → ok ≡ true → (c : ℕ) → c ≡ field COUNT bs → c ≤ CAP
 count-capped text d bs below long ok o holds c e =
     let w = count-written bs below long (and-left _ _ (sym o ∙ holds)) (firstIn bs) (secondIn bs) (right-count text d bs below (omega arith) ok o holds) in
     omega arith
 
 pub past-leaf : (text : List ℕ) (d : ℕ) (list bs : List ℕ) (n : ℕ) → Left text d list bs n → (ok : Bool) → ok ≡ firstOk text d bs → ok ≡ true →
-    6 ≤ field 0 bs / 16 → RECORD ≤ length bs → Left text d list (take (length bs - RECORD) (drop RECORD bs)) (n + 1)
+    6 ≤ kindAt bs → RECORD ≤ length bs → Left text d list (take (length bs - RECORD) (drop RECORD bs)) (n + 1)
 unfolding countNode
 past-leaf text d list bs n left ok o holds k l =
-    let leaf = leaf-says bs (field 0 bs / 16) refl k .1 in
+    let leaf = leaf-says bs (kindAt bs) refl k .1 in
     go-on text d list bs n left ok o holds RECORD (ap (λ (h : Head). RECORD + RECORD * both h) leaf) l
     1 (n + 1) (ap (λ (h : Head). stored (nodeOf h (firstIn bs) (secondIn bs))) leaf) refl (omega (arith, left .few))
 
@@ -224,17 +224,17 @@ leaf-decides text bs x e s p d =
 pub record LeafRead (bs : List ℕ) (k : ℕ) : Type 0 where
   pub below : Below 256 bs
   pub long : RECORD ≤ length bs
-  pub kind : k ≡ field 0 bs / 16
+  pub kind : k ≡ kindAt bs
   pub leaf : 6 ≤ k
-  pub one : field 11 bs ≡ 1
+  pub one : field COUNT bs ≡ 1
 
 -- it counts 1
-pub leaf-not-one : (text bs : List ℕ) → Below 256 bs → RECORD ≤ length bs → 6 ≤ field 0 bs / 16 → (one : Bool) → one ≡ eqb (field 11 bs) 1 → one ≡ false →
+pub leaf-not-one : (text bs : List ℕ) → Below 256 bs → RECORD ≤ length bs → 6 ≤ kindAt bs → (one : Bool) → one ≡ eqb (field COUNT bs) 1 → one ≡ false →
     (d : ℕ) → false ≡ firstOk text d bs
 leaf-not-one text bs below long k one e f d =
-    let x = leaf-says bs (field 0 bs / 16) refl k in
+    let x = leaf-says bs (kindAt bs) refl k in
     let other : same bs ≡ false = sym (refuted (same bs) λ w.
-    eqb-false (field 11 bs) 1 (sym e ∙ f) (field-written bs below long w 11 ∙ ap (λ (h : Head). getD (headFields h) 11 0) (sym (x .1)) ∙ leaf-stored (x .0)))
+    eqb-false (field COUNT bs) 1 (sym e ∙ f) (field-written bs below long w 11 ∙ ap (λ (h : Head). getD (headFields h) 11 0) (sym (x .1)) ∙ leaf-stored (x .0)))
     in
     rw other
 
@@ -262,7 +262,7 @@ count-of : {f : Fields} {l : List ℕ} → listed f ≡ l → f .count ≡ getD 
 count-of p = ap (λ (l : List ℕ). getD l 11 0) p
 
 -- only a binary group has a second list
-second-is : (bs : List ℕ) (k n : ℕ) → GroupSays bs k (headAt bs) → n ≡ field 2 bs → (q : Bool) → q ≡ (leb 4 k || eqb n 0) → q ≡ true → n ≡ second (headAt bs)
+second-is : (bs : List ℕ) (k n : ℕ) → GroupSays bs k (headAt bs) → n ≡ field SECOND bs → (q : Bool) → q ≡ (leb 4 k || eqb n 0) → q ≡ true → n ≡ second (headAt bs)
 second-is bs k n g z q e t = go (leb 4 k) refl (sym e ∙ t)
   where
     go : (b : Bool) → leb 4 k ≡ b → (b || eqb n 0) ≡ true → n ≡ second (headAt bs)
@@ -277,9 +277,9 @@ second-is-not bs k n g q e f z = go (leb 4 k) refl (sym e ∙ f)
     go false p h = eqb-false n 0 h (z ∙ g .one (leb-false 4 k p))
 
 abbrev multiplier : List ℕ → Bool
-multiplier bs = multiplierOk (fromBits 32 (field 3 bs))
+multiplier bs = multiplierOk (fromBits 32 (field NUMBER bs))
 
-pub multiplier-read : (bs : List ℕ) (m : ℕ) (r : Bool) → m ≡ field 3 bs → r ≡ multiplierOk (fromBits 32 m) → r ≡ multiplier bs
+pub multiplier-read : (bs : List ℕ) (m : ℕ) (r : Bool) → m ≡ field NUMBER bs → r ≡ multiplierOk (fromBits 32 m) → r ≡ multiplier bs
 multiplier-read bs m r z e = e ∙ ap (λ (n : ℕ). multiplierOk (fromBits 32 n)) z
 
 -- a record of kind k, with n records in its second list, and whether it may have them
@@ -287,11 +287,11 @@ pub record GroupRead (bs : List ℕ) (k n : ℕ) (q : Bool) : Type 0 where
   pub below : Below 256 bs
   pub long : RECORD ≤ length bs
   pub says : GroupSays bs k (headAt bs)
-  pub count : n ≡ field 2 bs
+  pub count : n ≡ field SECOND bs
   pub may : q ≡ (leb 4 k || eqb n 0)
 
 pub group-written : {bs : List ℕ} {k n : ℕ} {q : Bool} → GroupRead bs k n q → q ≡ true → (m : Bool) → m ≡ multiplier bs → m ≡ true →
-    {n′ number steps : ℕ} {f f′ : Fields} (r : Bool) → n′ ≡ field 1 bs → number ≡ field 3 bs → steps ≡ field 11 bs →
+    {n′ number steps : ℕ} {f f′ : Fields} (r : Bool) → n′ ≡ field FIRST bs → number ≡ field NUMBER bs → steps ≡ field COUNT bs →
     listed f ≡ inOrder k 0 0 0 n′ n number 0 nowhere nowhere nowhere steps → listed f′ ≡ cut widths (take RECORD bs) → r ≡ sameList (uncounted f) (uncounted f′) → r ≡ (same bs && multiplier bs)
 group-written {bs} {k} {n} {q} g t m e h {n′} {number} {steps} {f} {f′} r a b c p o s =
     let z = second-is bs k n (g .says) (g .count) q (g .may) t in
@@ -319,12 +319,12 @@ pub record GroupTold (bs : List ℕ) : Type 0 where
   pub below : Below 256 bs
   pub long : RECORD ≤ length bs
   pub asks : (text : List ℕ) (d : ℕ) → headOk text d (headAt bs) ≡ (ltb 0 d && multiplier bs)
-  pub one : field 0 bs / 16 < 4 → second (headAt bs) ≡ 0
-  pub counts : (a b : Tree) → countOk (headAt bs) a b ≡ eqb (field 11 bs) (groupCount (field 0 bs / 16) (fromBits 32 (field 3 bs)) (cap (count a)) (cap (count b)))
+  pub one : kindAt bs < 4 → second (headAt bs) ≡ 0
+  pub counts : (a b : Tree) → countOk (headAt bs) a b ≡ eqb (field COUNT bs) (groupCount (kindAt bs) (fromBits 32 (field NUMBER bs)) (cap (count a)) (cap (count b)))
 
-pub group-told : (bs : List ℕ) → Below 256 bs → RECORD + RECORD * (field 1 bs + field 2 bs) ≤ length bs → field 0 bs / 16 < 6 → GroupTold bs
+pub group-told : (bs : List ℕ) → Below 256 bs → RECORD + RECORD * (field FIRST bs + field SECOND bs) ≤ length bs → kindAt bs < 6 → GroupTold bs
 group-told bs b l k =
-    let says = group-says bs b (field 0 bs / 16) refl k in
+    let says = group-says bs b (kindAt bs) refl k in
     record { below = b; long = omega arith; asks = says .asks; one = says .one; counts = says .counts }
 
 -- what a list's answer tells
@@ -364,14 +364,14 @@ pub record FirstRead (text : List ℕ) (d : ℕ) (bs : List ℕ) (n : ℕ) (a : 
   pub told : GroupTold bs
   pub level : 0 < d
   pub passed : (same bs && multiplier bs) ≡ true
-  pub size : n ≡ field 1 bs
+  pub size : n ≡ field FIRST bs
   pub answer : a ≡ formedCount text (d - 1) (take (RECORD + RECORD * n - RECORD) (drop RECORD bs))
 
 module _ {text : List ℕ} {d : ℕ} {bs : List ℕ} {n : ℕ} {a : Option ℕ} (one : FirstRead text d bs n a) where
-  first-size : field 1 bs ≡ first (headAt bs)
+  first-size : field FIRST bs ≡ first (headAt bs)
   first-size = first-written bs (one .told .below) (one .told .long) (and-left (same bs) (multiplier bs) (one .passed))
 
-  second-size : field 2 bs ≡ second (headAt bs)
+  second-size : field SECOND bs ≡ second (headAt bs)
   second-size = second-written bs (one .told .below) (one .told .long) (and-left (same bs) (multiplier bs) (one .passed))
 
   by-lists : lists text d bs ≡ firstOk text d bs
@@ -398,18 +398,18 @@ pub record SecondRead (text : List ℕ) (d : ℕ) (bs : List ℕ) (k : ℕ) (b :
   pub n : ℕ
   pub n′ : ℕ
   pub one : FirstRead text d bs n (some k)
-  pub size : n′ ≡ field 2 bs
+  pub size : n′ ≡ field SECOND bs
   pub answer : b ≡ formedCount text (d - 1) (take (RECORD + RECORD * n + RECORD * n′ - (RECORD + RECORD * n)) (drop (RECORD + RECORD * n) bs))
 
 -- A group that is not binary has an empty second list, which needs no walk to be answered.
-pub no-second : {text : List ℕ} {d : ℕ} {bs : List ℕ} {n k : ℕ} → FirstRead text d bs n (some k) → field 0 bs / 16 < 4 → SecondRead text d bs k (some 0)
+pub no-second : {text : List ℕ} {d : ℕ} {bs : List ℕ} {n k : ℕ} → FirstRead text d bs n (some k) → kindAt bs < 4 → SecondRead text d bs k (some 0)
 unfolding unpackFrom count
 no-second {text} {d} {bs} {n} {k} one l =
-    let empty : field 2 bs ≡ 0 = second-size one ∙ one .told .one l in
-    let z : 0 ≡ RECORD + RECORD * n + RECORD * field 2 bs - (RECORD + RECORD * n) = omega arith in
+    let empty : field SECOND bs ≡ 0 = second-size one ∙ one .told .one l in
+    let z : 0 ≡ RECORD + RECORD * n + RECORD * field SECOND bs - (RECORD + RECORD * n) = omega arith in
     record {
       n = n;
-      n′ = field 2 bs;
+      n′ = field SECOND bs;
       one = one;
       size = refl;
       answer =
@@ -445,8 +445,8 @@ module _ {text : List ℕ} {d : ℕ} {bs : List ℕ} {k : ℕ} {b : Option ℕ} 
   second-capped k′ e = list-capped text (d - 1) (secondBytes (headAt bs) bs) k′ (sym e ∙ second-told)
 
   -- the count as it is compared
-  pub count-compared : (k′ : ℕ) → b ≡ some k′ → (kind number stored′ whole : ℕ) → kind ≡ field 0 bs / 16 → number ≡ field 3 bs →
-      stored′ ≡ field 11 bs → whole ≡ groupCount kind (fromBits 32 number) k k′ → eqb stored′ whole ≡ firstOk text d bs
+  pub count-compared : (k′ : ℕ) → b ≡ some k′ → (kind number stored′ whole : ℕ) → kind ≡ kindAt bs → number ≡ field NUMBER bs →
+      stored′ ≡ field COUNT bs → whole ≡ groupCount kind (fromBits 32 number) k k′ → eqb stored′ whole ≡ firstOk text d bs
   count-compared k′ e kind number stored′ whole zk zn zs zw =
       let p = first-count .1 in
       let q = list-passed (formed text (d - 1) (secondBytes (headAt bs) bs)) _ k′ (sym e ∙ second-told) in

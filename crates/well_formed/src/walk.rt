@@ -26,7 +26,7 @@ ghost use Rattle.notation.specs.Basics.{sameList};
 ghost use Rattle.notation.specs.Numbers.{fromBits};
 ghost use Rattle.notation.specs.Packed.{RECORD, headRecord, headAt};
 ghost use Rattle.notation.specs.WellFormed.{multiplierOk};
-ghost use Rattle.record.specs.Meaning.{field};
+ghost use Rattle.record.specs.Meaning.{field, kindAt, FIRST, SECOND, NUMBER};
 ghost use Rattle.well_formed.specs.Formed.{wellFormedSteps, formedCount, firstOk};
 ghost use Rattle.well_formed.specs.Meaning.{stepCount};
 
@@ -79,8 +79,8 @@ fn list_count(text: &[u8], list: &[u8], depth: usize) -> StepCount
 
 // Whether the first node, a group, is in bounds, its lists with one level less are well formed, and it stores the step count that they come to.
 fn group_ok(text: &[u8], t: &[u8], depth: usize) -> bool
-    requires { ⌜ RECORD + RECORD * (field 1 (now t) + field 2 (now t)) ≤ length (now t) ⌝ }
-    requires { ⌜ field 0 (now t) / 16 < 6 ⌝ }
+    requires { ⌜ RECORD + RECORD * (field FIRST (now t) + field SECOND (now t)) ≤ length (now t) ⌝ }
+    requires { ⌜ kindAt (now t) < 6 ⌝ }
     ensures { λ r. ⌜ r ≡ firstOk (now (text .entry)) depth (now (t .entry)) ⌝ }
 {
     if depth == 0 {
@@ -113,8 +113,8 @@ fn group_ok(text: &[u8], t: &[u8], depth: usize) -> bool
 // count is right, only its lists tell.
 fn group_record_ok(t: &[u8]) -> bool
     requires { ⌜ RECORD ≤ length (now t) ⌝ }
-    requires { ⌜ field 0 (now t) / 16 < 6 ⌝ }
-    ensures { λ r. ⌜ r ≡ (sameList (headRecord (headAt (now (t .entry)))) (take RECORD (now (t .entry))) && multiplierOk (fromBits 32 (field 3 (now (t .entry))))) ⌝ }
+    requires { ⌜ kindAt (now t) < 6 ⌝ }
+    ensures { λ r. ⌜ r ≡ (sameList (headRecord (headAt (now (t .entry)))) (take RECORD (now (t .entry))) && multiplierOk (fromBits 32 (field NUMBER (now (t .entry))))) ⌝ }
 {
     let kind = fields::kind(t);
     let second = fields::second(t);
@@ -140,7 +140,7 @@ fn second_ok(kind: u8, second: u32) -> bool
 // Whether the first node, which is no group, is what packing writes and in bounds. Packing counts a leaf 1.
 fn leaf_ok(text: &[u8], t: &[u8]) -> bool
     requires { ⌜ RECORD ≤ length (now t) ⌝ }
-    requires { ⌜ 6 ≤ field 0 (now t) / 16 ⌝ }
+    requires { ⌜ 6 ≤ kindAt (now t) ⌝ }
     ensures { λ r. ⌜ ((depth : ℕ) → r ≡ firstOk (now (text .entry)) depth (now (t .entry))) ⌝ }
 {
     if !fields::counts_one(t) {

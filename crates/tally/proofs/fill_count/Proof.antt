@@ -3,7 +3,7 @@ use mathlib.Core.Path.{ap, _∙_}
 use Prim.Native.Nat.{ℕ, _%_}
 use native.Mathlib.Omega.{arith}
 use borrow.Author.Needs.{needs}
-use Rattle.record.specs.Meaning.{withField}
+use Rattle.record.specs.Meaning.{withField, COUNT}
 use Rattle.tally.proofs.Counted.{group-fits, group-counts, group-adds, leaf-counts, leaf-adds}
 use Rattle.tally.proofs.fill_count.Statement.{statement}
 use Rattle.tally.proofs.fill_count.Tie as tie
@@ -72,7 +72,7 @@ returns c =
     let place = c .before .before .before .before .before .before .before .before .before .before .before .before .count .ensures in
     let kind = c .before .before .before .before .before .before .before .before .before .before .kind .ensures in
     let low = c .before .before .before .before .before .before .before .before .before .if1 .taken in
-    (c .before .before .set-count .ensures ∙ ap (λ (n : ℕ). withField 11 n (a .t .now)) (group-counts (a .t .now) (a .sums .now) place kind low _ (group .ensures .1) (group .result) (group .ensures .0)),
+    (c .before .before .set-count .ensures ∙ ap (λ (n : ℕ). withField COUNT n (a .t .now)) (group-counts (a .t .now) (a .sums .now) place kind low _ (group .ensures .1) (group .result) (group .ensures .0)),
     group-adds (a .t .now) (a .sums .now) place kind low _ (group .ensures .1) (group .result) (group .ensures .0) _ (c .before .before .before .before .sum .ensures))
 
 same-length-2 : tie.Need-same-length-2
@@ -84,7 +84,7 @@ returns-2 c =
     let place = c .before .before .before .before .before .before .before .before .before .count .ensures in
     let kind = c .before .before .before .before .before .before .before .kind .ensures in
     let high = c .before .before .before .before .before .before .if1 .left in
-    (c .before .before .set-count2 .ensures ∙ ap (λ (n : ℕ). withField 11 n (a .t .now)) (leaf-counts (a .t .now) (a .sums .now) place kind high),
+    (c .before .before .set-count2 .ensures ∙ ap (λ (n : ℕ). withField COUNT n (a .t .now)) (leaf-counts (a .t .now) (a .sums .now) place kind high),
     leaf-adds (a .t .now) (a .sums .now) place kind high _ (c .before .before .before .before .sum2 .ensures))
 
 pub fill-count-spec : {M : Type 1} → statement M

@@ -1,7 +1,7 @@
 -- `invert::refusal::pair_refusal` meets its contract: the law of pairs at the two tests. Assumes nothing.
 use mathlib.Core.Path.{refl, sym, _∙_}
 use mathlib.Core.Bool.{true, false}
-use Rattle.record.specs.Meaning.{field}
+use Rattle.record.specs.Meaning.{field, NUMBER, OTHER}
 use Rattle.invert.proofs.Refusing.{is-min, not-min, pair-refusal, no-pair-refusal}
 use borrow.Author.Needs.{needs}
 use Rattle.invert.proofs.refusal.pair_refusal.Statement.{statement}
@@ -18,7 +18,7 @@ returns c =
     let start = c .before .before .before .before .before in
     let bs = start .args .t .now in
     let kind = sym (c .before .before .before .kind .ensures) ∙ c .before .before .if1 .taken in
-    pair-refusal bs (start .pre) kind true _ (is-min (field 3 bs) (sym (c .before .number .ensures) ∙ c .if2 .taken)) refl (start .args .before)
+    pair-refusal bs (start .pre) kind true _ (is-min (field NUMBER bs) (sym (c .before .number .ensures) ∙ c .if2 .taken)) refl (start .args .before)
 
 other-requires : tie.Need-other-requires
 other-requires c κs = search needs
@@ -30,8 +30,8 @@ returns-2 c =
     let bs = start .args .t .now in
     let kind = sym (tested .before .before .before .kind .ensures) ∙ tested .before .before .if1 .taken in
     pair-refusal bs (start .pre) kind false true
-    (not-min (field 3 bs) (λ e. tested .if2 .left (tested .before .number .ensures ∙ e)))
-    (is-min (field 4 bs) (sym (c .before .other .ensures) ∙ c .if3 .taken))
+    (not-min (field NUMBER bs) (λ e. tested .if2 .left (tested .before .number .ensures ∙ e)))
+    (is-min (field OTHER bs) (sym (c .before .other .ensures) ∙ c .if3 .taken))
     (start .args .before)
 
 returns-3 : tie.Need-returns-3
@@ -41,8 +41,8 @@ returns-3 c =
     let bs = start .args .t .now in
     let kind = sym (tested .before .before .before .kind .ensures) ∙ tested .before .before .if1 .taken in
     pair-refusal bs (start .pre) kind false false
-    (not-min (field 3 bs) (λ e. tested .if2 .left (tested .before .number .ensures ∙ e)))
-    (not-min (field 4 bs) (λ e. c .if3 .left (c .before .other .ensures ∙ e)))
+    (not-min (field NUMBER bs) (λ e. tested .if2 .left (tested .before .number .ensures ∙ e)))
+    (not-min (field OTHER bs) (λ e. c .if3 .left (c .before .other .ensures ∙ e)))
     (start .args .before)
 
 returns-4 : tie.Need-returns-4

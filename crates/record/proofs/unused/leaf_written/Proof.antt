@@ -8,7 +8,7 @@ use borrow.Author.Tests.{not-true, not-false}
 use lib.Dec.{lit<}
 use Rattle.numbers.proofs.Positional.{Below}
 use Rattle.numbers.proofs.BigEndian.{slice-below}
-use Rattle.record.specs.Meaning.{field, bothZero}
+use Rattle.record.specs.Meaning.{field, bothZero, kindAt, FIRST, COUNT}
 use Rattle.record.proofs.Packed.{field-lt}
 use Rattle.record.proofs.Zeros.{both-passed, first-failed}
 use Rattle.record.proofs.Leaves.{with-lists, no-kind, a-move, a-rotation, a-pair, a-kind}
@@ -18,10 +18,10 @@ use Rattle.record.proofs.unused.leaf_written.Tie as tie
 -- what is known where the kind is
 record Told (bs : List ℕ) (k : ℕ) : Type 0 where
   below : Below 256 bs
-  kind : k ≡ field 0 bs / 16
+  kind : k ≡ kindAt bs
   leaf : 6 ≤ k
-  one : field 11 bs ≡ 1
-  lists : bothZero 1 bs ≡ true
+  one : field COUNT bs ≡ 1
+  lists : bothZero FIRST bs ≡ true
 
 told : (c : tie.After-kind) → Told (c .before .before .before .before .args .t .now) (c .kind .result)
 told c =
@@ -43,7 +43,7 @@ returns c =
     let lists = c .before in
     let start = lists .before .before in
     let bs = start .args .t .now in
-    with-lists bs (slice-below bs (lists .before .shared-slice-known .given)) (field 0 bs / 16) refl (start .pre .1 .0) (start .pre .1 .1) (sym (lists .no-lists .ensures) ∙ not-true _ (c .if1 .taken))
+    with-lists bs (slice-below bs (lists .before .shared-slice-known .given)) (kindAt bs) refl (start .pre .1 .0) (start .pre .1 .1) (sym (lists .no-lists .ensures) ∙ not-true _ (c .if1 .taken))
 
 kind-requires : tie.Need-kind-requires
 kind-requires c κs = search needs

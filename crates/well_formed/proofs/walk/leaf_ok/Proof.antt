@@ -4,14 +4,14 @@ use mathlib.Core.Path.{refl, sym, subst, _∙_}
 use borrow.Author.Needs.{needs}
 use borrow.Author.Tests.{eqb-true, not-true, not-false}
 use Rattle.numbers.proofs.BigEndian.{slice-below}
-use Rattle.record.specs.Meaning.{field, rotationLeaf, moveLeaf}
+use Rattle.record.specs.Meaning.{field, rotationLeaf, moveLeaf, kindAt}
 use Rattle.record.proofs.Packed.{headAt-kind}
 use Rattle.well_formed.proofs.Turns.{LeafRead, leaf-not-one, leaf-passed, leaf-refused, leaf-alone}
 use Rattle.well_formed.proofs.walk.leaf_ok.Statement.{statement}
 use Rattle.well_formed.proofs.walk.leaf_ok.Tie as tie
 
 -- what is known once the count was looked at, and with the kind
-counted : (c : tie.After-leaf-written) → LeafRead (c .before .before .before .before .before .args .t .now) (field 0 (c .before .before .before .before .before .args .t .now) / 16)
+counted : (c : tie.After-leaf-written) → LeafRead (c .before .before .before .before .before .args .t .now) (kindAt (c .before .before .before .before .before .args .t .now))
 counted c =
     let counts = c .before .before in
     let start = counts .before .before .before in
