@@ -1,5 +1,5 @@
 #!/usr/bin/env python3
-"""Calls of the two forms after the core and the lines that they are to write, for run.sh.
+"""Makes calls of the two forms after the core (`Reader` and `ranges::simplify`) and the lines that they are to write, for run.sh.
 
 cases.py FOLDER writes pieces there, Rattle statements to calls.000 and so on and the expected output to lines.000 and so on. What is expected comes from
 tests/reference/notation.py."""
@@ -32,7 +32,7 @@ def literal(text):
 
 
 def ranges_of(text, record, max_layer, negatives):
-    """Three entries are lent, each filled with 7 and 77."""
+    """Gives a call of `ranges::simplify` and its line. Three entries are lent, each filled with 7 and 77."""
     tree = n.pack(n.read(text, n.MAXIMAL))
     call = f"ranges_of({literal(text)}, {record}, {max_layer}, {str(negatives).lower()});"
     try:
@@ -44,7 +44,7 @@ def ranges_of(text, record, max_layer, negatives):
 
 
 def leaf(r):
-    """A leaf at the cursor, which stays where there is none."""
+    """Reads a leaf at the cursor, which stays where there is none, and gives what is written of it."""
     start = r.i
     found = r.node()
     if found is None or found.kind < n.ROTATION:
@@ -55,7 +55,7 @@ def leaf(r):
 
 
 def walked(text, setting):
-    """White space, a leaf, a constraint set, a multiplier, and whether that was all."""
+    """Gives a call that reads white space, a leaf, a constraint set and a multiplier and says whether that was all; and its line."""
     features, name = setting
     r = n.Reader(text, features)
     r.spaces()
@@ -67,14 +67,14 @@ def walked(text, setting):
 
 
 def first(text):
-    """The leaf that a text begins with, after white space."""
+    """Gives a call for the leaf that a text begins with, after white space, and its line."""
     r = n.Reader(text, n.MAXIMAL)
     r.spaces()
     return f"first({literal(text)});", leaf(r)
 
 
 def first_of_pauses(size):
-    """The same of so many pauses. A text past the limit would not fit the stack: that it is not read is proved, and run from C of the entries."""
+    """Does the same for a text of so many pauses. (A text past the limit would not fit the stack.)"""
     return f"first(&[{ord('.')}u8; {size}]);", leaf(n.Reader(b"." * size, n.MAXIMAL))
 
 

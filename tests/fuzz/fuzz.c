@@ -121,7 +121,8 @@ static void store(uint8_t *record, uint64_t count) {
     for (size_t k = HYPUZ_RECORD; k > HYPUZ_RECORD - COUNT; k--, count >>= 8) record[k - 1] = (uint8_t)count;
 }
 
-static uint64_t held(uint64_t count) { return count < 4294967296u ? count : 4294967296u; }
+/* The count as a record stores it: capped at 4,294,967,296. */
+static uint64_t capped(uint64_t count) { return count < 4294967296u ? count : 4294967296u; }
 
 /* Puts into every record the count that its other fields call for, from the last one to the first. A list that ends past the tree is cut there. */
 static void recount(uint8_t *tree, size_t size) {
@@ -140,12 +141,12 @@ static void recount(uint8_t *tree, size_t size) {
         uint64_t lists[2] = {0, 0};
         for (size_t k = i + 1; k < last; k = ends[k]) {
             uint64_t *list = lists + (k >= middle);
-            *list = held(*list + field(tree + (k + 1) * HYPUZ_RECORD - COUNT, COUNT));
+            *list = capped(*list + field(tree + (k + 1) * HYPUZ_RECORD - COUNT, COUNT));
         }
         ends[i] = last;
         uint64_t once = kind == 3 ? 0 : kind == 4 ? 2 * (lists[0] + lists[1]) : kind == 5 ? 2 * lists[0] + lists[1] : lists[0];
         uint64_t number = field(r + 7, 4), times = number >> 31 ? 4294967296u - number : number;
-        store(r, held(held(once) * times));
+        store(r, capped(capped(once) * times));
     }
     free(ends);
 }
@@ -159,7 +160,7 @@ static void counted(const uint8_t *tree, size_t size, const char *what) {
     free(again);
 }
 
-/* What must hold between the functions on a tree that is well formed. */
+/* Checks what must hold between the functions on a tree that is well formed. */
 static void together(const struct input *i, uint64_t n, uint64_t list) {
     if (hypuz_refusal(n)) {
         demand(list == n, "count and list refuse alike");
@@ -180,7 +181,7 @@ static void together(const struct input *i, uint64_t n, uint64_t list) {
     free(steps);
 }
 
-/* An inverse twice is the tree again. */
+/* Checks that an inverse, inverted again, is the tree. */
 static void twice(call *f, const struct input *i, uint64_t size, const char *what) {
     if (hypuz_refusal(size)) return;
     demand(size == i->tree_size, what);
@@ -207,8 +208,8 @@ static void light(const struct input *i, uint8_t *lit) {
     }
 }
 
-/* Request 3 by its own words: a move with its tilde and without, and each layer in exactly one of the two answers. Neither is made here; only that no contents
- * mean layer 1 is known. */
+/* Checks request 3 by its own words: a move is asked with its tilde and without, and each layer must be in exactly one of the two answers. What the answers are
+ * is not known here, but that a prefix without contents means layer 1. */
 static void other_layers(const struct input *i) {
     static uint8_t with[LAYERS + 1], without[LAYERS + 1];
     uint8_t *tree = malloc(i->tree_size), *record = tree + i->record * HYPUZ_RECORD;
@@ -307,7 +308,7 @@ static void reads_back(const struct input *i, const uint8_t *tree, size_t size) 
     demand(hypuz_display(shown, n, back, size, again, sizeof again) == n && memcmp(shown, again, n) == 0, "and printed the same");
 }
 
-/* Request 6 by its own words: with the flag a text is read as, without it, the straight text, refusals and all offsets being those of the text as given. */
+/* Checks request 6 by its own words: with the flag a text is read as, without it, the straight text; refusals and all offsets are those of the text as given. */
 static void as_straight(const struct input *i) {
     static struct straight s;
     static uint8_t curly[1 << 17], plain[1 << 17];

@@ -231,14 +231,14 @@ static void counts(const char *text, size_t n, const uint64_t *want, const uint6
 }
 
 static void every_count(void) {
-    const uint64_t held = 4294967296u;
+    const uint64_t cap = 4294967296u;
     counts("R0 ((U)3 [F, .]2')2 /", 8, (uint64_t[]){1, 22, 3, 1, 8, 1, 1, 1}, (uint64_t[]){1, 22, 3, 1, 8, 1, 1, 1}, (uint64_t[]){1, 22, 8, 1, 1, 3, 1, 1});
     counts("[(R)3: U F]'", 5, (uint64_t[]){8, 3, 1, 1, 1}, (uint64_t[]){8, 3, 1, 1, 1}, (uint64_t[]){8, 3, 1, 1, 1});
     counts("(^((R)3) U)2", 5, (uint64_t[]){2, 0, 3, 1, 1}, (uint64_t[]){2, 0, 3, 1, 1}, NULL);
     counts("((R)5)0 ()7", 4, (uint64_t[]){0, 5, 1, 0}, (uint64_t[]){0, 0, 5, 1}, (uint64_t[]){0, 0, 5, 1});
-    counts("((R)65535)65537", 3, (uint64_t[]){held - 1, 65535, 1}, (uint64_t[]){held - 1, 65535, 1}, (uint64_t[]){held - 1, 65535, 1});
-    counts("(((R)65536)65536)2", 4, (uint64_t[]){held, held, 65536, 1}, (uint64_t[]){held, held, 65536, 1}, (uint64_t[]){held, held, 65536, 1});
-    counts("(((R)65537)65537)0 U", 5, (uint64_t[]){0, held, 65537, 1, 1}, (uint64_t[]){1, 0, held, 65537, 1}, (uint64_t[]){1, 0, held, 65537, 1});
+    counts("((R)65535)65537", 3, (uint64_t[]){cap - 1, 65535, 1}, (uint64_t[]){cap - 1, 65535, 1}, (uint64_t[]){cap - 1, 65535, 1});
+    counts("(((R)65536)65536)2", 4, (uint64_t[]){cap, cap, 65536, 1}, (uint64_t[]){cap, cap, 65536, 1}, (uint64_t[]){cap, cap, 65536, 1});
+    counts("(((R)65537)65537)0 U", 5, (uint64_t[]){0, cap, 65537, 1, 1}, (uint64_t[]){1, 0, cap, 65537, 1}, (uint64_t[]){1, 0, cap, 65537, 1});
 }
 
 static void refusals(void) {

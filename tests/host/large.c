@@ -1,4 +1,4 @@
-/* A tree of ten million records in one list goes through every entry: no recursion per list element, and time that is linear in records.
+/* Sends a tree of ten million records in one list through every entry, to show that no call recurses for each element of a list or takes more than linear time.
  * Run it with a small stack (`ulimit -s 256`): tests/host/run.sh does. */
 #define _POSIX_C_SOURCE 200809L
 #include "hypuz_notation.h"

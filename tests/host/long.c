@@ -1,5 +1,5 @@
-/* Texts at the limit of 16,777,215 bytes and one byte past it, in every function; and demand 3 on a text whose printed inverse is at the limit, too: both count n,
- * and the step at n - 1 - k of the inverse, read back, is the step at k undone. What is expected is put together here, by hand.
+/* Calls every function on texts at the limit of 16,777,215 bytes and one byte past it. One text has a printed inverse that is at the limit too: both have n steps,
+ * and step n - 1 - k of the inverse, read back, is step k undone (demand 3 of document 01). What is expected is put together here, by hand.
  * Run it with a small stack (`ulimit -s 256`): tests/host/run.sh does. */
 #include "hypuz_notation.h"
 

@@ -1,6 +1,7 @@
 #!/usr/bin/env bash
-# Holds `classify`, `is_family_char`, `is_prime` and `is_whitespace` of the crate `charsets` against the Rust over every code point: its charsets.rs as it is
-# published, and `char::is_whitespace`. The Rust has no class of primes (document 02, request 6); characters.rs names them. No C function of the library answers these, so a small crate of its own hands them out, below target/characters.
+# Compares `classify`, `is_family_char`, `is_prime` and `is_whitespace` of the crate `charsets` with the Rust over every code point: with its charsets.rs as it is
+# published, and with `char::is_whitespace`. The Rust has no class of primes (document 02, request 6); characters.rs names them. No C function of the library answers
+# these, so a small crate of its own, below target/characters, makes them callable.
 # Usage: characters.sh SRC, the folder that holds crates/hypuz_notation/src
 set -euo pipefail
 here=$(cd "$(dirname "$0")" && pwd)
@@ -19,8 +20,8 @@ use charsets::classify;
 use charsets::is_family_char;
 use charsets::is_prime;
 use charsets::is_whitespace;
-use notation::charsets::CharSet;
-use notation::charsets::Class;
+use notation::char_set::CharSet;
+use notation::char_set::Class;
 
 // 0 outside, else 1 and on in the order of the Rust's enum, and 7 for the primes.
 #[no_mangle]

@@ -1,10 +1,9 @@
-//! Holds the C functions of the archive against the Rust on trees made at random.
+//! Compares the C functions of the archive with the Rust on trees made at random.
 //!
-//! The Rust's trees have no count. The counts that records store are held against `stored` below, a plain sum over the Rust's tree as document 02 has it, in
-//! what reading, both inverses, unrolling and seeking write; the lists, offsets and lengths that reading writes against places.rs; all other fields by what is
-//! printed and answered.
+//! The Rust's trees have no step counts. The counts that reading, both inverses, unrolling and seeking store are compared with `stored` below, a plain sum over the
+//! Rust's tree as document 02 has it; the lists, offsets and lengths that reading writes, with places.rs; all other fields, by what is printed and answered.
 //!
-//! The Rust's `simplify` knows no tilde: layer ranges with one are held against what its answer leaves (document 02, request 3), and all against its own mask.
+//! The Rust's `simplify` knows no tilde: layer ranges with one are compared with the layers that its answer leaves (document 02, request 3), and all with its own mask.
 //!
 //! `compare [TREES] [SEED]` prints how often each comparison was made and how often it differed, with the shortest text that differs; it fails
 //! also where one with or without a tilde was never made.
@@ -47,7 +46,7 @@ const LONG: Limits = Limits { steps: 2_000_000, visits: 20_000_000, records: 6, 
 const LONG_TEXTS: u64 = 3 * long::SHAPES;
 const MOST_STEPS: u128 = u32::MAX as u128;
 /// What a record stores for every count above MOST_STEPS; the field is the last of a record, 5 bytes, most significant first.
-const HELD: u128 = MOST_STEPS + 1;
+const CAP: u128 = MOST_STEPS + 1;
 const COUNT: usize = 5;
 /// A move's tilde, in the first byte of its record.
 const TILDE: u8 = 8;
@@ -192,8 +191,8 @@ fn stored(l: &NodeList) -> Vec<u64> {
     out
 }
 
-/// The steps of a list, with each NISS group as none; the counts of its records are put to `out`. The sum is not held: 64 groups of 2^31 repeats pass 128
-/// bits, so it stops at the largest number.
+/// The steps of a list, with each NISS group as none; the counts of its records are put to `out`. The sum is not capped, but 64 groups of 2^31 repeats pass
+/// 128 bits, so it stops at the largest number.
 fn total(l: &NodeList, out: &mut Vec<u64>) -> u128 {
     l.iter().fold(0, |sum: u128, n| sum.saturating_add(own(n, out)))
 }
@@ -217,7 +216,7 @@ fn own(n: &Node, out: &mut Vec<u64>) -> u128 {
         _ => 1,
     };
     let steps = once.saturating_mul(repeats(n));
-    out[place] = steps.min(HELD) as u64;
+    out[place] = steps.min(CAP) as u64;
     steps
 }
 
@@ -348,7 +347,7 @@ fn compare(r: &mut Random, l: &NodeList, report: &mut Report) {
     report.same("reading: counts", &text, &Ok(stored(l)), &Ok(counts(&ours.tree)));
     report.same("display", &text, &Ok(text.clone()), &ours.printed(&ours.tree, text.len()));
     spelling(r, l, &text, nodes.len(), report);
-    // with numbers of its own, so that a seed gives the trees that it gave before request 6
+    // It draws random numbers of its own, so that the trees of a seed do not depend on it.
     curly(&mut Random(r.0 ^ text.len() as u64), l, &text, &nodes, report);
     inverse(["inv", "inv: counts"], ours::inv, l.clone().inv(), &ours, &text, report);
     inverse(["inv_deep", "inv_deep: counts"], ours::inv_deep, l.clone().inv_deep(), &ours, &text, report);
@@ -364,7 +363,7 @@ fn compare(r: &mut Random, l: &NodeList, report: &mut Report) {
             let which = if long { 2 } else { usize::from(i > WIDE) };
             ranges(which, r, &mv.layers, i as u64, large && !long, &ours, &text, report);
             if long {
-                // few trees have one: each is asked with the tilde and without
+                // Few trees have a long layer set, so each is asked with the tilde and without.
                 ranges(which, r, &LayerPrefix { invert: !mv.layers.invert, ..mv.layers.clone() }, i as u64, false, &ours.turned(i), &text, report);
             }
         }
@@ -507,7 +506,7 @@ fn unrolled(r: &mut Random, l: &NodeList, ours: &Read, text: &str, report: &mut 
     }
 }
 
-/// Where the family stands: the very place that the printed text has it at, which is also held against the Rust's name.
+/// Compares where the family stands with the place that the printed text has it at, and its letters with the Rust's name.
 fn family(n: &Place, record: u64, ours: &Read, text: &str, report: &mut Report) {
     let name = match n.node {
         Node::Move(mv) => Ok(&mv.transform.family),
@@ -532,7 +531,7 @@ const AXES: [u16; 17] = [1, 2, 3, 4, 5, 6, 7, 8, 9, 10, 63, 64, 65, 127, 128, 12
 /// No axis has so many layers here; the Rust's mask takes these numbers.
 const NO_AXES: [u16; 4] = [0, 32768, 40000, 65535];
 
-/// On all of these axes, negatives allowed and not; or on three of them.
+/// Compares the layer ranges of a move on all of these axes, negatives allowed and not; or on three of them, taken at random.
 fn ranges(which: usize, r: &mut Random, prefix: &LayerPrefix, record: u64, three: bool, ours: &Read, text: &str, report: &mut Report) {
     let all: Vec<(u16, bool)> = AXES.into_iter().flat_map(|n| [(n, false), (n, true)]).collect();
     let some = if three { (0..3).map(|_| r.pick(&all)).collect() } else { all };
@@ -549,7 +548,7 @@ fn ranges(which: usize, r: &mut Random, prefix: &LayerPrefix, record: u64, three
     no_axis(prefix, record, ours, text, report);
 }
 
-/// Numbers of layers that are refused 11, where the Rust's mask takes a tilde for nothing: it gives what it gives without one.
+/// Asks for numbers of layers that ours refuses 11. The Rust's mask ignores a tilde there: it gives what it gives without one.
 fn no_axis(prefix: &LayerPrefix, record: u64, ours: &Read, text: &str, report: &mut Report) {
     let max_layer = NO_AXES[text.len() % NO_AXES.len()];
     let given = lent(0, |b| ours::simplify(ours.text, &ours.tree, record, max_layer.into(), true, b), 4);

@@ -1,6 +1,8 @@
 #!/usr/bin/env python3
-"""Holds the Python reference (tests/reference) against the Rust oracle on generated trees: Display, both inverses, unrolled lists and layer
-ranges must be the same; where a move has a tilde, those are what the Rust's `simplify` leaves, and with or without one also the layers of its mask. The Rust has no counts; the reference's is held to the length of the list.  compare_reference.py ORACLE [TREES] [SEED]"""
+"""Compares the Python reference (tests/reference) with the Rust oracle on generated trees: compare_reference.py ORACLE [TREES] [SEED].
+
+Display, both inverses, unrolled lists and layer ranges must be the same. Layer ranges of a move with a tilde are compared with the layers that the Rust's
+`simplify` leaves, and all of them with the layers of its mask. The Rust has no step counts; the reference's count must be the length of the Rust's list."""
 import os
 import random
 import subprocess

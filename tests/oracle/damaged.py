@@ -1,10 +1,10 @@
 #!/usr/bin/env python3
-"""Holds every C function against the Python reference (tests/reference/notation.py) on damaged trees, odd places and short buffers.
+"""Compares every C function with the Python reference (tests/reference/notation.py) on damaged trees, odd places and short buffers.
 
 damaged.py [CASES] [SEED]. The archive is loaded as a shared library. A case is a text and a tree over it, damaged or not; every function is
 called on it with a buffer of some size between two guards, and its answer and every byte of the buffer must be what the reference says.
-Texts and trees over texts with curly primes (document 02, request 6) are among them; where the flag is on, the reference's reading is also held against the
-request's own sentence. Nearly every change of a group makes a stored count wrong, so that refusal 6 would hide all others: most damaged trees get right counts again, and of
+Texts and trees over texts with curly primes (document 02, request 6) are among them; where the flag is on, the reference's reading is also compared with the
+request's own sentence (straight.py). Nearly every change of a group makes a stored count wrong, so that refusal 6 would hide all others: most damaged trees get right counts again, and of
 some a count is changed afterwards, in any record. Moves with a tilde (request 3) are among them; it fails where layer ranges of one, or of a move without, were never given.
 Prints how often each refusal was answered."""
 import collections
@@ -59,7 +59,7 @@ for name, args in {
 
 
 def lent(data):
-    """Bytes in memory of their own; never at a null pointer."""
+    """Puts bytes into memory of their own, never at a null pointer."""
     return ctypes.create_string_buffer(bytes(data), max(1, len(data)))
 
 
@@ -71,7 +71,7 @@ class Run:
         self.wrong = []
 
     def call(self, what, front, room, want):
-        """One call with `room` bytes lent (None: no buffer); `want` is (refusal, value, written)."""
+        """Makes one call with `room` bytes lent (None: no buffer) and compares it with `want`, which is (refusal, value, written)."""
         refusal, value, written = want
         args = list(front)
         if room is not None:
@@ -88,7 +88,7 @@ class Run:
 
 
 def attempt(f):
-    """(0, what f gives), or (refusal, None)."""
+    """Gives (0, what f gives), or (refusal, None)."""
     try:
         return 0, f()
     except n.Refused as r:
@@ -96,7 +96,7 @@ def attempt(f):
 
 
 def rooms(size):
-    """A size of buffer: exact, one short, none, more, or any."""
+    """Picks the size of a buffer: exact, one short, none, more, or any."""
     return random.choice((size, size, max(0, size - 1), 0, size + random.randrange(1, 40), random.randrange(size + 1)))
 
 
@@ -111,7 +111,7 @@ class Case:
             self.run.wrong.append((len(self.text) + len(self.tree), what, self.text, self.tree.hex(), extra, room, want))
 
     def written(self, what, extra, f, unit=1):
-        """A function that writes what the reference gives; `unit` bytes are an entry, the value counts entries."""
+        """Calls a function that is to write what the reference gives; an entry has `unit` bytes, and the value counts entries."""
         refusal, data = attempt(f)
         size = random.choice((0, n.RECORD, 60)) if data is None else len(data)
         room = rooms(size)
@@ -175,7 +175,7 @@ def edge(text, records, old, width):
 
 
 def damage(text, tree, other):
-    """One change to a tree."""
+    """Makes one change to a tree."""
     k = random.randrange(11)
     records = trees.records(tree)
     i = random.randrange(len(records)) if records else 0
@@ -207,7 +207,7 @@ def damage(text, tree, other):
 
 
 def nested(tree, levels):
-    """The tree inside so many groups."""
+    """Puts the tree inside so many groups."""
     for _ in range(levels):
         if len(tree) % n.RECORD or len(tree) // n.RECORD > 100000:
             return tree
@@ -219,14 +219,14 @@ def nested(tree, levels):
 
 
 def miscounted(tree):
-    """One count changed: one off, none, held, not held, the sum without repeats, or anything."""
+    """Changes one count: one off, 0, capped, not capped, the sum without repeats, or anything."""
     counts = trees.true_counts(tree)
     if not counts:
         return tree
     i = random.randrange(len(counts))
-    right = min(counts[i], n.HELD)
+    right = min(counts[i], n.CAP)
     number = abs(n.unpack(trees.records(tree)[i])["number"])
-    value = random.choice((right + 1, right - 1, 0, 1, 2, n.HELD, n.HELD - 1, n.HELD + 1, counts[i], right + n.HELD, counts[i] // max(number, 1), random.randrange(1 << 40)))
+    value = random.choice((right + 1, right - 1, 0, 1, 2, n.CAP, n.CAP - 1, n.CAP + 1, counts[i], right + n.CAP, counts[i] // max(number, 1), random.randrange(1 << 40)))
     return trees.set_in(tree, i, "count", value)
 
 

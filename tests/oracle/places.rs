@@ -1,5 +1,5 @@
-//! Where the parts of every record stand in the text that the Rust prints, and how many records its lists hold: worked out from the Rust's tree, to be held
-//! against the fields that the archive stores. The offsets are exact: a name that stands in the text twice does not hide a wrong one.
+//! Where the parts of every record stand in the text that the Rust prints, and how many records its lists hold: worked out from the Rust's tree, to be
+//! compared with the fields that the archive stores. The offsets are exact: a name that stands in the text twice does not hide a wrong one.
 use crate::ours::RECORD;
 use hypuz_notation::*;
 

@@ -1,11 +1,12 @@
-"""Stored vectors for `agree`: a text, its inverse printed and read back, both counted, and the step at a place sought in both.
+"""Makes the stored vectors for `agree`: a text is read, its inverse is printed and read back, both are counted, and the step at a place is sought in both.
 
 A case is a line: `a`, features (2 hex digits), length of each of the four buffers for trees and texts (6 hex digits), place (16 hex digits), length of each
 of the two for a step (2 hex digits), then the text's segments. The answer is what each entry answers (reading, inverse, printing, reading back, both
 counts, both steps): a value, or a refusal behind a minus; then the two buffers for a step in hex, and the checksums of the other four (tree, inverse,
 printed, read back). Of every buffer the whole is shown, filled with aa before the call.
 
-Where demand 3 holds of a case, it is asserted here, on the reference's answers.
+Demand 3 of document 01 says that a text and its printed inverse, read back, have the same number of steps, and that step n - 1 - k of the inverse is step k undone.
+Of each case of which it speaks it is asserted here, on the reference's answers.
 """
 import random
 
@@ -40,7 +41,7 @@ def counted(text, tree):
 
 
 class Agreement:
-    """Every entry runs: after one that refused, with an empty tree or text."""
+    """Runs every entry, each on what the one before wrote; after one that refused, on an empty tree or text."""
 
     def __init__(self, text, features, place, room, step_room):
         self.read = Entry(lambda: n.pack(n.read(text, features)), room)
@@ -62,13 +63,13 @@ class Agreement:
 
 
 def meaning(node):
-    """What makes two records the same step, wherever their texts stand."""
+    """Gives what makes two records the same step, wherever their texts stand."""
     layers = ("set", node.layers[2]) if node.layers and node.layers[0] == "set" else node.layers
     return node.kind, node.tilde, node.number, node.d, layers, node.name, node.constraints and node.constraints[1]
 
 
 def unrollable(text, features):
-    """The nodes of a text of which demand 3 speaks: it is accepted, and its steps can be counted and undone. Else None."""
+    """Gives the nodes of a text if demand 3 speaks of it: it is accepted, and its steps can be counted and undone. Else it gives None."""
     try:
         nodes = n.read(text, features)
         n.unroll_check(nodes)
@@ -79,7 +80,7 @@ def unrollable(text, features):
 
 
 def demand(text, features, place):
-    """Demand 3 at a place, in buffers that suffice; says whether it speaks of the text."""
+    """Asserts demand 3 at a place, in buffers that suffice, and says whether it speaks of the text."""
     nodes = unrollable(text, features)
     if nodes is None:
         return False
@@ -106,7 +107,7 @@ def demand(text, features, place):
 
 
 def needed(text, features):
-    """The bytes that each of the four entries writes."""
+    """Gives how many bytes each of the four entries writes, as a set."""
     found = Agreement(text, features, 0, 1 << 20, n.RECORD)
     return {len(e.written) for e in (found.read, found.inverse, found.printed, found.back)}
 
@@ -124,7 +125,7 @@ def total_of(text, bits=MAX):
 
 
 def places():
-    """Every place of short lists, and about the ends of long ones."""
+    """Asks for every place of short lists, and for places about the ends of long ones."""
     for text in ("R U' F2", "[R, U]'", "[R: U2 F]'", "((R U)2' F)3'", "[[R, U]': F . /]2'", "((1,-2) D--)' ~{1-3,-2}R{A->B}"):
         total = total_of(text)
         for place in (*range(min(total, 6)), total - 1, total, total + 1, random.choice(MORE_PLACES)):
@@ -136,7 +137,7 @@ def places():
 
 
 def settings():
-    """Each flag alone, each flag off, and the named settings: most probes are refused under some."""
+    """Takes each flag alone, each flag off, and the named settings; most of the texts are refused under some of them."""
     probes = ("~R {1-2,-1}U", "@U{A<>B}' R{}", "R-- D++ R", "(1,-2) / (R)2'", "2-1R [U, F]'")
     for bits in [1 << i for i in range(7)] + [MAX ^ 1 << i for i in range(7)] + [WCA, MIN]:
         for text in random.sample(probes, 2):
@@ -144,7 +145,7 @@ def settings():
 
 
 def rooms():
-    """Buffers: none, one byte short, exact, with bytes to spare. The long name prints to more bytes than its tree has."""
+    """Lends buffers of no bytes, one byte short, exact and with bytes to spare. The long name prints to more bytes than its tree has."""
     for text in ("", "R", "(R U)2 [F, .]'", "AVeryLongNameOfAMoveThatIsPrinted"):
         sizes = needed(text.encode(), n.MAXIMAL)
         for room in sorted({0, *sizes, *(size - 1 for size in sizes), max(sizes) + 60} - {-1}):
@@ -158,7 +159,8 @@ def rooms():
 
 
 def refused():
-    """Texts that reading refuses: every later entry has an empty tree over them."""
+    """Texts that reading refuses 2, 3 or 4, so that every later entry is asked with an empty tree; and three that it accepts: spaces up to and past 65,535 bytes, and
+    nesting of 64. (A text that is refused 1 does not fit the program's stack: tests/host/long.c has those.)"""
     for text in (b" " * 65536, b"\xff", b"R\xce", b"(" * 65, b"R)", b"R2147483648'", b"(1,0)2", b"{0}R", "α".encode()):
         yield case(text, 0, room=40)
     yield case(b"(" * 64 + b"R" + b")'" * 64, 0)
@@ -166,7 +168,7 @@ def refused():
 
 
 def far_on():
-    """Offsets and lengths past 16 bits."""
+    """Puts texts at offsets, and parts at lengths, that do not fit 16 bits."""
     for text in ("R", "R U'", "~{1-3,-2}R{A->B}' @U{C}2", "[R, U{A}]'", "((R U)2' {1}F)3'", "(^(R))0 U"):
         for before in (65534, 65536, 70000, 131072):
             data = b" " * before + text.encode()
@@ -191,7 +193,7 @@ def cases():
 
 
 def line_of(call):
-    """A call with its answer, and whether demand 3 speaks of it."""
+    """Gives a call with its answer, and whether demand 3 speaks of it."""
     text, place, bits, room, step_room = call
     features = n.features_of(bits)
     found = Agreement(text, features, place, room, step_room)
@@ -199,7 +201,7 @@ def line_of(call):
 
 
 def lines():
-    """Each case with its answer. Demand 3 speaks of most of them."""
+    """Gives each case with its answer. Demand 3 speaks of most of them, which is asserted at the end."""
     held = 0
     for call in cases():
         line, said, spoken_of = line_of(call)

@@ -1,5 +1,5 @@
-"""Stored vectors for the count that every record stores (document 02, requests 2 and 5): what reading and both inverses write, and that a wrong one, in any record
-at any depth, is refused 6 by every entry that takes a tree, before all other refusals of trees.
+"""Makes the stored vectors for the step count that every record stores (document 02, requests 2 and 5): the counts that reading and both inverses write; and trees
+with a wrong count in any record at any depth, which every entry that takes a tree refuses 6, before all other refusals of trees.
 
 The lines are those of reading_vectors.py and entry_vectors.py.
 """
@@ -10,7 +10,7 @@ from lines import spelled
 from reading_vectors import MAX, answer
 
 ENTRIES = (PRINT, INV, DEEP, COUNT, FLATTEN, SEEK, LAYERS, NAME)
-HELD = n.HELD
+CAP = n.CAP
 WIDTH = 40
 DEEP_TEXTS = tuple(
     start * 64 + inner + end * 64
@@ -40,8 +40,8 @@ LARGE = (
     "(((R)65536)65536 ((R)65536)65536 ((R)65536)65536 ((R)65536)65536)1073741824", "[((R)65536)65536, ((R)65536)65536]1073741824'", "[((R)65536)65536 ((R)65536)65536: ((R)65536)65536]1073741824",
     "((((R)2147483647)2147483647)2147483647)2147483647", "(()2147483647)2147483647", "((R)0)2147483647", "[((()2147483647)2147483647)2147483647, (R)0]2147483647",
 )
-# What a pass from the end could get wrong (request 5): several lists that end with one record, lists side by side and one after another, empty ones beside
-# others, held sums in front of others and behind them, and 64 levels by first lists, by second lists and by both in turns.
+# What a pass over the records from the last to the first could get wrong (request 5): several lists that end with one record, lists side by side and one after
+# another, empty ones beside others, capped sums in front of others and behind them, and 64 levels by first lists, by second lists and by both in turns.
 PASSED = (
     "(R (U (F (D)2)3)5)7", "R (U (F (D)2)3)5 L", "(((D)2 F)3 U)5 R", "[R: [U: [F: D]]]", "[[[R: U]: F]: D]", "[R, [U, [F, D]2]3]5", "[[[R, U]2, F]3, D]5", "[[R: U F]: [D: L B]]", "[[R U: F]2, [D L: B]3]5",
     "(R)2 (U F)3 (D L B)5", "((R)2 (U F)3) ((D L B)5)", "[(R)2 (U F)3, (D)5 (L B)7]", "[(R)2 (U F)3: (D)5 (L B)7] (R)11", "[[R, U], [F, D]] [[R: U]: [F: D]]", "[() R, U ()2] [()3: R] [R: ()5]", "[[,]2: R] [R, [:]3] ([,] R [:])7",
@@ -53,9 +53,9 @@ PASSED = (
 # Counts that are wrong in a plausible way: a text, and of some of its records the count stored instead.
 CHOSEN = (
     # a leaf
-    ("R", {0: 0}), ("R", {0: 2}), ("R", {0: 1 + HELD}), ("R", {0: 1 << 39}), ("R0", {0: 0}), ("R2", {0: 2}), ("R'", {0: -1}), ("(3,2)", {0: 3}), (".", {0: 0}), ("/", {0: 0}), ("@", {0: 0}), ("R++", {0: 2}), ("R U F", {2: 0}), ("R U F", {0: 3}),
+    ("R", {0: 0}), ("R", {0: 2}), ("R", {0: 1 + CAP}), ("R", {0: 1 << 39}), ("R0", {0: 0}), ("R2", {0: 2}), ("R'", {0: -1}), ("(3,2)", {0: 3}), (".", {0: 0}), ("/", {0: 0}), ("@", {0: 0}), ("R++", {0: 2}), ("R U F", {2: 0}), ("R U F", {0: 3}),
     # a group: one off, without its repeats, its multiplier, its records, what its sign would make of it
-    ("(R U)3", {0: 5}), ("(R U)3", {0: 7}), ("(R U)3", {0: 2}), ("(R U)3", {0: 3}), ("(R U)3", {0: 0}), ("(R U)3", {0: 1}), ("(R U)3", {0: 6 + HELD}), ("(R U)3'", {0: -6}), ("(R U)3", {0: HELD}), ("()", {0: 1}), ("()5", {0: 5}),
+    ("(R U)3", {0: 5}), ("(R U)3", {0: 7}), ("(R U)3", {0: 2}), ("(R U)3", {0: 3}), ("(R U)3", {0: 0}), ("(R U)3", {0: 1}), ("(R U)3", {0: 6 + CAP}), ("(R U)3'", {0: -6}), ("(R U)3", {0: CAP}), ("()", {0: 1}), ("()5", {0: 5}),
     ("(R)0", {0: 1}), ("(R)0", {1: 0}), ("!(R U)3", {0: 2}), ("&(R U)3", {0: 1}),
     # commutators and conjugates: one list, both once, the other's rule
     ("[R, U F]", {0: 3}), ("[R, U F]", {0: 4}), ("[R, U F]", {0: 5}), ("[R, U F]", {0: 7}), ("[R: U F]", {0: 3}), ("[R: U F]", {0: 5}), ("[R: U F]", {0: 6}), ("[R: U F]2'", {0: 4}), ("[,]", {0: 1}), ("[:]3", {0: 3}), ("[R, U]0", {0: 4}), ("[R: U]0", {2: 0}),
@@ -67,19 +67,19 @@ CHOSEN = (
     ("(^(R) U)", {0: 2}), ("(^(R) U)", {0: 2, 1: 1}), ("(^(R) U)3", {0: 0}), ("[^(R), U]", {0: 4}), ("[^(R): U]", {0: 3}), ("(^(R))0", {1: 1}), ("(^(R))0", {2: 0}),
     # inside multiplier 0
     ("((R)3)0", {1: 0}), ("((R)3)0", {1: 1}), ("((R)3)0", {1: 4}), ("((R)3)0", {2: 0}), ("((R)3)0", {0: 3}), ("[(R)3, U]0", {1: 0}), ("[U: (R)3]0", {2: 2}), ("((R)0)3", {1: 1}),
-    # held or not
-    ("((R)65536)65536", {0: HELD - 1}), ("((R)65536)65536", {0: HELD + 1}), ("((R)65536)65536", {0: 0}), ("((R)65536)65536", {1: HELD}), ("((R)65536)65537", {0: HELD + 65536}), ("((R)65537)65537", {0: 131073}), ("((R)65535)65537", {0: HELD}),
-    ("((R)65535)65537", {0: HELD - 2}), ("((R)1048576)1048576", {0: 0}), ("((R)1048576)1048576", {0: (1 << 40) - 1}), ("(((R)65536)65536)2", {0: 2 * HELD}), ("(((R)65536)65536)2", {1: HELD + 1}), ("(((R)65536)65536)2", {1: HELD - 1}),
-    ("((R)2147483647 (R)2147483647 R)", {0: HELD}), ("((R)2147483647 (R)2147483647 (R)2)", {0: HELD - 1}), ("((R)2147483647 (R)2147483647 (R)2)", {0: 0}), ("((R)2147483647 (R)2147483647 (R)3)", {0: HELD + 1}),
-    ("[(R)2147483647, R]", {0: HELD - 1}), ("[(R)2147483647: R]", {0: HELD}), ("[((R)65536)65536, U]", {0: 2 * HELD + 2}), ("[((R)65536)65536: U]", {0: 2 * HELD + 1}), ("[((R)65536)65536: U]", {1: 2 * HELD}),
-    ("(((R)65536)65536)0", {0: HELD}), ("(((R)65536)65536)0", {1: 0}), ("(((R)65536)65536)0", {1: HELD + 1}), ("^(((R)65536)65536)", {0: HELD}), ("^(((R)65536)65536)", {1: HELD - 1}), ("^(((R)65536)65536)", {1: HELD + 1}), ("((((R)65536)65536)0 U)3", {0: HELD}),
+    # capped where it should not be, and not capped where it should be
+    ("((R)65536)65536", {0: CAP - 1}), ("((R)65536)65536", {0: CAP + 1}), ("((R)65536)65536", {0: 0}), ("((R)65536)65536", {1: CAP}), ("((R)65536)65537", {0: CAP + 65536}), ("((R)65537)65537", {0: 131073}), ("((R)65535)65537", {0: CAP}),
+    ("((R)65535)65537", {0: CAP - 2}), ("((R)1048576)1048576", {0: 0}), ("((R)1048576)1048576", {0: (1 << 40) - 1}), ("(((R)65536)65536)2", {0: 2 * CAP}), ("(((R)65536)65536)2", {1: CAP + 1}), ("(((R)65536)65536)2", {1: CAP - 1}),
+    ("((R)2147483647 (R)2147483647 R)", {0: CAP}), ("((R)2147483647 (R)2147483647 (R)2)", {0: CAP - 1}), ("((R)2147483647 (R)2147483647 (R)2)", {0: 0}), ("((R)2147483647 (R)2147483647 (R)3)", {0: CAP + 1}),
+    ("[(R)2147483647, R]", {0: CAP - 1}), ("[(R)2147483647: R]", {0: CAP}), ("[((R)65536)65536, U]", {0: 2 * CAP + 2}), ("[((R)65536)65536: U]", {0: 2 * CAP + 1}), ("[((R)65536)65536: U]", {1: 2 * CAP}),
+    ("(((R)65536)65536)0", {0: CAP}), ("(((R)65536)65536)0", {1: 0}), ("(((R)65536)65536)0", {1: CAP + 1}), ("^(((R)65536)65536)", {0: CAP}), ("^(((R)65536)65536)", {1: CAP - 1}), ("^(((R)65536)65536)", {1: CAP + 1}), ("((((R)65536)65536)0 U)3", {0: CAP}),
     # 64 deep: the innermost group, its leaf, one in the middle, the outermost
-    (DEEP_TEXTS[0], {63: 0}), (DEEP_TEXTS[0], {64: 2}), (DEEP_TEXTS[0], {31: 2}), (DEEP_TEXTS[0], {0: 2}), (DEEP_TEXTS[2], {32: HELD + 1}), (DEEP_TEXTS[2], {33: HELD}), (DEEP_TEXTS[4], {63: 1}), (DEEP_TEXTS[5], {63: 1}), (DEEP_TEXTS[11], {63: 1}),
+    (DEEP_TEXTS[0], {63: 0}), (DEEP_TEXTS[0], {64: 2}), (DEEP_TEXTS[0], {31: 2}), (DEEP_TEXTS[0], {0: 2}), (DEEP_TEXTS[2], {32: CAP + 1}), (DEEP_TEXTS[2], {33: CAP}), (DEEP_TEXTS[4], {63: 1}), (DEEP_TEXTS[5], {63: 1}), (DEEP_TEXTS[11], {63: 1}),
 )
 
 
 def wrong_tree(text, counts):
-    """The tree of a text with other counts stored."""
+    """Gives the tree of a text with other counts stored."""
     tree = tree_of(text.encode())
     for number, count in counts.items():
         tree = trees.set_in(tree, number, "count", count)
@@ -111,7 +111,7 @@ REPEATS = ("", "2", "3'", "5", "7", "0", "11'", "13")
 
 
 def lists_of(records, first=0):
-    """Every list of so many records, a group's own among them; the repeats of groups take turns, so that each sum tells which lists went into it."""
+    """Gives every list of so many records, those inside groups included. The repeats of groups take turns, so that each sum tells which lists went into it."""
     if records == 0:
         yield ""
         return
@@ -122,7 +122,7 @@ def lists_of(records, first=0):
 
 
 def nodes_of(records, first):
-    """Every leaf, group, commutator and conjugate of so many records, the one in front with this number."""
+    """Gives every leaf, group, commutator and conjugate of so many records; `first` is the number of its first record."""
     if records == 1:
         yield "RUFDLB"[first % 6]
     times = REPEATS[first % len(REPEATS)]
@@ -136,7 +136,7 @@ def nodes_of(records, first):
 
 
 def passed():
-    """Reading alone, on the texts above, on all trees of up to three records, and on every 11th of four."""
+    """Asks reading alone, on the texts of PASSED, on all trees of up to three records, and on every 11th of four."""
     small = [text for records in range(4) for text in lists_of(records)]
     for text in (*PASSED, *small, *list(lists_of(4))[::11]):
         data = text.encode()
@@ -146,7 +146,7 @@ def passed():
 
 
 def sought():
-    """Every place where groups are passed over by their counts, 0 among them, and about the borders of large ones."""
+    """Asks for every place of texts in which groups are passed over by their counts, some of which are 0, and for places about the borders of large groups."""
     for text in ("(R)3 [U, F]2 ()5 (D)0 (L)2' B", "((()5 R (U)0)3 [(F)2, (L)0])2'", "[(R)2: (U F)2' ()]3'", "(^(R)5)0 U ([^(F), D]0 L)2", "(((R)65536)65536)0 U [(((F)65536)65536)0: D]"):
         for place in range(n.count(n.read(text.encode(), n.MAXIMAL)) + 1):
             yield line_of(SEEK, text, number=place)
@@ -157,39 +157,39 @@ def sought():
 
 
 def chosen():
-    """Every entry is asked every one of these, with a buffer to spare and without any."""
+    """Asks every entry with every tree of CHOSEN, some of them without any buffer."""
     for entry in ENTRIES:
         for i, (text, counts) in enumerate(CHOSEN):
             yield refused_6(entry, text, wrong_tree(text, counts), layers=5, room=0 if i % 3 == 0 else None)
 
 
 def other_values(true):
-    """Wrong counts for a group of so many steps: one off, held or not, wrapped, and the usual suspects."""
-    right = min(true, HELD)
-    found = {right + 1, right - 1, 0, 1, HELD, HELD - 1, HELD + right, true, true % HELD}
+    """Gives wrong counts for a group of so many steps: one off, capped or not, wrapped at the cap, 0 and 1."""
+    right = min(true, CAP)
+    found = {right + 1, right - 1, 0, 1, CAP, CAP - 1, CAP + right, true, true % CAP}
     return sorted({value % (1 << WIDTH) for value in found} - {right})
 
 
 def every_record():
-    """Each record of each text with a wrong count, and single bits of the field: counting is asked all of them."""
+    """Asks counting with each record of each text wrong in its count, and with single bits of the field changed."""
     for text in (*LEAVES, *GROUPS, *NISS, *LARGE):
         tree = tree_of(text.encode())
         for number, true in enumerate(trees.true_counts(tree)):
             leaf = n.unpack(trees.records(tree)[number])["kind"] >= n.ROTATION
             for value in (0, 2) if leaf else other_values(true):
                 yield refused_6(COUNT, text, trees.set_in(tree, number, "count", value))
-    for text, number, right in (("R", 0, 1), ("((R U)3 F)2", 1, 6), ("((R)65536)65536", 0, HELD), ("^(R)", 0, 0)):
+    for text, number, right in (("R", 0, 1), ("((R U)3 F)2", 1, 6), ("((R)65536)65536", 0, CAP), ("^(R)", 0, 0)):
         for bit in range(WIDTH):
             yield refused_6(COUNT, text, wrong_tree(text, {number: right ^ 1 << bit}))
 
 
 def order():
-    """1 and 2 come before a wrong count, and it comes before 7, 8, 9, 10, 11, 12 and 5."""
+    """Refusal 2 comes before a wrong count, and that comes before 7, 8, 9, 10, 11, 12 and 5. A text of 65,536 bytes is accepted, and its tree is refused 6."""
     leaf = trees.move(count=2)
     for entry in ENTRIES:
         for text in (b"R" * 65536, b"R\xff"):
             yield line_of(entry, text, leaf, layers=0, number=9, room=0)
-        for text, counts in (("R ^(U)", {0: 2}), ("^(U)0 R", {2: 0}), ("((-2147483648,0))'", {0: 2}), ("(-2147483648,0)", {0: 0}), ("((R)65536)65536 U", {3: 0}), ("((R)65536)65536 ^(U)", {0: HELD + 1})):
+        for text, counts in (("R ^(U)", {0: 2}), ("^(U)0 R", {2: 0}), ("((-2147483648,0))'", {0: 2}), ("(-2147483648,0)", {0: 0}), ("((R)65536)65536 U", {3: 0}), ("((R)65536)65536 ^(U)", {0: CAP + 1})):
             tree = wrong_tree(text, counts)
             for number, layers, room in ((0, 0, 0), (0, 5, None), (99, 5, 0), (1 << 63, 32768, None)):
                 yield refused_6(entry, text, tree, number=number, layers=layers, room=room)

@@ -1,4 +1,4 @@
-"""Stored vectors for the entries that take a text and a tree.
+"""Makes the stored vectors for the entries that take a text and a tree.
 
 A case is a line: a letter for the entry (below), length of the lent buffer (6 hex digits), place or record (16 hex digits), `max_layer` (8
 hex digits), whether negatives are allowed (0 or 1), the text's segments, `|`, the tree's segments. The answer's value is the count of bytes
@@ -22,7 +22,7 @@ def tree_of(text):
 
 
 def call(entry, text, tree, number, layers, negatives, room):
-    """What an entry counts and writes. Raises Refused, 5 too where there is a room."""
+    """Gives what an entry counts and what it writes. It raises Refused, with 5 too where the room is given."""
     if entry == COUNT:
         return n.count_steps(text, tree), b""
     if entry == NAME:
@@ -88,7 +88,7 @@ LARGE = (
 
 
 def towers():
-    """Nesting."""
+    """Texts with groups nested up to 64 deep."""
     yield "(" * 64 + "R" + ")" * 64
     yield "(" * 64 + "R" + ")'" * 64
     yield "(" * 63 + "R" + ")'" * 63
@@ -106,7 +106,7 @@ def broken():
     # length
     for tree in (r[:-1], r + b"\0", r[:1], r + r[:-1], bytes(n.RECORD - 1), r * 3 + b"\x70"):
         yield "R", tree
-    # records of other sizes, as they were before requests 2 and 10: one, and so many that the length is right
+    # records of other sizes: one, and so many that the length is a multiple of a record's
     for size in (25, 30):
         yield "R", r[:size]
         yield "R", r[:size] * n.RECORD
@@ -179,7 +179,7 @@ def broken():
 
 
 def unused():
-    """Each field that a kind does not use, set alone: its last bit, and its first."""
+    """Sets each field that a kind does not use, alone: to its last bit, and to its first."""
     for kind in range(15):
         fields = {"number": 1} if kind in (*range(8), n.PAIR) else {}
         fields.update({"family_size": 1} if kind == n.MOVE else {})
@@ -212,7 +212,8 @@ def odd():
 
 
 def shared(entry, **more):
-    """Texts and trees that every entry is asked: refusals 1, 2 and 6, their order, and limits."""
+    """Texts and trees that every entry is asked: refusal 6 by each rule of a well-formed tree, refusal 2, 2 before 6, well-formed trees that reading does not
+    give, and texts, parts and lists about and past 65,535. (Refusal 1 is met in tests/host/long.c: such a text does not fit the program's stack.)"""
     for text, tree in (*broken(), *odd()):
         yield line_of(entry, text, with_counts(tree), **more)
     r = move()
@@ -225,14 +226,14 @@ def shared(entry, **more):
 
 
 def rooms(entry, text, number=0, layers=0):
-    """Buffers: none, one byte short, exact, larger."""
+    """Lends buffers of no bytes, one byte short, exact and larger."""
     size = len(call(entry, text.encode(), tree_of(text.encode()), number, layers, False, None)[1])
     for room in sorted({0, 1, size - 1, size, size + 1, size + 60} - {-1}):
         yield line_of(entry, text, number=number, layers=layers, room=room)
 
 
 def numbers(text):
-    """Records of a text: each, some past the end, and those whose offset in bytes does not fit 64 bits."""
+    """Gives numbers of records to ask for: each of a text, some past the end, and those whose offset in bytes does not fit 64 bits."""
     size = len(tree_of(text.encode())) // n.RECORD
     return (*range(size + 2), (1 << 16) + 1, 1 << 32, (1 << 64) // n.RECORD + 1, 1 << 63, (1 << 64) - 1)
 

@@ -1,4 +1,4 @@
-"""The lister program of document 01 in plain Python, over the reference beside this file. Written from the paper alone."""
+"""The lister program of document 01 in plain Python, over the reference beside this file. It was written from the paper alone."""
 import itertools
 
 import notation as n
@@ -8,7 +8,7 @@ SHOWN = 1000
 
 
 def steps(nodes, known, inverted=False):
-    """The steps one by one, so that the first of very many can be had. `known` has the counts of the groups met so far."""
+    """Gives the steps one by one, so that the first of very many can be had. `known` has the counts of the groups met so far."""
     for node in reversed(nodes) if inverted else nodes:
         if not node.lists:
             yield n.undo(node) if inverted else node
@@ -51,7 +51,7 @@ def lines(text, features):
 
 
 def lister(data):
-    """What the program writes for what it reads."""
+    """Gives what the program writes for what it reads."""
     features = {b"w\n": n.WCA, b"m\n": n.MAXIMAL}.get(data[:2])
     text = data[2:]
     if features is None or len(text) > MOST_TEXT:

@@ -1,5 +1,5 @@
 #!/usr/bin/env python3
-"""Holds the built lister against the reference: lister_cases.py PROGRAM [SEED]. Prints how many inputs were run and each that differs."""
+"""Compares the built lister with the one in Python (lister.py): lister_cases.py PROGRAM [SEED]. Prints how many inputs were run and each that differs."""
 import random
 import subprocess
 import sys
@@ -11,14 +11,14 @@ WORD = b"m\n"
 
 
 def filled(start, unit, end):
-    """A text of as many bytes as the lister takes, or a few less: as many units as fit between a start and an end."""
+    """Gives a text of as many bytes as the lister takes, or a few less: as many units as fit between a start and an end."""
     return start + unit * ((lister.MOST_TEXT - len(start) - len(end)) // len(unit)) + end
 
 
 def heavy():
-    """Inputs over which a lister takes long, with names. The first was the worst found where each of 1,000 steps is sought by itself and seeking counts all that a group
-    holds again at each level: some 1.5 seconds before request 2. Lists that are passed over hold no step, a commutator is visited twice on the way in, and 31 of
-    them are as many as 4,294,967,295 steps allow."""
+    """Gives inputs over which a lister takes long, with names. The first is the worst one found for a lister that seeks each of 1,000 steps by itself and counts the
+    contents of a group again at each level: the lists that are passed over have no step, a commutator is visited twice on the way in, and 31 of them are as many as
+    4,294,967,295 steps allow."""
     empty = b"((((((())))))) "
     yield "empty groups, 64 deep", WORD + filled(b"[" * 31 + b"(" * 26, empty, b"R" + b")" * 26 + b",]" * 31)
     yield "empty commutators, 64 deep", WORD + filled(b"(" * 63, b"[,] ", b"R" + b")" * 62 + b")1000")

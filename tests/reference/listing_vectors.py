@@ -1,4 +1,4 @@
-"""Stored vectors for `listing::list`: the fixed inputs of lister_cases.py. A case is a line like those of entry_vectors.py with the letter `o`,
+"""Makes the stored vectors for the lister's listing, of the fixed inputs of lister_cases.py. A case is a line like those of entry_vectors.py with the letter `o`,
 the whole input of the lister as its text and no tree."""
 import lister
 import lister_cases

@@ -1,5 +1,5 @@
-"""Stored vectors for long texts and long lists (document 02, request 10): what fields of 16 bits would lose, in every part and every entry. Offsets and lengths
-over 65,535 of family, constraints and layer set; lists of over 65,535 records, flat, in a group and in each list of a commutator or a conjugate; and trees
+"""Makes the stored vectors for long texts and long lists (document 02, request 10): what fields of 16 bits would lose, in every part and every entry. They have offsets and
+lengths over 65,535 of family, constraints and layer set; lists of over 65,535 records, flat, in a group and in each list of a commutator or a conjugate; and trees
 that are wrong only in the third byte of a field.
 
 The lines are those of reading_vectors.py and entry_vectors.py. Texts at the limit itself do not fit the program's stack; tests/host/long.c has them.
@@ -35,19 +35,19 @@ def read(text):
 
 
 def asked(entry, text, tree, **more):
-    """An entry with as much room as can be lent where it writes a list."""
+    """Asks an entry; unrolling gets as much room as the program can lend."""
     if entry == FLATTEN:
         return line_of(entry, text, tree, room=ROOM, **more)
     return line_of(entry, text, tree, layers=9, negatives=True, **more)
 
 
 def about(total):
-    """Places and records about the border of 16 bits and about the end."""
+    """Gives places or records about the border of 16 bits and about the end."""
     return sorted({k for k in (0, PAST - 1, PAST, PAST + 1, total - 1, total) if 0 <= k})
 
 
 def every_entry(text, tree):
-    """Every entry; seeking at places, layers and families of records about the borders."""
+    """Asks every entry; seeking for places, and layer ranges and families of records, about the borders."""
     for entry in (PRINT, INV, DEEP, COUNT, FLATTEN):
         yield asked(entry, text, tree)
     counts = trees.true_counts(tree)
@@ -59,7 +59,7 @@ def every_entry(text, tree):
 
 
 def outer(tree):
-    """The records of the outermost list."""
+    """Gives the numbers of the records of the outermost list."""
     at, found = 0, []
     records = trees.records(tree)
     while at < len(records):
@@ -83,7 +83,7 @@ def texts():
 
 
 def lists():
-    """Trees of many records over a short text."""
+    """Asks every entry with trees of many records over a short text."""
     r = trees.move()
     group = functools.partial(trees.rec, n.SIMPLE)
     for tree in (r * 70000, group(number=-1, first=MANY) + r * (MANY + 1), trees.rec(n.COMMUTATOR, number=1, first=MANY, second=2) + r * (MANY + 3),
@@ -93,7 +93,7 @@ def lists():
 
 
 def wrong():
-    """Refused 6 by every entry; with the third byte of one field left out, each would be right."""
+    """Asks every entry with trees that it must refuse 6, each of which would be well formed without the third byte of one field."""
     r, group = trees.move(), trees.rec(n.SIMPLE, number=1, first=1)
     binary = trees.rec(n.COMMUTATOR, number=1, first=1, second=1)
     found = (
@@ -112,7 +112,7 @@ def wrong():
                 line, said = asked(entry, text, trees.set_in(tree, 0, name, right + third * PAST))
                 assert said == "refused 6", (text, name)
                 yield line, said
-    # past the end by one, at the end, of a list that is long
+    # the list of a group that ends before, at and past the end of a long tree
     many = trees.move() * MANY
     for first in (MANY - PAST, MANY - 1, MANY, MANY + 1, MANY + PAST, (1 << 24) - 1):
         yield asked(COUNT, "R", trees.with_counts(trees.rec(n.SIMPLE, number=3, first=first) + many))

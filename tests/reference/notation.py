@@ -1,7 +1,7 @@
-"""Document 01 once more, in plain Python: a reader, packed trees, inverses, printing, unrolling and layer ranges; of document 02 request 2, the
+"""The rules of document 01 in plain Python: a reader, packed trees, inverses, printing, unrolling and layer ranges; and of document 02 request 2, the
 counts that records store, request 10, the longer texts, request 6, the curly primes, and request 3, the layers of a tilde.
 
-Written from the papers alone, as ordinary recursive descent over decoded characters, to make the expected output of the stored vectors.
+It is written from the papers, as ordinary recursive descent over decoded characters, to make the expected output of the stored vectors.
 Nothing in it is shared with the Rattle code or with the definitions in crates/notation/specs.
 """
 
@@ -19,7 +19,7 @@ WHITE = set([*range(0x9, 0xE), 0x20, 0x85, 0xA0, 0x1680, *range(0x2000, 0x200B),
 LEAST = -2147483648
 MOST_TEXT = 16777215  # a longer text is refused 1
 MOST_STEPS = 4294967295  # a longer list is refused 9
-HELD = 4294967296  # what a record stores for every count above
+CAP = 4294967296  # what a record stores for every count above MOST_STEPS
 
 # The packed record: its fields in order with their bits, most significant bit first.
 FIELDS = (("kind", 4), ("tilde", 1), ("form", 2), ("constrained", 1), ("first", 24), ("second", 24), ("number", 32), ("d", 32),
@@ -285,7 +285,7 @@ class Reader:
 
 
 def check_text(text):
-    """Refusals 1 and 2."""
+    """Raises Refused 1 and 2."""
     if len(text) > MOST_TEXT:
         raise Refused(1)
     try:
@@ -295,7 +295,7 @@ def check_text(text):
 
 
 def check_nesting(text):
-    """Refusal 3."""
+    """Raises Refused 3."""
     level = 0
     for b in text:
         level += (b in b"([") - (b in b")]")
@@ -332,8 +332,8 @@ def count(nodes):
 
 
 def stored_count(n):
-    """The count field of a record: its own steps, repeats included, held at 4,294,967,296."""
-    return min(count([n]), HELD)
+    """Gives the count field of a record: its own steps, repeats included, capped at 4,294,967,296."""
+    return min(count([n]), CAP)
 
 
 def fields_of(n):
@@ -459,7 +459,7 @@ class Tree:
         return nodes
 
     def counted(self, n, f):
-        """A node whose record stores its count, wherever it stands: inside NISS groups and groups of multiplier 0 too."""
+        """Gives the node if its record stores its count, which is asked inside NISS groups and groups of multiplier 0 too."""
         self.need(f["count"] == stored_count(n))
         return n
 
@@ -571,7 +571,7 @@ def show_list(nodes):
 
 
 def repeated(n, inverted):
-    """What a group repeats: lists with their directions, in order."""
+    """Gives what a group repeats: its lists with their directions, in order."""
     d = inverted != (n.number < 0)
     if n.kind == COMMUTATOR:
         a, b = n.lists[::-1] if d else n.lists
@@ -588,7 +588,7 @@ def unroll(nodes, inverted=False):
 
 
 def steps(nodes, inverted):
-    """The same where nothing is refused. A group that counts 0 is passed over: in 64 conjugates with nothing in them it saves 2^64 visits."""
+    """Gives the unrolled list where nothing is refused. A group that counts 0 is passed over: in 64 conjugates with nothing in them that saves 2^64 visits."""
     out = []
     for n in reversed(nodes) if inverted else nodes:
         if not n.lists:
@@ -667,7 +667,7 @@ def given_ranges(n, layers, negatives):
 
 
 def runs(layers):
-    """A set of layers as ranges: each begins and ends where the layer next to it is not in the set."""
+    """Gives a set of layers as ranges: each begins and ends where the layer next to it is not in the set."""
     first = sorted(i for i in layers if i - 1 not in layers)
     last = sorted(i for i in layers if i + 1 not in layers)
     return list(zip(first, last))
@@ -682,7 +682,7 @@ def ranges(n, layers, negatives):
     return runs(set(range(1, layers + 1)) - given)
 
 
-# The entries that take a text and a tree. Each gives what it writes (bytes), or raises Refused; `lend` is left to the caller.
+# The entries that take a text and a tree follow. Each gives what it writes (bytes), or raises Refused; the caller calls `lend`.
 
 
 @functools.lru_cache(4)
@@ -693,7 +693,7 @@ def opened(text, tree):
 
 
 def lend(written, room, size=1):
-    """Refusal 5: `room` bytes hold room // size entries."""
+    """Gives what an entry writes, or raises Refused 5 where it does not fit: `room` bytes have room for room // size entries."""
     if len(written) // size > room // size:
         raise Refused(5)
     return written
@@ -721,7 +721,7 @@ def count_steps(text, tree):
 
 
 def flatten(text, tree, room=None):
-    """With a room, refusal 5 is told by the count, so that a long list need not be made."""
+    """Gives the unrolled list as records. Where the room is given, the count decides refusal 5, so that a long list need not be made."""
     n = count_steps(text, tree)
     if room is not None and RECORD * n > room:
         raise Refused(5)
@@ -735,7 +735,7 @@ def seek_step(text, tree, place):
 
 
 def in_order(nodes):
-    """Every record, as numbered."""
+    """Gives every node in the order of the records' numbers."""
     for n in nodes:
         yield n
         for l in n.lists:
@@ -750,7 +750,7 @@ def record_at(nodes, number, kinds):
 
 
 def simplify(text, tree, number, max_layer, negatives):
-    """Four bytes for each range."""
+    """Gives the layer ranges of a move, four bytes for each."""
     nodes = opened(text, tree)
     if not 1 <= max_layer <= 32767:
         raise Refused(11)

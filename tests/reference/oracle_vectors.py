@@ -1,8 +1,8 @@
-"""Stored vectors whose answers are the Rust's: tests/oracle/sample.tsv, made by tests/oracle/compare.rs.
+"""Makes the stored vectors whose answers are the Rust's, from tests/oracle/sample.tsv, which tests/oracle/compare.rs made.
 
-Of each text the listing is replayed (printed, shallow inverse, number of steps, steps), the deep inverse as text (letter `x`) and layer ranges. Only the tree
-that a call takes is the reference's, and with it which moves have a tilde; no answer is. The Rust's `simplify` knows no tilde: where a move has one, its ranges are those of the prefix without it, and
-the answer is what they leave (document 02, request 3), found by `left`.
+Of each text the cases ask for the listing (printed text, shallow inverse, number of steps, steps), for the deep inverse as text (letter `x`) and for layer
+ranges. The reference makes only the tree that a call takes, and with it says which moves have a tilde; it makes no answer. The Rust's `simplify` knows no tilde:
+where a move has one, the sample has the ranges of the prefix without it, and the answer is the layers that they leave (document 02, request 3), found by `left`.
 """
 import os
 import re
@@ -26,7 +26,7 @@ def field(answer):
 
 
 def listed(data, printed, inverse, steps):
-    """The listing's case. Of the parts of a step only the numbers of a pair are parted by a space, which follows a comma."""
+    """Gives the case of the listing. The steps of the sample are separated by spaces; inside a step only a pair has one, after its comma."""
     out = ["text " + printed, "inverse " + inverse]
     if field(steps) is None:
         count, _, shown = steps.partition(" ")
@@ -40,7 +40,7 @@ def listed(data, printed, inverse, steps):
 
 
 def left(pairs, layers):
-    """The layers that no range has, as ranges: a picture of the axis, with a dot for each of them."""
+    """Gives the layers that no range has, as ranges, by a string with one character for each layer and a dot for each of these."""
     axis = ["."] * layers
     for low, high in pairs:
         axis[low - 1:high] = "x" * (high - low + 1)
@@ -48,7 +48,7 @@ def left(pairs, layers):
 
 
 def ranged(data, nodes, case):
-    """The case of one move's layer ranges."""
+    """Gives the case of one move's layer ranges."""
     record, layers, negatives, found = (case + " ").split(" ")[:4]
     pairs = [tuple(map(int, part.split("-"))) for part in found.split(",") if part]
     if list(n.in_order(nodes))[int(record)].tilde:

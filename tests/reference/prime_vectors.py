@@ -1,4 +1,4 @@
-"""Stored vectors for curly primes (document 02, request 6): U+2019 and U+2032 where a multiplier takes them and where nothing does, cut and look-alike signs, every
+"""Makes the stored vectors for curly primes (document 02, request 6): U+2019 and U+2032 where a multiplier takes them and where nothing does, cut and look-alike signs, every
 setting of the eight flags, offsets behind signs, long and deep texts; what the other entries make of trees over such texts, parts that hold a sign (refused 6),
 and `agree`.
 
@@ -22,7 +22,7 @@ ENTRIES = (PRINT, INV, DEEP, COUNT, FLATTEN, SEEK, LAYERS, NAME)
 
 
 def read(bits, text, room=ROOM):
-    """A reading. With the flag on both ways of reading are held against each other."""
+    """Gives a call of reading with its answer. With the flag on, both ways of reading are compared with each other first."""
     data = text.encode() if isinstance(text, str) else text
     if bits & FLAG:
         read_both(data, n.features_of(bits))
@@ -43,7 +43,7 @@ def rejected(bits, text, number=4):
 
 
 def each_way(text):
-    """The text with its apostrophes as one sign, as the other, and in turns with some kept."""
+    """Gives the text with its apostrophes as one sign, as the other, and as both in turns with some apostrophes kept."""
     ways = {text.replace("'", RIGHT), text.replace("'", PRIME)}
     for start in (0, 1) if text.count("'") > 1 else ():
         parts = text.split("'")
@@ -85,7 +85,7 @@ def signs():
 
 
 def cut():
-    """Bytes of a sign without the others, and what is no shortest form."""
+    """Texts that are not UTF-8: some bytes of a sign without the others, and a sign in a longer form."""
     for sign in (b"\xe2\x80\x99", b"\xe2\x80\xb2"):
         for part in (sign[:1], sign[:2], sign[1:], sign[2:], sign[1:2], sign[::2], sign[:2] + b"'", sign[:1] + b"'", sign[:1] + b" " + sign[1:], sign[:2] + b"\x19", sign + sign[2:], sign + sign[:2], b"\xf0\x82" + sign[1:], sign[:2] + sign[:1]):
             yield rejected(ON, b"R" + part, 2)
@@ -103,12 +103,12 @@ def look_alikes():
         yield rejected(ON, "(R)2" + chr(c) + " U" + PRIME)
 
 
-# A piece that reads only with the flag, a setting's bit; the last two read in every setting.
+# Pieces of text: number i is read only where bit i of the setting is on, but for the last two, which every setting reads.
 PROBES = ("~R'", "{1,-2}R2'", "{1-2}R' {3}U", "@U' @'", "R{A->B}'", "R++ R'", "(1,2) R' /", "(R')' [2-3U', F]'", "3Rw0'")
 
 
 def probe(bits):
-    """A text of all pieces that the other flags of a setting admit."""
+    """Gives a text of all pieces that the flags of a setting admit."""
     admitted = [text for i, text in enumerate(PROBES) if i > 6 or bits >> i & 1]
     if not bits & 2:
         admitted = [text for text in admitted if not text.startswith("{")]
@@ -116,7 +116,7 @@ def probe(bits):
 
 
 def settings():
-    """All 256: a text that all flags but the last one admit, and the piece of one flag."""
+    """Takes all 256 settings: with signs, a text that the setting admits but for the signs, and one piece that may need a flag that is off."""
     for bits in range(256):
         text = probe(bits)
         curly = "".join(n.CURLY[(bits + i) % 2] + part if i else part for i, part in enumerate(text.split("'")))
@@ -126,7 +126,7 @@ def settings():
 
 
 def unchanged():
-    """Texts without such signs: what the flag is does not matter."""
+    """Reads texts without such signs, on which the flag changes nothing."""
     texts = (*PROBES[:7], "R''", "R'2", "(1,0)'", "'", "R\u2018", "α'", "R2147483648'")
     for bits in range(128):
         text = texts[bits // 2 % len(texts)] if bits % 2 else probe(bits)
@@ -187,7 +187,7 @@ def long_texts():
 
 
 def curled(text):
-    """Each apostrophe by chance as a sign."""
+    """Gives the text with each apostrophe replaced by a sign or kept, at random."""
     return "".join(random.choice(n.CURLY + "'") if c == "'" else c for c in text)
 
 
@@ -206,7 +206,7 @@ TREES = (
 
 
 def entries():
-    """What the other entries make of a tree that was read from curly text."""
+    """Asks the other entries with trees that were read from texts with signs."""
     for text in TREES:
         curly = curled(text.replace("'", RIGHT, 1)).encode()
         tree = n.pack(n.read(curly, n.features_of(ON)))
@@ -225,7 +225,7 @@ def entries():
 
 
 def wrong():
-    """Parts that cover a prime, of any kind, or end inside one. No flag is handed to these entries, and none would help."""
+    """Trees that are not well formed, because a part covers a prime of any kind or ends inside one. The entries that take a tree take no flags."""
     move, rotation = trees.move, lambda **fields: trees.rec(n.ROTATION, number=1, **fields)
     for text, make in (("R' U", move), ("@R'", rotation)):
         at = text.index("R")
@@ -262,7 +262,7 @@ def parts():
 
 
 def agreed():
-    """Demand 3 with the flag on: the printed inverse has apostrophes, and is read back under the same setting."""
+    """Asks `agree` with the flag on: the printed inverse has apostrophes, and is read back under the same setting."""
     held = 0
     for text in (*TREES, *FAR, *(curled(well_made(3)) for _ in range(30))):
         curly = curled(text)

@@ -1,4 +1,4 @@
-"""Stored vectors for reading.
+"""Makes the stored vectors for reading.
 
 A case is a line: `r`, features (2 hex digits, bit i the i-th flag of notation.FLAGS), length of the lent buffer (6 hex digits), then the
 text's segments. The answer's value is the count of bytes used, and its bytes the tree.

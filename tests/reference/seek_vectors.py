@@ -1,7 +1,7 @@
-"""Stored vectors for seeking as a loop (document 02, request 8): what a loop that keeps the remaining place and the direction could get wrong. Every place of
-groups in groups, by every list and in every direction; several groups before the place in a list that is entered; repeats at their borders; the deepest places.
+"""Makes the stored vectors for seeking (document 02, request 8), which is a loop that keeps the remaining place and the direction. They have every place of groups in
+groups, by every list and in every direction; several groups before the place in a list that is entered; repeats at their borders; and the deepest places.
 
-The lines are those of entry_vectors.py. Where the list is short enough the answer is an entry of the unrolled list, whatever the reference's own seeking says.
+The lines are those of entry_vectors.py. Where the list is short enough, the reference's seeking is asserted to give the entry of the unrolled list.
 """
 import notation as n
 from entry_vectors import SEEK, line_of, tree_of
@@ -28,7 +28,7 @@ DEEP = (
 
 
 def every_place(text):
-    """Each place and the one after the last; the answers are those of the unrolled list."""
+    """Asks for each place and the one after the last, and asserts that the reference's answers are those of the unrolled list."""
     data = text.encode()
     tree = tree_of(data)
     steps = n.flatten(data, tree)

@@ -1,19 +1,19 @@
-"""Request 6 of document 02 by its own sentence: with `curly_primes` on, a text is read as, with it off, the text in which an apostrophe replaces each curly sign,
+"""Reads texts with curly primes by the sentence of request 6 of document 02: with `curly_primes` on, a text is read as, with it off, the text in which an apostrophe replaces each curly sign,
 and limits 1 and 3 and all offsets are those of the text as given.
 
 notation.py has the other half, "admits both as `'` in a multiplier", in its rule for multipliers. Here that rule is never asked for a sign: the text is changed
-before it is read, and the offsets are mapped afterwards. `read_both` holds the two against each other.
+before it is read, and the offsets are mapped afterwards. `read_both` compares the two.
 """
 import notation as n
 
 
 def straight(s):
-    """The characters of a text with an apostrophe for each sign."""
+    """Gives the characters of a text with an apostrophe for each sign."""
     return "".join("'" if c in n.CURLY else c for c in s)
 
 
 def given_offsets(s):
-    """For each offset of the straight text at which a character begins or the text ends, the offset in the text as given."""
+    """Gives, for each offset of the straight text at which a character begins or the text ends, the offset in the text as given."""
     found, at, straight_at = {}, 0, 0
     for c in s:
         found[straight_at] = at
@@ -24,7 +24,7 @@ def given_offsets(s):
 
 
 def moved(node, given):
-    """A node of the straight text with its parts where the text as given has them."""
+    """Gives a node of the straight text with its parts where the text as given has them."""
 
     def part(span):
         a, size = span
@@ -38,7 +38,7 @@ def moved(node, given):
 
 
 def read_as_straight(text, features):
-    """The nodes by the sentence; raises Refused 1, 2 and 3 by the text as given, and 4."""
+    """Gives the nodes by that sentence. It raises Refused 1, 2 and 3 by the text as given, and 4 by the straight text."""
     n.check_text(text)
     n.check_nesting(text)
     s = text.decode()
@@ -47,7 +47,7 @@ def read_as_straight(text, features):
 
 
 def told(read, text, features):
-    """All that a reading tells: its records, and what it prints; or the number of its refusal."""
+    """Gives all that a reading tells: its records and what they print, or the number of its refusal."""
     try:
         nodes = read(text, features)
     except n.Refused as r:

@@ -1,6 +1,6 @@
-"""Stored vectors for layer ranges with a tilde (document 02, request 3): the layers from 1 to `max_layer` that the same prefix without the tilde does not give.
+"""Makes the stored vectors for layer ranges with a tilde (document 02, request 3): the layers from 1 to `max_layer` that the same prefix without the tilde does not give.
 
-The lines are those of entry_vectors.py, letter `l`. Wherever a prefix is asked here, the reference's two answers, with the tilde and without, are held against each
+The lines are those of entry_vectors.py, letter `l`. Wherever a prefix is asked here, the reference's two answers, with the tilde and without, are compared with each
 other: each layer is in exactly one of them, both are sorted with no two ranges touching, and what is left by the one answer, written as a layer set, is the other.
 """
 import random
@@ -15,7 +15,7 @@ AXES = (1, 2, 3, 5, 9, 127, 128, 129, MOST - 1, MOST)
 
 
 def found(prefix, layers, negatives):
-    """The reference's answer for a prefix, as pairs."""
+    """Gives the reference's answer for a prefix, as pairs."""
     return n.ranges(n.read((prefix + "R").encode(), n.MAXIMAL)[0], layers, negatives)
 
 
@@ -24,7 +24,7 @@ def as_set(ranges):
 
 
 def hold(prefix, layers, negatives):
-    """What must hold of the two answers for a prefix, which has no tilde."""
+    """Asserts what must hold of the two answers, with a tilde and without, for a prefix that is given without one."""
     plain, other = found(prefix, layers, negatives), found("~" + prefix, layers, negatives)
     lit = [i for low, high in plain + other for i in range(low, high + 1)]
     assert sorted(lit) == list(range(1, layers + 1)), (prefix, layers)
@@ -39,13 +39,13 @@ def tilde(prefix, layers, negatives=True, room=None):
 
 
 def both(prefix, layers, negatives=True, room=None):
-    """A prefix with the tilde and without."""
+    """Asks for a prefix with the tilde and without."""
     yield tilde(prefix, layers, negatives, room)
     yield line_of(LAYERS, prefix + "R", layers=layers, negatives=negatives, room=room)
 
 
 def examples():
-    """The request's own, and some more; the answers are put down by hand."""
+    """The examples of the request, and some more; the answers are put down by hand."""
     for prefix, layers, shown in (("2", 5, [(1, 1), (3, 5)]), ("", 1, []), ("{5..9}", 3, [(1, 3)]), ("", 5, [(2, 5)]), ("{-1}", 5, [(1, 4)]), ("{}", 5, [(1, 5)]), ("6", 5, [(1, 5)]), ("1-5", 5, [])):
         assert found("~" + prefix, layers, True) == shown, prefix
         yield from both(prefix, layers)
@@ -54,7 +54,7 @@ def examples():
 
 
 def about(last):
-    """Prefixes of each form at, below and beyond the last layer, as far as a layer number goes."""
+    """Gives prefixes of each form at, below and beyond the last layer, as far as a layer number goes."""
     near = [i for i in (1, 2, last - 1, last, last + 1, last + 2) if 1 <= i <= MOST]
     yield ""
     yield from (f"{i}" for i in near)
@@ -74,7 +74,7 @@ def forms():
                 yield tilde(prefix, last, False)
 
 
-# In any order, overlapping, touching, reversed, again and again; the last ones hold what stays out of all but long axes.
+# Layer sets in any order, overlapping, touching, reversed and repeated; of the last ones most elements lie past the end of all but long axes.
 SETS = (
     "{3,1,2}", "{5,1}", "{1,3,5}", "{2,4}", "{4,2,4,2}", "{1..2,3..4}", "{3..4,1..2}", "{1..3,2..5}", "{2..5,1..3}", "{5..1}", "{4..2}", "{2-4}", "{4-2}", "{ 2 , 4 }", "{1,2,3,4,5}", "{5,4,3,2,1}", "{1..2,4..5}",
     "{1,2,4,5}", "{3}", "{3..3}", "{1..5,3}", "{-1,-3,-5}", "{-2..2}", "{2..-2}", "{-1..1}", "{-9..2}", "{2..9,-9..-8}", "{1,-1,2,-2}", "{-3..-3}", "{7,9,8}", "{100..120,121..127}", "{127}", "{128}", "{129}", "{126..129}", "{1..126,128}",
@@ -91,12 +91,12 @@ def sets():
 
 
 def listed(first, last):
-    """A layer set of every second layer."""
+    """Gives a layer set of every second layer."""
     return "{" + ",".join(map(str, range(first, last + 1, 2))) + "}"
 
 
 def alternate():
-    """Every second layer, on axes about the borders of the tables; the answer has one range less, as many or one more than without the tilde."""
+    """Takes every second layer, on axes about the borders of the tables. The answer has one range less, as many or one more than without the tilde."""
     for last in (3, 4, 5, 9, 10, 127, 128, 129, 300):
         for prefix in dict.fromkeys((listed(1, last), listed(2, last), listed(3, last), listed(1, last - 1), listed(2, last + 2))):
             yield tilde(prefix, last)
@@ -104,7 +104,7 @@ def alternate():
 
 
 def rooms():
-    """A room is held against the count of the answer itself, which is less or more than without the tilde."""
+    """Lends rooms about the size of the answer, which is less or more than without the tilde, and about the size without it."""
     for prefix, layers in (("2", 5), ("{2,4}", 5), ("{1,3,5}", 5), ("1-5", 5), ("9", 5), ("{}", 3), ("", 1), ("2-3", 9), ("{2,4}", 128), ("{1,3,128}", 128), ("{2..32766}", MOST)):
         counts = [4 * len(found(sign + prefix, layers, True)) for sign in ("~", "")]
         for room in sorted({0, 1, 3, 4, *(c + k for c in counts for k in (-4, -1, 0, 1, 3)), counts[0] + 60} - {-4, -1}):
@@ -126,7 +126,7 @@ def most():
 
 
 def order():
-    """6 before 11 before 12 before 5, and a tilde that a kind does not have is 6."""
+    """Refusal 6 comes before 11, 11 before 12 and 12 before 5; a tilde in a record of another kind than a move is refused 6."""
     r = move(tilde=1)
     yield line_of(LAYERS, b"~R\xff", r, layers=0, number=9, room=0)
     yield line_of(LAYERS, "~R", move(tilde=1, family=1, count=2), layers=0, number=9, room=0)

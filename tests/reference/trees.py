@@ -1,4 +1,4 @@
-"""Packed trees by hand, right or wrong: records by their fields, single fields changed, and counts put in.
+"""Makes packed trees by hand, right or wrong: records by their fields, single fields changed, and counts put in.
 
 Nothing here says what an entry answers; that is notation.py's to say.
 """
@@ -12,12 +12,12 @@ for name, size in n.FIELDS:
 
 
 def records(tree):
-    """Its records; the last one may be short."""
+    """Gives the records of a tree; the last one may be short."""
     return [tree[i:i + n.RECORD] for i in range(0, len(tree), n.RECORD)]
 
 
 def rec(kind, **fields):
-    """A record by its fields, whatever they are. A leaf counts 1; of a group `with_counts` finds the count."""
+    """Gives a record with these fields, whatever they are. A leaf stores the count 1; that of a group is put in by `with_counts`."""
     return n.packed({"kind": kind, "count": int(kind >= n.ROTATION), **fields})
 
 
@@ -26,7 +26,7 @@ def move(**fields):
 
 
 def set_field(record, name, value):
-    """A whole record with one field changed."""
+    """Gives a whole record with one field changed."""
     shift, size = PLACE[name]
     mask = (1 << size) - 1
     bits = int.from_bytes(record, "big") & ~(mask << shift) | (value & mask) << shift
@@ -34,13 +34,13 @@ def set_field(record, name, value):
 
 
 def set_in(tree, number, name, value):
-    """A tree with one field of one record changed."""
+    """Gives a tree with one field of one record changed."""
     a = n.RECORD * number
     return tree[:a] + set_field(tree[a:a + n.RECORD], name, value) + tree[a + n.RECORD:]
 
 
 def true_counts(tree):
-    """The count of each whole record by its other fields, not held, from the last record to the first. A list that ends past the tree is cut there, so that
+    """Gives the count of each whole record by its other fields, not capped, from the last record to the first. A list that ends past the tree is cut there, so that
     trees with other faults get counts too."""
     parts = [n.unpack(r) for r in records(tree) if len(r) == n.RECORD]
     counts, ends = [1] * len(parts), [i + 1 for i in range(len(parts))]
@@ -64,8 +64,8 @@ def true_counts(tree):
 
 
 def with_counts(tree):
-    """A tree with the counts that its other fields call for, held where they are too large."""
+    """Gives a tree with the counts that its other fields call for, capped where they are too large."""
     parts = records(tree)
     for i, c in enumerate(true_counts(tree)):
-        parts[i] = set_field(parts[i], "count", min(c, n.HELD))
+        parts[i] = set_field(parts[i], "count", min(c, n.CAP))
     return b"".join(parts)

@@ -50,7 +50,8 @@ fn starts_three(a: u32, b: u32) -> bool
 }
 
 fn is_three_bytes(a: u32, b: u32, c: u32) -> bool
-    ensures { λ r. ⌜ r ≡ (between 0xe0 0xef a && between (pick (eqb a 0xe0) 0xa0 0x80) (pick (eqb a 0xed) 0x9f 0xbf) b && continuation c) ⌝ }
+    ensures { λ r. ⌜ r
+        ≡ (between 0xe0 0xef a && between (pick (eqb a 0xe0) 0xa0 0x80) (pick (eqb a 0xed) 0x9f 0xbf) b && continuation c) ⌝ }
 {
     starts_three(a, b) && is_continuation(c)
 }
@@ -64,7 +65,9 @@ fn starts_four(a: u32, b: u32) -> bool
 }
 
 fn is_four_bytes(a: u32, b: u32, c: u32, d: u32) -> bool
-    ensures { λ r. ⌜ r ≡ (between 0xf0 0xf4 a && between (pick (eqb a 0xf0) 0x90 0x80) (pick (eqb a 0xf4) 0x8f 0xbf) b && continuation c && continuation d) ⌝ }
+    ensures { λ r. ⌜ r
+        ≡ (between 0xf0 0xf4 a && between (pick (eqb a 0xf0) 0x90 0x80) (pick (eqb a 0xf4) 0x8f 0xbf) b && continuation c &&
+                continuation d) ⌝ }
 {
     starts_four(a, b) && is_continuation(c) && is_continuation(d)
 }
@@ -204,7 +207,8 @@ pub fn has_curly_prime(s: &[u8], at: usize) -> bool
 // the reads.
 fn all_ascii(s: &[u8], at: usize) -> bool
     requires { ⌜ at ≤ length (now s) ⌝ }
-    ensures { λ r. ⌜ (r ≡ true → (at + 8 ≤ length (now (s .entry))) × (utf8 (drop (at + 8) (now (s .entry))) ≡ utf8 (drop at (now (s .entry))))) ⌝ }
+    ensures { λ r. ⌜ (r ≡ true → (at + 8 ≤ length (now (s .entry))) ×
+            (utf8 (drop (at + 8) (now (s .entry))) ≡ utf8 (drop at (now (s .entry))))) ⌝ }
 {
     if s.len() - at < 8 {
         return false;

@@ -21,7 +21,8 @@ use Rattle.record.specs.Range.{FitsHead}
 use Rattle.record.proofs.RoundTrip.{length-headRecord, headAt-headRecord}
 use Rattle.laws.proofs.Bools.{no-refusal, and-left, and-right}
 use Rattle.laws.proofs.Outcomes.{same-result}
-use Rattle.laws.proofs.Packing.{FitsNode, FitsBody, FitsTree, length-packNode, length-pack}
+use Rattle.laws.specs.Packed.{FitsNode, FitsBody, FitsTree}
+use Rattle.laws.proofs.Packing.{length-packNode, length-pack}
 use Rattle.checked.specs.Checked.{Accepted}
 
 abbrev pub HeadOk : List ℕ → Head → Type 0

@@ -9,8 +9,8 @@ use Rattle.notation.specs.Refusals.{Outcome, result, _>>=_}
 use Rattle.notation.specs.Packed.{unpack}
 use Rattle.notation.specs.WellFormed.{treeOk}
 use Rattle.notation.specs.Entries.{checked, MAX-TEXT, MAX-STEPS}
-use Rattle.laws.proofs.Walking.{Packed}
-use Rattle.laws.proofs.Unrolling.{firstRefusal}
+use Rattle.laws.specs.Packed.{Packed}
+use Rattle.laws.specs.Unrolled.{firstRefusal}
 use Rattle.notation.specs.Counts.{cap, count}
 
 -- how many steps a tree counts, held: refusals 1, 2, 6

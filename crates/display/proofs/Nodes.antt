@@ -17,7 +17,8 @@ use Rattle.notation.specs.declared.common.GroupKind.{GroupKind}
 use Rattle.notation.specs.declared.common.BinaryGroupKind.{BinaryGroupKind}
 use Rattle.record.specs.Meaning.{field, kindAt, NUMBER}
 use Rattle.laws.proofs.Bools.{and-left, and-right}
-use Rattle.laws.proofs.Walking.{Packed, no-node, one-list}
+use Rattle.laws.specs.Packed.{Packed}
+use Rattle.laws.proofs.Walking.{no-node, one-list}
 use Rattle.nodes.specs.Nodes.{IsNode, part, FirstNode, Lists}
 use Rattle.record.proofs.Numbered.{kindOf}
 use Rattle.nodes.proofs.Nodes.{

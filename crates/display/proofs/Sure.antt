@@ -21,8 +21,8 @@ use Rattle.record.specs.Range.{FitsHead}
 use Rattle.record.specs.Meaning.{field, formAt}
 use Rattle.record.proofs.RoundTrip.{length-headRecord, cut-headRecord}
 use Rattle.laws.proofs.Bools.{and-left, and-right}
-use Rattle.laws.proofs.Packing.{FitsNode, FitsBody, FitsTree}
-use Rattle.laws.proofs.Walking.{Packed}
+use Rattle.laws.specs.Packed.{FitsNode, FitsBody, FitsTree}
+use Rattle.laws.specs.Packed.{Packed}
 use Rattle.display.specs.Bound.{allowed}
 use Rattle.nodes.specs.Nodes.{part}
 use Rattle.nodes.proofs.Nodes.{part-rest}

@@ -8,7 +8,7 @@ ghost use Rattle.notation.specs.Basics.{pick};
 ghost use Rattle.notation.specs.Packed.{RECORD as recordSize, widths, cut, unpack};
 ghost use Rattle.notation.specs.WellFormed as wellFormed;
 ghost use Rattle.notation.specs.Print as print;
-ghost use Rattle.laws.proofs.Walking.{Packed};
+ghost use Rattle.laws.specs.Packed.{Packed};
 ghost use Rattle.display.specs.Bound.{allowed};
 use numbers::signed::magnitude;
 use record::RECORD;

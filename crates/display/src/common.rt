@@ -43,7 +43,8 @@ pub(crate) fn put_multiplier(out: &mut [u8], at: usize, bits: u32) -> usize
 // What stands before the list of a group, by the kind of its record.
 pub(crate) fn put_opening(out: &mut [u8], at: usize, kind: u8) -> usize
     requires { ⌜ at ≤ most ⌝ }
-    ensures { λ r. ⌜ ((k : GroupKind) → kind ≡ groupNumber k → Wrote (now (out .entry)) (now (out .exit)) at r (λ rest. putPrefix k (40 ∷ rest))) ⌝ }
+    ensures { λ r. ⌜ ((k : GroupKind) → kind ≡ groupNumber k → Wrote (now (out .entry)) (now (out .exit)) at r
+            (λ rest. putPrefix k (40 ∷ rest))) ⌝ }
 {
     match kind {
         kinds::SIMPLE => put(out, at, b'('),
@@ -65,7 +66,8 @@ fn put_two(out: &mut [u8], at: usize, a: u8, b: u8) -> usize
 // What stands between the lists of a commutator or a conjugate, by the kind of its record.
 pub(crate) fn put_separator(out: &mut [u8], at: usize, kind: u8) -> usize
     requires { ⌜ at ≤ most ⌝ }
-    ensures { λ r. ⌜ ((k : BinaryGroupKind) → kind ≡ binaryNumber k → Wrote (now (out .entry)) (now (out .exit)) at r (putSeparator k)) ⌝ }
+    ensures { λ r. ⌜ ((k : BinaryGroupKind) → kind ≡ binaryNumber k → Wrote (now (out .entry)) (now (out .exit)) at r
+            (putSeparator k)) ⌝ }
 {
     match kind {
         kinds::COMMUTATOR => put_two(out, at, b',', b' '),
@@ -85,7 +87,8 @@ pub(crate) fn put_closing(out: &mut [u8], at: usize, bracket: u8, multiplier: u3
 // A scramble move, by the kind of its record.
 pub(crate) fn put_megaminx(out: &mut [u8], at: usize, kind: u8) -> usize
     requires { ⌜ at ≤ most ⌝ }
-    ensures { λ r. ⌜ ((k : MegaminxScrambleMove) → kind ≡ megaminxNumber k → Wrote (now (out .entry)) (now (out .exit)) at r (putMegaminx k)) ⌝ }
+    ensures { λ r. ⌜ ((k : MegaminxScrambleMove) → kind ≡ megaminxNumber k → Wrote (now (out .entry)) (now (out .exit)) at r
+            (putMegaminx k)) ⌝ }
 {
     let letter = if kind < kinds::D_PLUS { b'R' } else { b'D' };
     let sign = if kind % 2 == 1 { b'+' } else { b'-' };

@@ -59,7 +59,8 @@ fn put_element(out: &mut [u8], at: usize, part: &[u8], from: usize) -> ElementAn
 fn put_more(out: &mut [u8], at: usize, part: &[u8], from: usize) -> usize
     requires { ⌜ at ≤ most ⌝ }
     requires { ⌜ from ≤ length (now part) ⌝ }
-    ensures { λ r. ⌜ ((l : List layers.LayerSetElement) → Following (layerSetElement true) (now (part .entry)) from l → Wrote (now (out .entry)) (now (out .exit)) at r (print.putMore print.putElement l)) ⌝ }
+    ensures { λ r. ⌜ ((l : List layers.LayerSetElement) → Following (layerSetElement true) (now (part .entry)) from l → Wrote
+            (now (out .entry)) (now (out .exit)) at r (print.putMore print.putElement l)) ⌝ }
 {
     let mut end = from;
     let mut next = at;
@@ -83,7 +84,8 @@ fn put_more(out: &mut [u8], at: usize, part: &[u8], from: usize) -> usize
 pub(crate) fn put_layer_set(out: &mut [u8], at: usize, part: &[u8]) -> usize
     requires { ⌜ at ≤ most ⌝ }
     requires { ⌜ isSome (layerSetIn (now part)) ≡ true ⌝ }
-    ensures { λ r. ⌜ Wrote (now (out .entry)) (now (out .exit)) at r (print.putBraces print.putElement (orEmpty (layerSetIn (now (part .entry))))) ⌝ }
+    ensures { λ r. ⌜ Wrote (now (out .entry)) (now (out .exit)) at r
+            (print.putBraces print.putElement (orEmpty (layerSetIn (now (part .entry))))) ⌝ }
 {
     let first = whitespace_end(part, 1);
     let open = put(out, at, b'{');

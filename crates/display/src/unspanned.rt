@@ -11,7 +11,7 @@ ghost use Rattle.notation.specs.Meaning as meaning;
 ghost use Rattle.notation.specs.WellFormed as wellFormed;
 ghost use Rattle.notation.specs.Print as print;
 ghost use Rattle.record.specs.Meaning as means;
-ghost use Rattle.laws.proofs.Walking.{Packed};
+ghost use Rattle.laws.specs.Packed.{Packed};
 ghost use Rattle.display.specs.Written.{MOST as most, Wrote};
 ghost use Rattle.display.specs.Nodes.{GoodNode, GoodLeaf, GoodTransform, putBefore, putTransform};
 use crate::common::put_closing;
@@ -62,7 +62,8 @@ fn put_constraints(out: &mut [u8], at: usize, text: &[u8], t: &[u8]) -> usize
     requires { ⌜ at ≤ most ⌝ }
     requires { ⌜ recordSize ≤ length (now t) ⌝ }
     requires { ⌜ wellFormed.constraintsOk (now text) (means.constraintsAt (now t)) ≡ true ⌝ }
-    ensures { λ r. ⌜ Wrote (now (out .entry)) (now (out .exit)) at r (print.putConstraints (meaning.constraintMeaning (now (text .entry)) (means.constraintsAt (now (t .entry))))) ⌝ }
+    ensures { λ r. ⌜ Wrote (now (out .entry)) (now (out .exit)) at r
+            (print.putConstraints (meaning.constraintMeaning (now (text .entry)) (means.constraintsAt (now (t .entry))))) ⌝ }
 {
     if fields::constraints_present(t) {
         let p = fields::constraints(t);
@@ -77,7 +78,8 @@ fn put_constraints(out: &mut [u8], at: usize, text: &[u8], t: &[u8]) -> usize
 fn put_layers(out: &mut [u8], at: usize, text: &[u8], layers: LayerPrefixContents) -> usize
     requires { ⌜ at ≤ most ⌝ }
     requires { ⌜ wellFormed.layersOk (now text) (means.layers layers) ≡ true ⌝ }
-    ensures { λ r. ⌜ Wrote (now (out .entry)) (now (out .exit)) at r (print.putLayers (meaning.layerMeaning (now (text .entry)) (means.layers layers))) ⌝ }
+    ensures { λ r. ⌜ Wrote (now (out .entry)) (now (out .exit)) at r
+            (print.putLayers (meaning.layerMeaning (now (text .entry)) (means.layers layers))) ⌝ }
 {
     match layers {
         LayerPrefixContents::None => at,
@@ -154,7 +156,8 @@ pub fn node_list(out: &mut [u8], at: usize, text: &[u8], tree: &[u8]) -> usize
     requires { ⌜ at ≤ most ⌝ }
     requires { ⌜ Packed (now tree) ⌝ }
     requires { ⌜ wellFormed.treeOk (now text) (unpack (now tree)) ≡ true ⌝ }
-    ensures { λ r. ⌜ Wrote (now (out .entry)) (now (out .exit)) at r (print.putNodes (meaning.unspanned (now (text .entry)) (unpack (now (tree .entry))))) ⌝ }
+    ensures { λ r. ⌜ Wrote (now (out .entry)) (now (out .exit)) at r
+            (print.putNodes (meaning.unspanned (now (text .entry)) (unpack (now (tree .entry))))) ⌝ }
 {
     let mut t = tree;
     let mut next = at;
@@ -178,7 +181,8 @@ pub fn node_list(out: &mut [u8], at: usize, text: &[u8], tree: &[u8]) -> usize
 fn leaf(out: &mut [u8], at: usize, text: &[u8], t: &[u8]) -> usize
     requires { ⌜ at ≤ most ⌝ }
     requires { ⌜ GoodLeaf (now text) (now t) ⌝ }
-    ensures { λ r. ⌜ ((x : tree.Leaf) → headAt (now (t .entry)) ≡ leafHead x → Wrote (now (out .entry)) (now (out .exit)) at r (print.putStep (meaning.stepOf (now (text .entry)) x))) ⌝ }
+    ensures { λ r. ⌜ ((x : tree.Leaf) → headAt (now (t .entry)) ≡ leafHead x → Wrote (now (out .entry)) (now (out .exit)) at r
+            (print.putStep (meaning.stepOf (now (text .entry)) x))) ⌝ }
 {
     match fields::kind(t) {
         kinds::ROTATION | kinds::MOVE => put_transform(out, at, text, t),
@@ -194,7 +198,8 @@ fn group(out: &mut [u8], at: usize, text: &[u8], bytes: &[u8]) -> usize
     requires { ⌜ at ≤ most ⌝ }
     requires { ⌜ GoodNode (now text) (now bytes) ⌝ }
     requires { ⌜ means.kindAt (now bytes) ≤ 5 ⌝ }
-    ensures { λ r. ⌜ Wrote (now (out .entry)) (now (out .exit)) at r (print.putNodes (meaning.unspanned (now (text .entry)) (unpack (now (bytes .entry))))) ⌝ }
+    ensures { λ r. ⌜ Wrote (now (out .entry)) (now (out .exit)) at r
+            (print.putNodes (meaning.unspanned (now (text .entry)) (unpack (now (bytes .entry))))) ⌝ }
 {
     let multiplier = fields::number(bytes);
     let kind = fields::kind(bytes);

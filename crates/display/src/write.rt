@@ -23,7 +23,8 @@ pub fn put_between(out: &mut [u8], at: usize, bytes: &[u8], from: usize, to: usi
     requires { ⌜ at ≤ most ⌝ }
     requires { ⌜ from ≤ to ⌝ }
     requires { ⌜ to ≤ length (now bytes) ⌝ }
-    ensures { λ r. ⌜ Wrote (now (out .entry)) (now (out .exit)) at r (λ rest. take (to - from) (drop from (now (bytes .entry))) ++ rest) ⌝ }
+    ensures { λ r. ⌜ Wrote (now (out .entry)) (now (out .exit)) at r
+            (λ rest. take (to - from) (drop from (now (bytes .entry))) ++ rest) ⌝ }
 {
     let end = cap_position(at + (to - from));
     if out.len() < end {

@@ -16,13 +16,13 @@ use Rattle.notation.specs.declared.common.GroupKind.{GroupKind}
 use Rattle.notation.specs.declared.common.GroupKind.the-variants.{Simple, Macro, Simultaneous, Niss}
 use Rattle.notation.specs.declared.common.BinaryGroupKind.{BinaryGroupKind}
 use Rattle.notation.specs.declared.common.BinaryGroupKind.the-variants.{Commutator, Conjugate}
-use Rattle.laws.proofs.Unrolling.{verdict, first}
-use Rattle.laws.proofs.Inverses.{
-  leafRefusal, invRefusalNode, inverted, invRefusal, inv-is, deeply, nissFirst, conjugateOnly, deepRefusalNode, deepRefusalBody, deepRefusal, invDeep-is
-}
+use Rattle.laws.specs.Unrolled.{first}
+use Rattle.laws.proofs.Unrolling.{verdict}
+use Rattle.laws.specs.Inverted.{leafRefusal, invRefusalNode, inverted, invRefusal, deeply, nissFirst, conjugateOnly, deepRefusalNode, deepRefusalBody, deepRefusal}
+use Rattle.laws.proofs.Inverses.{inv-is, invDeep-is}
 use Rattle.laws.proofs.Packing.{length-pack}
 use Rattle.laws.proofs.WellFormedInverses.{inverted-size, deeply-size}
-use Rattle.laws.proofs.Walking.{Packed}
+use Rattle.laws.specs.Packed.{Packed}
 use Rattle.invert.specs.Nodes.{over}
 use Rattle.checked.specs.Checked.{Accepted}
 use Rattle.entries.specs.Inverses.{refusing, written, ruled}

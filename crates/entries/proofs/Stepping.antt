@@ -16,7 +16,8 @@ use Rattle.notation.specs.Counts.{cap, count}
 use Rattle.notation.specs.Entries.{Lent, lend, steps, records, unrolled, flattenEntry, countSteps, stepAt, seekStep, refusalNumber, value, MAX-STEPS}
 use Rattle.record.proofs.RoundTrip.{length-headRecord}
 use Rattle.laws.proofs.ListEntries.{get-past, get-within}
-use Rattle.laws.proofs.Unrolling.{flat, firstRefusal, flatten-is}
+use Rattle.laws.specs.Unrolled.{flat, firstRefusal}
+use Rattle.laws.proofs.Unrolling.{flatten-is}
 use Rattle.laws.proofs.Counting.{count-is}
 use Rattle.expand.specs.declared.visit.Refusals.{Refusals}
 use Rattle.expand.specs.Meaning.{told, refuses}

@@ -6,7 +6,7 @@ use mathlib.Core.Option.{Option}
 use Rattle.notation.specs.Refusals.{Outcome}
 use Rattle.notation.specs.Tree.{Tree}
 use Rattle.notation.specs.Entries.{inverse, deepInverse}
-use Rattle.laws.proofs.Inverses.{inverted, invRefusal, deeply, deepRefusal}
+use Rattle.laws.specs.Inverted.{inverted, invRefusal, deeply, deepRefusal}
 
 abbrev pub refusing : Bool → Tree → Option ℕ
 refusing true t = deepRefusal t

@@ -3,7 +3,7 @@ ghost use mathlib.Core.Path.{_≡_};
 ghost use Rattle.notation.specs.Packed.{pack, unpack};
 ghost use Rattle.notation.specs.Entries as rule;
 ghost use lib.ListN.{length};
-ghost use Rattle.laws.proofs.Walking.{Packed};
+ghost use Rattle.laws.specs.Packed.{Packed};
 ghost use Rattle.invert.specs.Nodes.{over};
 ghost use Rattle.entries.specs.Inverses.{refusing, written, ruled};
 use notation::answer::Answer;
@@ -12,20 +12,21 @@ use checked::check;
 
 // The inverse whose groups are kept as they are: refusals 1, 2, 6, 8, 5.
 pub fn inv(text: &[u8], tree: &[u8], out: &mut [u8]) -> Answer
-    ensures { λ r. ⌜ record { answer = rule.outcome r; buffer = now (out .exit) } ≡ rule.invEntry (now (text .entry)) (now (tree .entry)) (now (out .entry)) ⌝ }
+    ensures { λ r. ⌜ rule.lent r (now (out .exit)) ≡ rule.invEntry (now (text .entry)) (now (tree .entry)) (now (out .entry)) ⌝ }
 {
     invert(text, tree, false, out)
 }
 
 // The inverse in which groups are entered: refusals 1, 2, 6, 7 or 8, 5.
 pub fn inv_deep(text: &[u8], tree: &[u8], out: &mut [u8]) -> Answer
-    ensures { λ r. ⌜ record { answer = rule.outcome r; buffer = now (out .exit) } ≡ rule.invDeepEntry (now (text .entry)) (now (tree .entry)) (now (out .entry)) ⌝ }
+    ensures { λ r. ⌜ rule.lent r (now (out .exit)) ≡ rule.invDeepEntry (now (text .entry)) (now (tree .entry)) (now (out .entry)) ⌝ }
 {
     invert(text, tree, true, out)
 }
 
 fn invert(text: &[u8], tree: &[u8], deep: bool, out: &mut [u8]) -> Answer
-    ensures { λ r. ⌜ record { answer = rule.outcome r; buffer = now (out .exit) } ≡ rule.lend (ruled deep (now (text .entry)) (now (tree .entry))) (now (out .entry)) ⌝ }
+    ensures { λ r. ⌜ rule.lent r (now (out .exit))
+        ≡ rule.lend (ruled deep (now (text .entry)) (now (tree .entry))) (now (out .entry)) ⌝ }
 {
     let checked = check(text, tree);
     let Answer::Value(_) = checked else {

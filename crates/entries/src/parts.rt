@@ -36,7 +36,8 @@ pub fn simplify(
     allow_negatives: bool,
     out: &mut [u8],
 ) -> Answer
-    ensures { λ r. ⌜ record { answer = rule.outcome r; buffer = now (out .exit) } ≡ rule.simplifyBytes (now (text .entry)) (now (tree .entry)) «record» «max_layer» «allow_negatives» (now (out .entry)) ⌝ }
+    ensures { λ r. ⌜ rule.lent r (now (out .exit))
+        ≡ rule.simplifyBytes (now (text .entry)) (now (tree .entry)) «record» «max_layer» «allow_negatives» (now (out .entry)) ⌝ }
 {
     let checked = check(text, tree);
     let Answer::Value(_) = checked else {

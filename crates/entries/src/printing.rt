@@ -7,7 +7,7 @@ use checked::check;
 
 // Refusals 1, 2, 6, 5. Where the buffer may be too short, a first run has no room and only measures.
 pub fn display(text: &[u8], tree: &[u8], out: &mut [u8]) -> Answer
-    ensures { λ r. ⌜ record { answer = rule.outcome r; buffer = now (out .exit) } ≡ rule.displayEntry (now (text .entry)) (now (tree .entry)) (now (out .entry)) ⌝ }
+    ensures { λ r. ⌜ rule.lent r (now (out .exit)) ≡ rule.displayEntry (now (text .entry)) (now (tree .entry)) (now (out .entry)) ⌝ }
 {
     let checked = check(text, tree);
     let Answer::Value(_) = checked else {

@@ -34,7 +34,7 @@ pub fn count_steps(text: &[u8], tree: &[u8]) -> Answer
 
 // The unrolled list, a record for each step: refusals 1, 2, 6, 7 or 8, 9, 5.
 pub fn flatten(text: &[u8], tree: &[u8], out: &mut [u8]) -> Answer
-    ensures { λ r. ⌜ record { answer = rule.outcome r; buffer = now (out .exit) } ≡ rule.flattenEntry (now (text .entry)) (now (tree .entry)) (now (out .entry)) ⌝ }
+    ensures { λ r. ⌜ rule.lent r (now (out .exit)) ≡ rule.flattenEntry (now (text .entry)) (now (tree .entry)) (now (out .entry)) ⌝ }
 {
     let counted = count_steps(text, tree);
     let Answer::Value(steps) = counted else {
@@ -50,7 +50,8 @@ pub fn flatten(text: &[u8], tree: &[u8], out: &mut [u8]) -> Answer
 
 // The record of the step at a place of the unrolled list: refusals 1, 2, 6, 7 or 8, 9, 10, 5.
 pub fn seek_step(text: &[u8], tree: &[u8], place: u64, step: &mut [u8]) -> Answer
-    ensures { λ r. ⌜ record { answer = rule.outcome r; buffer = now (step .exit) } ≡ rule.seekStep (now (text .entry)) (now (tree .entry)) place (now (step .entry)) ⌝ }
+    ensures { λ r. ⌜ rule.lent r (now (step .exit))
+        ≡ rule.seekStep (now (text .entry)) (now (tree .entry)) place (now (step .entry)) ⌝ }
 {
     let counted = count_steps(text, tree);
     let Answer::Value(steps) = counted else {

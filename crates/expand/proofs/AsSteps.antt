@@ -11,8 +11,9 @@ use Rattle.notation.specs.Entries.{records}
 use Rattle.notation.specs.Invert.{undo}
 use Rattle.notation.specs.Unroll.{copies, turned}
 use Rattle.record.specs.Range.{FitsLeaf}
-use Rattle.laws.proofs.Packing.{FitsNode, FitsTree, unpack-pack}
-use Rattle.laws.proofs.Unrolling.{backwards, flatNode, flat}
+use Rattle.laws.specs.Packed.{FitsNode, FitsTree}
+use Rattle.laws.proofs.Packing.{unpack-pack}
+use Rattle.laws.specs.Unrolled.{backwards, flatNode, flat}
 use Rattle.expand.specs.Steps.{Undoable, All, none, one, asSteps, AreSteps, either, completed, repeats}
 use Rattle.expand.proofs.Steps.{records-append, records-copies}
 use Rattle.expand.proofs.Undoing.{wrapped, wrapped-fits, wrapped-record, wrapped-undone-record}

@@ -15,7 +15,8 @@ use Rattle.notation.specs.Entries.{records}
 use Rattle.notation.specs.Unroll.{copies, turned}
 use Rattle.notation.proofs.Marked.{length-copies}
 use Rattle.numbers.specs.Sign.{isNegative}
-use Rattle.laws.proofs.Unrolling.{backwards, long-backwards}
+use Rattle.laws.specs.Unrolled.{backwards}
+use Rattle.laws.proofs.Unrolling.{long-backwards}
 use Rattle.notation.specs.Counts.{countBinary}
 use Rattle.notation.specs.declared.common.BinaryGroupKind.the-variants.{Commutator}
 use Rattle.expand.specs.Meaning.{binaryKind}

@@ -7,7 +7,8 @@ use lib.ListN.{length}
 use Rattle.notation.specs.Packed.{unpack}
 use Rattle.notation.specs.Counts.{countNode, count}
 use Rattle.notation.specs.Entries.{MAX-STEPS}
-use Rattle.laws.proofs.Walking.{Packed, no-node}
+use Rattle.laws.specs.Packed.{Packed}
+use Rattle.laws.proofs.Walking.{no-node}
 use Rattle.nodes.specs.Nodes.{part, FirstNode}
 use Rattle.expand.proofs.Shapes.{first-counted}
 

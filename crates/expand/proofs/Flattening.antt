@@ -19,9 +19,11 @@ use Rattle.notation.specs.Unroll.{copies, turned}
 use Rattle.notation.specs.Counts.{countBinary, countNode, countBody, count}
 use Rattle.notation.specs.declared.common.GroupKind.the-variants.{Simple}
 use Rattle.record.specs.Meaning.{field, kindAt, NUMBER, COUNT}
-use Rattle.laws.proofs.Packing.{FitsNode, FitsBody, FitsTree}
-use Rattle.laws.proofs.Walking.{Packed, no-node}
-use Rattle.laws.proofs.Unrolling.{flatBinary, flatNode, flatBody, flat, flatBody-backwards, flat-backwards}
+use Rattle.laws.specs.Packed.{FitsNode, FitsBody, FitsTree}
+use Rattle.laws.specs.Packed.{Packed}
+use Rattle.laws.proofs.Walking.{no-node}
+use Rattle.laws.specs.Unrolled.{flatBinary, flatNode, flatBody, flat}
+use Rattle.laws.proofs.Unrolling.{flatBody-backwards, flat-backwards}
 use Rattle.laws.proofs.Counting.{countNode-is, countBody-is, count-is, stored-none}
 use Rattle.expand.specs.Meaning.{binaryKind}
 use Rattle.nodes.specs.Nodes.{IsNode, part, FirstNode, firstList, secondList, Lists}

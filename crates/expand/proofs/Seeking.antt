@@ -23,12 +23,14 @@ use Rattle.numbers.specs.Sign.{isNegative}
 use Rattle.record.specs.Meaning.{field, kindAt, NUMBER}
 use Rattle.record.specs.Undone.{StartsRecord}
 use Rattle.record.proofs.Undoing.{Undone}
-use Rattle.laws.proofs.Packing.{FitsNode}
-use Rattle.laws.proofs.Walking.{Packed, no-node}
+use Rattle.laws.specs.Packed.{FitsNode}
+use Rattle.laws.specs.Packed.{Packed}
+use Rattle.laws.proofs.Walking.{no-node}
 use Rattle.laws.proofs.ListEntries.{get-append-left, get-append-right}
-use Rattle.laws.proofs.Unrolling.{flatNode, flatBody, flat}
+use Rattle.laws.specs.Unrolled.{flatNode, flatBody, flat}
 use Rattle.laws.proofs.Counting.{countNode-is}
-use Rattle.laws.proofs.Seeking.{undoIf, undo-none, undo-again, in-repeat, from-end, in-A, in-B, in-A′, in-B′}
+use Rattle.laws.specs.Unrolled.{undoIf}
+use Rattle.laws.proofs.Seeking.{undo-none, undo-again, in-repeat, from-end, in-A, in-B, in-A′, in-B′}
 use Rattle.expand.specs.Meaning.{binaryKind}
 use Rattle.expand.specs.Steps.{Undoable, IsGroup}
 use Rattle.expand.specs.Places.{stepIn, found, Has, Sought}

@@ -21,7 +21,7 @@ use Rattle.notation.specs.declared.common.GroupKind.the-variants.{Simple, Macro
 use Rattle.notation.specs.declared.common.BinaryGroupKind.{BinaryGroupKind}
 use Rattle.notation.specs.declared.common.BinaryGroupKind.the-variants.{Commutator, Conjugate}
 use Rattle.record.specs.Meaning.{field, kindAt, NUMBER, COUNT}
-use Rattle.laws.proofs.Unrolling.{flatNode, flat}
+use Rattle.laws.specs.Unrolled.{flatNode, flat}
 use Rattle.laws.proofs.Walking.{head-stored}
 use Rattle.nodes.specs.Nodes.{IsNode, part, FirstNode, firstList, secondList}
 use Rattle.nodes.proofs.Nodes.{alone, fields-of, front-field, first-low, kind-of, leaf-kind, multiplier-of, FirstLeaf}

@@ -18,8 +18,8 @@ use Rattle.notation.specs.declared.common.BinaryGroupKind.{BinaryGroupKind}
 use Rattle.notation.specs.declared.common.BinaryGroupKind.the-variants.{Commutator, Conjugate}
 use Rattle.record.specs.Range.{FitsNumber, FitsLeaf}
 use Rattle.record.proofs.RoundTrip.{length-headRecord}
-use Rattle.laws.proofs.Packing.{FitsNode, FitsBody, FitsTree}
-use Rattle.laws.proofs.Unrolling.{flatBinary, flatNode, flatBody, flat}
+use Rattle.laws.specs.Packed.{FitsNode, FitsBody, FitsTree}
+use Rattle.laws.specs.Unrolled.{flatBinary, flatNode, flatBody, flat}
 use Rattle.expand.specs.Steps.{Small, Undoable, All, none, one}
 
 pub length-records : (l : List Leaf) → length (records l) ≡ RECORD * length l

@@ -14,7 +14,8 @@ use Rattle.record.specs.Range.{FitsLeaf}
 use Rattle.record.specs.Undone.{StartsRecord, undoneHead}
 use Rattle.record.proofs.RoundTrip.{length-headRecord}
 use Rattle.record.proofs.Undoing.{Undone, head-with, starts-with, undone-with}
-use Rattle.laws.proofs.Unrolling.{backwards, backwards-append, long-backwards}
+use Rattle.laws.specs.Unrolled.{backwards}
+use Rattle.laws.proofs.Unrolling.{backwards-append, long-backwards}
 use Rattle.nodes.specs.Nodes.{part}
 use Rattle.expand.specs.Steps.{All, asSteps, AreSteps, lastOf, undoneRecord}
 use Rattle.expand.proofs.Parts.{Three, from-part, the-part, put-part}

@@ -21,9 +21,10 @@ use Rattle.numbers.specs.Sign.{isNegative}
 use Rattle.record.specs.Meaning.{field, kindAt, NUMBER, OTHER}
 use Rattle.record.specs.Range.{FitsNumber}
 use Rattle.record.proofs.Numbered.{kindOf}
-use Rattle.laws.proofs.Packing.{FitsNode}
-use Rattle.laws.proofs.Walking.{Packed, no-node}
-use Rattle.laws.proofs.Unrolling.{first, ifReached, firstInOrder, refusalBinary, refusalNode, refusalBody, firstRefusal}
+use Rattle.laws.specs.Packed.{FitsNode}
+use Rattle.laws.specs.Packed.{Packed}
+use Rattle.laws.proofs.Walking.{no-node}
+use Rattle.laws.specs.Unrolled.{first, ifReached, firstInOrder, refusalBinary, refusalNode, refusalBody, firstRefusal}
 use Rattle.nodes.specs.Nodes.{IsNode, part, FirstNode, firstList, secondList, Lists}
 use Rattle.nodes.proofs.Nodes.{part-length, fields-of, kind-of, alone, front-field, FirstLeaf, leaf-node}
 use Rattle.expand.specs.Meaning.{refusalOf, refuses, leafRefuses, overflowsAt, binaryKind}

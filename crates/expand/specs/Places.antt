@@ -11,9 +11,9 @@ use Rattle.notation.specs.Packed.{RECORD, leafRecord, unpack}
 use Rattle.notation.specs.Invert.{undo}
 use Rattle.notation.specs.Entries.{MAX-STEPS}
 use Rattle.notation.specs.Counts.{count}
-use Rattle.laws.proofs.Walking.{Packed}
-use Rattle.laws.proofs.Unrolling.{flat}
-use Rattle.laws.proofs.Seeking.{undoIf}
+use Rattle.laws.specs.Packed.{Packed}
+use Rattle.laws.specs.Unrolled.{flat}
+use Rattle.laws.specs.Unrolled.{undoIf}
 use Rattle.nodes.specs.Nodes.{part}
 
 -- the step at a place of what a list unrolls into

@@ -14,7 +14,7 @@ use Rattle.notation.specs.Unroll.{copies, turned}
 use Rattle.record.specs.Meaning.{field, kindAt}
 use Rattle.record.specs.Range.{FitsFamily, FitsConstraints, FitsLayers, FitsLeaf}
 use Rattle.record.specs.Undone.{undoneHead}
-use Rattle.laws.proofs.Unrolling.{backwards, flatBinary, flat}
+use Rattle.laws.specs.Unrolled.{backwards, flatBinary, flat}
 use Rattle.notation.specs.Counts.{countBinary}
 use Rattle.nodes.specs.Nodes.{IsNode}
 use Rattle.expand.specs.Meaning.{binaryKind}

@@ -4,7 +4,7 @@ ghost use Prim.Native.Nat.{_≤_};
 ghost use Rattle.notation.specs.Packed.{unpack};
 ghost use Rattle.notation.specs.Counts as rule;
 ghost use Rattle.notation.specs.Entries.{MAX-STEPS};
-ghost use Rattle.laws.proofs.Walking.{Packed};
+ghost use Rattle.laws.specs.Packed.{Packed};
 use nodes::node_end;
 use record::RECORD;
 use record::fields;

@@ -11,8 +11,8 @@ ghost use Rattle.notation.specs.Packed.{RECORD as recordSize, unpack};
 ghost use Rattle.notation.specs.Entries.{records};
 ghost use Rattle.notation.specs.Unroll.{copies};
 ghost use Rattle.record.specs.Undone.{StartsRecord};
-ghost use Rattle.laws.proofs.Walking.{Packed};
-ghost use Rattle.laws.proofs.Unrolling.{backwards, flat};
+ghost use Rattle.laws.specs.Packed.{Packed};
+ghost use Rattle.laws.specs.Unrolled.{backwards, flat};
 ghost use Rattle.notation.specs.Counts.{count};
 ghost use Rattle.nodes.specs.Nodes.{part};
 ghost use Rattle.expand.specs.Steps.{asSteps, AreSteps, WroteSteps, IsGroup, completed, repeats, BothLists, Room, lastOf, undoneRecord};
@@ -75,7 +75,8 @@ fn flatten_node(node: &[u8], out: &mut [u8]) -> usize
 // A and B stand at the front: writes A' and, of a commutator, B' behind them.
 fn complete_binary(out: &mut [u8], commutator: bool, a: usize, b: usize) -> usize
     requires { ⌜ BothLists (now out) commutator a b ⌝ }
-    ensures { λ r. ⌜ WroteSteps (now (out .entry)) (now (out .exit)) (completed commutator (asSteps (take a (now (out .entry)))) (asSteps (take b (drop a (now (out .entry)))))) r ⌝ }
+    ensures { λ r. ⌜ WroteSteps (now (out .entry)) (now (out .exit))
+            (completed commutator (asSteps (take a (now (out .entry)))) (asSteps (take b (drop a (now (out .entry)))))) r ⌝ }
 {
     let size = a + b;
     let third = size + a;
@@ -94,7 +95,8 @@ fn complete_binary(out: &mut [u8], commutator: bool, a: usize, b: usize) -> usiz
 // The contents of a group stand in the first `size` bytes: turns them round if the multiplier is negative, and repeats them.
 fn repeat_block(out: &mut [u8], size: usize, multiplier: u32) -> usize
     requires { ⌜ Room (now out) size (natAbs (fromBits 32 multiplier)) ⌝ }
-    ensures { λ r. ⌜ WroteSteps (now (out .entry)) (now (out .exit)) (repeats (fromBits 32 multiplier) (asSteps (take size (now (out .entry))))) r ⌝ }
+    ensures { λ r. ⌜ WroteSteps (now (out .entry)) (now (out .exit))
+            (repeats (fromBits 32 multiplier) (asSteps (take size (now (out .entry))))) r ⌝ }
 {
     let total = size * (magnitude(multiplier) as usize);
     if is_negative(multiplier) {
@@ -109,7 +111,8 @@ fn repeat_block(out: &mut [u8], size: usize, multiplier: u32) -> usize
 // Repeats the first `size` bytes up to `total`.
 fn repeat(out: &mut [u8], size: usize, total: usize)
     requires { ⌜ (size ≤ total) × (total ≤ length (now out)) ⌝ }
-    ensures { λ _. ⌜ ((n : ℕ) → total ≤ n * size → now (out .exit) ≡ take total (copies n (take size (now (out .entry)))) ++ drop total (now (out .entry))) ⌝ }
+    ensures { λ _. ⌜ ((n : ℕ) → total ≤ n * size → now (out .exit) ≡ take total (copies n (take size (now (out .entry)))) ++
+            drop total (now (out .entry))) ⌝ }
 {
     let mut i = size;
     while i < total {
@@ -140,7 +143,9 @@ fn turn(steps: &mut [u8])
 fn exchange_ends(steps: &mut [u8])
     requires { ⌜ recordSize + recordSize ≤ length (now steps) ⌝ }
     requires { ⌜ StartsRecord (now steps) × StartsRecord (lastOf (now steps)) ⌝ }
-    ensures { λ _. ⌜ now (steps .exit) ≡ undoneRecord (lastOf (now (steps .entry))) ++ (part recordSize (length (now (steps .entry)) - recordSize) (now (steps .entry)) ++ undoneRecord (now (steps .entry))) ⌝ }
+    ensures { λ _. ⌜ now (steps .exit)
+        ≡ undoneRecord (lastOf (now (steps .entry))) ++
+                (part recordSize (length (now (steps .entry)) - recordSize) (now (steps .entry)) ++ undoneRecord (now (steps .entry))) ⌝ }
 {
     let to = steps.len() - RECORD;
     let mut first = [0; RECORD];

@@ -107,7 +107,8 @@ fn enter(group: &[u8], steps: u64, place: &mut u64, inverted: &mut bool) -> bool
 fn write_step(from: &[u8], inverted: bool, step: &mut [u8])
     requires { ⌜ ((x : Leaf) × (Undoable x × (now from ≡ leafRecord x))) ⌝ }
     requires { ⌜ (length (now from) ≡ recordSize) × (recordSize ≤ length (now step)) ⌝ }
-    ensures { λ _. ⌜ ((x : Leaf) → Undoable x → now (from .entry) ≡ leafRecord x → now (step .exit) ≡ leafRecord (pick inverted (undo x) x) ++ drop recordSize (now (step .entry))) ⌝ }
+    ensures { λ _. ⌜ ((x : Leaf) → Undoable x → now (from .entry) ≡ leafRecord x → now (step .exit) ≡ leafRecord
+            (pick inverted (undo x) x) ++ drop recordSize (now (step .entry))) ⌝ }
 {
     copy_record(from, step);
     if inverted {

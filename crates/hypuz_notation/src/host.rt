@@ -100,7 +100,8 @@ pub extern "C" fn hypuz_simplify(
     allow_negatives: u32,
     out: &mut [u8],
 ) -> u64
-    ensures { λ r. ⌜ Hands r (now (out .exit)) (rule.simplifyBytes (now (text .entry)) (now (tree .entry)) «record» «max_layer» (not (eqb «allow_negatives» 0)) (now (out .entry))) ⌝ }
+    ensures { λ r. ⌜ Hands r (now (out .exit)) (rule.simplifyBytes (now (text .entry)) (now (tree .entry)) «record» «max_layer»
+            (not (eqb «allow_negatives» 0)) (now (out .entry))) ⌝ }
 {
     let negatives = allow_negatives != 0;
     code(simplify(text, tree, record, max_layer, negatives, out))

@@ -12,7 +12,7 @@ use Rattle.notation.specs.declared.common.BinaryGroupKind.the-variants.{Commuta
 use Rattle.record.specs.Meaning.{field, withLists, kindAt, FIRST, SECOND}
 use Rattle.record.proofs.Copying.{copied-whole}
 use Rattle.record.proofs.Storing.{lists-set}
-use Rattle.laws.proofs.Inverses.{deeply, deeplyNode, deeplyBody}
+use Rattle.laws.specs.Inverted.{deeply, deeplyNode, deeplyBody}
 use Rattle.laws.proofs.WellFormedInverses.{deeplyNode-count}
 use Rattle.nodes.specs.Nodes.{IsNode, part, Lists}
 use Rattle.nodes.proofs.Nodes.{length-part, node-room, fields-of, alone, kind-of, leaf-kind, group-kind}

@@ -19,8 +19,9 @@ use Rattle.record.specs.Meaning.{field, kindAt}
 use Rattle.record.specs.Undone.{StartsRecord, undoneHead}
 use Rattle.record.proofs.RoundTrip.{length-headRecord}
 use Rattle.record.proofs.Undoing.{Undone, starts-with, undone-with}
-use Rattle.laws.proofs.Walking.{Packed, nodeHead, inside, node-bytes, node-head-fits, nodeEnd, one-list}
-use Rattle.laws.proofs.Inverses.{inverted, deeply, deeplyNode, deeplyBody, deepRefusal, deepRefusalNode, deepRefusalBody, nissFirst}
+use Rattle.laws.specs.Packed.{Packed}
+use Rattle.laws.proofs.Walking.{nodeHead, inside, node-bytes, node-head-fits, nodeEnd, one-list}
+use Rattle.laws.specs.Inverted.{inverted, deeply, deeplyNode, deeplyBody, deepRefusal, deepRefusalNode, deepRefusalBody, nissFirst}
 use Rattle.laws.proofs.WellFormedInverses.{deeply-size, node-count, deeplyNode-count}
 use Rattle.nodes.specs.Nodes.{IsNode, part, Lists}
 use Rattle.nodes.proofs.Nodes.{part-rest, first-of, node-room, node-head, alone, kind-of, leaf-kind, group-kind, binary-kind}

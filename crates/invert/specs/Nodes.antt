@@ -8,8 +8,8 @@ use lib.ListN.{length, take}
 use Rattle.notation.specs.Tree.{Tree}
 use Rattle.notation.specs.Packed.{RECORD, Head, leafHead, groupHead, binaryHead, pack, unpack}
 use Rattle.record.specs.Meaning.{field, kindAt}
-use Rattle.laws.proofs.Inverses.{inverted, leafRefusal, deeply, deepRefusal}
-use Rattle.laws.proofs.Walking.{Packed}
+use Rattle.laws.specs.Inverted.{inverted, leafRefusal, deeply, deepRefusal}
+use Rattle.laws.specs.Packed.{Packed}
 use Rattle.nodes.specs.Nodes.{part}
 
 -- the deep inverse, or the shallow one

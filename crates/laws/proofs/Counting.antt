@@ -19,7 +19,8 @@ use Rattle.notation.specs.declared.common.BinaryGroupKind.{BinaryGroupKind}
 use Rattle.notation.specs.declared.common.BinaryGroupKind.the-variants.{Commutator, Conjugate}
 use Rattle.notation.proofs.Marked.{length-copies}
 use Rattle.laws.proofs.Bools.{no-refusal}
-use Rattle.laws.proofs.Unrolling.{inOrder, flatBinary, flatNode, flatBody, flat, refusalNode, verdict, flattenNode-is}
+use Rattle.laws.specs.Unrolled.{inOrder, flatBinary, flatNode, flatBody, flat, refusalNode}
+use Rattle.laws.proofs.Unrolling.{verdict, flattenNode-is}
 
 -- The number of steps is the same in both directions.
 length-binary : (k : BinaryGroupKind) (d : Bool) (a b : Bool → List Leaf) (m n : ℕ) →

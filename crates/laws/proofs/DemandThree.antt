@@ -26,13 +26,16 @@ use Rattle.notation.specs.declared.features.Features.{Features}
 use Rattle.numbers.proofs.TwosComplement.{natAbs-neg}
 use Rattle.laws.proofs.Bools.{and-left, and-right, and-both, not-true, false-true}
 use Rattle.laws.proofs.ListEntries.{get-reverse, get-map, get-of-map}
-use Rattle.laws.proofs.Unrolling.{backwards, long-backwards, flat, flat-map, verdict, flatten-is}
-use Rattle.laws.proofs.Inverses.{inverted, inverse-unrolls}
+use Rattle.laws.specs.Unrolled.{backwards, flat}
+use Rattle.laws.proofs.Unrolling.{long-backwards, flat-map, verdict, flatten-is}
+use Rattle.laws.specs.Inverted.{inverted}
+use Rattle.laws.proofs.Inverses.{inverse-unrolls}
 use Rattle.laws.proofs.Reached.{negatable, clean, cleanNode, cleanNodes, clean-map, clean-walks, unrollable-clean, unrolled-list, inverse-accepted}
 use Rattle.laws.proofs.InRange.{stepInRange, nodeInRange, inRange}
 use Rattle.laws.proofs.WellFormedInverses.{multiplier-neg, inverted-ok, inverted-size, inverted-depth}
 use Rattle.laws.proofs.Fits.{leafFits, nodeFits, bodyFits, treeFits}
-use Rattle.laws.proofs.Packing.{FitsTree, tree-fits, unpack-pack, packed-well-formed}
+use Rattle.laws.specs.Packed.{FitsTree}
+use Rattle.laws.proofs.Packing.{tree-fits, unpack-pack, packed-well-formed}
 use Rattle.laws.proofs.Accepting.{Accepted, accepts, accepted-tree, checks, counts-as, gives}
 use Rattle.laws.proofs.ReadingYields.{reading-in-range, reading-ok, reading-size, reading-fits}
 use Rattle.laws.proofs.ReadBack.{reads-back, printed-utf8}

@@ -21,7 +21,8 @@ use Rattle.notation.specs.declared.common.GroupKind.the-variants.{Simple, Macro
 use Rattle.notation.specs.declared.common.BinaryGroupKind.{BinaryGroupKind}
 use Rattle.notation.specs.declared.common.BinaryGroupKind.the-variants.{Commutator, Conjugate}
 use Rattle.laws.proofs.Bools.{and-left, and-right, and-both, not-true}
-use Rattle.laws.proofs.Unrolling.{verdict, inOrder, flatBinary, flatNode, flatBody, flat, flatten-is}
+use Rattle.laws.specs.Unrolled.{inOrder, flatBinary, flatNode, flatBody, flat}
+use Rattle.laws.proofs.Unrolling.{verdict, flatten-is}
 use Rattle.laws.proofs.Reached.{negatable, allIfReached, cleanNode, cleanBody, cleanNodes, clean, clean-walks}
 use Rattle.laws.proofs.Refused.{nonzero}
 use Rattle.laws.proofs.Fits.{leafFits, nodeFits, bodyFits, treeFits}

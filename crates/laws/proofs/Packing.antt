@@ -29,20 +29,7 @@ use Rattle.record.proofs.RoundTrip.{length-headRecord, headAt-headRecord, headR
 use Rattle.record.proofs.Same.{same-refl, same-eq}
 use Rattle.laws.proofs.Bools.{and-left, and-right}
 use Rattle.laws.proofs.Fits.{familyFits, leafFits, nodeFits, bodyFits, treeFits}
-
--- Trees whose numbers fit their fields.
-unfoldable mutual
-  pub FitsNode : Node Leaf → Type 0
-  FitsNode (leaf x) = FitsLeaf x
-  FitsNode (block b m) = FitsHead (bodyHead b m) × FitsBody b
-
-  pub FitsBody : Body Leaf → Type 0
-  FitsBody (group k a) = FitsTree a
-  FitsBody (binaryGroup k a b) = FitsTree a × FitsTree b
-
-  pub FitsTree : Tree → Type 0
-  FitsTree nil = Unit {0}
-  FitsTree (cons n l) = FitsNode n × FitsTree l
+use Rattle.laws.specs.Packed.{FitsNode, FitsBody, FitsTree}
 
 -- Each record takes as many bytes.
 mutual

@@ -12,7 +12,7 @@ use Rattle.notation.specs.Meaning.{stepOf, unspanned}
 use Rattle.notation.specs.WellFormed.{nodeDepth, bodyDepth, depth}
 use Rattle.notation.specs.Invert.{undo}
 use Rattle.notation.specs.declared.common.BinaryGroupKind.the-variants.{Commutator, Conjugate}
-use Rattle.laws.proofs.Inverses.{invertedNode, inverted, deeplyNode, deeplyBody, deeply}
+use Rattle.laws.specs.Inverted.{invertedNode, inverted, deeplyNode, deeplyBody, deeply}
 
 abbrev pub leafParens : {F C S : Type 0} → LeafOf F C S → ℕ
 leafParens (rotation f c m) = 0

@@ -16,11 +16,10 @@ use Rattle.notation.specs.declared.common.BinaryGroupKind.{BinaryGroupKind}
 use Rattle.notation.specs.declared.common.BinaryGroupKind.the-variants.{Commutator, Conjugate}
 use Rattle.numbers.proofs.TwosComplement.{natAbs-neg}
 use Rattle.laws.proofs.Bools.{and-left, and-right, and-both, not-true, no-some, no-refusal}
-use Rattle.laws.proofs.Unrolling.{
-  backwards, verdict, first, ifReached, firstInOrder, inOrder, flatBinary, refusalBinary, flatNode, flatBody, flat, flatten-is,
-  refusalNode, refusalBody, firstRefusal, isNiss-map
-}
-use Rattle.laws.proofs.Inverses.{inverted, invertedNode, invRefusal, inv-is, inverse-unrolls}
+use Rattle.laws.specs.Unrolled.{backwards, first, ifReached, firstInOrder, inOrder, flatBinary, refusalBinary, flatNode, flatBody, flat, refusalNode, refusalBody, firstRefusal}
+use Rattle.laws.proofs.Unrolling.{verdict, flatten-is, isNiss-map}
+use Rattle.laws.specs.Inverted.{inverted, invertedNode, invRefusal}
+use Rattle.laws.proofs.Inverses.{inv-is, inverse-unrolls}
 
 -- a step that can be undone
 abbrev pub negatable : {F C S : Type 0} → LeafOf F C S → Bool

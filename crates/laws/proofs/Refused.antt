@@ -18,9 +18,8 @@ use Rattle.notation.specs.declared.common.GroupKind.the-variants.{Simple, Macro
 use Rattle.notation.specs.declared.common.BinaryGroupKind.{BinaryGroupKind}
 use Rattle.notation.specs.declared.common.BinaryGroupKind.the-variants.{Commutator, Conjugate}
 use Rattle.laws.proofs.Bools.{false-true, no-some, no-refusal}
-use Rattle.laws.proofs.Unrolling.{
-  verdict, first, ifReached, firstInOrder, refusalBinary, flat, flatten-is, refusalNode, refusalBody, firstRefusal
-}
+use Rattle.laws.specs.Unrolled.{first, ifReached, firstInOrder, refusalBinary, flat, refusalNode, refusalBody, firstRefusal}
+use Rattle.laws.proofs.Unrolling.{verdict, flatten-is}
 use Rattle.laws.proofs.Reached.{first-left, first-right, order-left, order-right, niss-clean}
 
 -- A node that is reached in a list and causes the refusal r; the same in a list that a group enters.

@@ -18,13 +18,10 @@ use Rattle.notation.specs.Counts.{times, countBinary, countNode, countBody, cou
 use Rattle.notation.specs.declared.common.BinaryGroupKind.{BinaryGroupKind}
 use Rattle.notation.specs.declared.common.BinaryGroupKind.the-variants.{Commutator, Conjugate}
 use Rattle.laws.proofs.ListEntries.{get-append-left, get-append-right, get-within, get-reverse, get-map}
-use Rattle.laws.proofs.Unrolling.{undo-undo, backwards, flatNode, flatBody, flat, flatBody-backwards, flat-backwards}
+use Rattle.laws.specs.Unrolled.{backwards, flatNode, flatBody, flat}
+use Rattle.laws.proofs.Unrolling.{undo-undo, flatBody-backwards, flat-backwards}
 use Rattle.laws.proofs.Counting.{countBody-is, count-is}
-
--- a step, undone or not
-abbrev pub undoIf : Bool → Option Leaf → Option Leaf
-undoIf inverted none = none
-undoIf inverted (some x) = some (pick inverted (undo x) x)
+use Rattle.laws.specs.Unrolled.{undoIf}
 
 pub undo-none : (o : Option Leaf) → undoIf false o ≡ o
 undo-none none = refl

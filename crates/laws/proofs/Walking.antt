@@ -17,12 +17,9 @@ use Rattle.notation.specs.declared.common.BinaryGroupKind.{BinaryGroupKind}
 use Rattle.record.specs.Meaning.{field, FIRST, SECOND}
 use Rattle.record.specs.Range.{FitsHead}
 use Rattle.record.proofs.RoundTrip.{length-headRecord, headAt-headRecord, cut-headRecord}
-use Rattle.laws.proofs.Packing.{FitsNode, FitsBody, FitsTree, length-packNode, length-pack, unpack-pack}
-
--- The bytes of a packed list of nodes.
-pub record Packed (bs : List ℕ) : Type 0 where
-  pub whole : pack (unpack bs) ≡ bs
-  pub fits : FitsTree (unpack bs)
+use Rattle.laws.specs.Packed.{FitsNode, FitsBody, FitsTree}
+use Rattle.laws.proofs.Packing.{length-packNode, length-pack, unpack-pack}
+use Rattle.laws.specs.Packed.{Packed}
 
 pub packed : (t : Tree) → FitsTree t → Packed (pack t)
 packed t f =

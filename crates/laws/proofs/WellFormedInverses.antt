@@ -17,7 +17,8 @@ use Rattle.notation.specs.Counts.{countNode, countBody, count}
 use Rattle.notation.specs.declared.common.BinaryGroupKind.the-variants.{Commutator, Conjugate}
 use Rattle.numbers.proofs.TwosComplement.{natAbs-neg}
 use Rattle.laws.proofs.Bools.{and-left, and-right, and-both}
-use Rattle.laws.proofs.Inverses.{inverted, invertedNode, deeply, deeplyNode, deeplyBody, niss-deeply}
+use Rattle.laws.specs.Inverted.{inverted, invertedNode, deeply, deeplyNode, deeplyBody}
+use Rattle.laws.proofs.Inverses.{niss-deeply}
 
 pub multiplier-neg : (m : ℤ) → multiplierOk (negℤ m) ≡ multiplierOk m
 multiplier-neg m = ap (λ (n : ℕ). ltb n 2147483648) (natAbs-neg m)

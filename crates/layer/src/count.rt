@@ -30,7 +30,8 @@ impl AxisLayersInfo {
     pub fn resolve(self, layer: SignedLayer) -> LayerOption
         requires { ⌜ self .«max_layer» ≤ rule.MAX-LAYER ⌝ }
         requires { ⌜ meaning.IsSignedLayer layer ⌝ }
-        ensures { λ r. ⌜ meaning.layerOption r ≡ rule.resolve (self .«max_layer») (self .«allow_negatives») (meaning.signed layer) ⌝ }
+        ensures { λ r. ⌜ meaning.layerOption r
+            ≡ rule.resolve (self .«max_layer») (self .«allow_negatives») (meaning.signed layer) ⌝ }
         ensures { λ r. ⌜ meaning.Each (meaning.LayerUpTo (self .«max_layer»)) (meaning.layerOption r) ⌝ }
     {
         let i = layer.layer;
@@ -74,7 +75,8 @@ impl AxisLayersInfo {
         requires { ⌜ meaning.IsLayer (self .«max_layer») ⌝ }
         requires { ⌜ meaning.IsSignedLayer a ⌝ }
         requires { ⌜ meaning.IsSignedLayer b ⌝ }
-        ensures { λ r. ⌜ meaning.rangeOption r ≡ rule.resolveRange (self .«max_layer») (self .«allow_negatives») (meaning.signed a) (meaning.signed b) ⌝ }
+        ensures { λ r. ⌜ meaning.rangeOption r
+            ≡ rule.resolveRange (self .«max_layer») (self .«allow_negatives») (meaning.signed a) (meaning.signed b) ⌝ }
         ensures { λ r. ⌜ meaning.Each (meaning.RangeUpTo (self .«max_layer»)) (meaning.rangeOption r) ⌝ }
     {
         let from = self.resolve_unclamped(a);

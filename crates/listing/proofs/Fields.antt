@@ -12,7 +12,7 @@ use Rattle.notation.specs.Print.{put, printed}
 use Rattle.notation.specs.Entries.{checked, inverse, display, steps}
 use Rattle.notation.specs.Lister.{line, field, stepLines, stepsPart, treePart}
 use Rattle.notation.specs.Demands.{printedInverse}
-use Rattle.laws.proofs.Unrolling.{flat}
+use Rattle.laws.specs.Unrolled.{flat}
 use Rattle.notation.specs.Counts.{count}
 use Rattle.laws.proofs.Counting.{count-is}
 use Rattle.checked.specs.Checked.{Counted}

@@ -25,11 +25,13 @@ use Rattle.notation.specs.declared.common.BinaryGroupKind.the-variants.{Commuta
 use Rattle.record.specs.Range.{FitsFamily, FitsLeaf}
 use Rattle.laws.proofs.Bools.{and-left, and-right, and-both, no-some}
 use Rattle.laws.proofs.Fits.{familyFits, leafFits, nodeFits, treeFits}
-use Rattle.laws.proofs.Packing.{FitsNode, FitsBody, FitsTree, tree-fits, unpack-pack}
-use Rattle.laws.proofs.Walking.{Packed, packed}
-use Rattle.laws.proofs.Inverses.{inverted}
+use Rattle.laws.specs.Packed.{FitsNode, FitsBody, FitsTree}
+use Rattle.laws.proofs.Packing.{tree-fits, unpack-pack}
+use Rattle.laws.specs.Packed.{Packed}
+use Rattle.laws.proofs.Walking.{packed}
+use Rattle.laws.specs.Inverted.{inverted}
 use Rattle.laws.proofs.WellFormedInverses.{inverted-ok}
-use Rattle.laws.proofs.Unrolling.{ifReached, firstInOrder, inOrder, flatBinary, refusalBinary, flatNode, flatBody, flat, refusalNode, refusalBody, firstRefusal}
+use Rattle.laws.specs.Unrolled.{ifReached, firstInOrder, inOrder, flatBinary, refusalBinary, flatNode, flatBody, flat, refusalNode, refusalBody, firstRefusal}
 use Rattle.laws.proofs.Counting.{count-is}
 use Rattle.laws.proofs.Reached.{negatable, cleanNode, cleanNodes, first-left, first-right}
 use Rattle.laws.proofs.DemandThree.{inverted-fits}

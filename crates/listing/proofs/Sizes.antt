@@ -16,7 +16,7 @@ use Rattle.notation.specs.Entries.{reading, checked, inverse, MAX-TEXT}
 use Rattle.notation.specs.declared.features.Features.{Features}
 use Rattle.laws.proofs.Bools.{no-refusal}
 use Rattle.laws.proofs.Unrolling.{verdict}
-use Rattle.laws.proofs.Inverses.{inverted, invRefusal}
+use Rattle.laws.specs.Inverted.{inverted, invRefusal}
 use Rattle.laws.proofs.Packing.{length-pack, well-formed-packed}
 use Rattle.laws.proofs.WellFormedInverses.{inverted-size}
 use Rattle.laws.proofs.Accepting.{accepted-tree}

@@ -15,7 +15,7 @@ ghost use Rattle.notation.specs.Print.{putStep};
 ghost use Rattle.notation.specs.Entries as entries;
 ghost use Rattle.notation.specs.Lister as rule;
 ghost use Rattle.notation.specs.Demands.{printedInverse};
-ghost use Rattle.laws.proofs.Unrolling.{flat};
+ghost use Rattle.laws.specs.Unrolled.{flat};
 ghost use Rattle.checked.specs.Checked.{Counted};
 ghost use Rattle.display.specs.Written.{MOST as most, Wrote};
 ghost use Rattle.listing.specs.Listing.{MAX-TREE as maxTree};
@@ -57,7 +57,8 @@ pub fn number_line(out: &mut [u8], at: usize, label: &[u8], n: u32) -> usize
 // A line whose field is a tree, or the refusal of one that is not well formed.
 pub fn tree_line(out: &mut [u8], at: usize, label: &[u8], text: &[u8], tree: &[u8]) -> usize
     requires { ⌜ at ≤ most ⌝ }
-    ensures { λ r. ⌜ Wrote (now (out .entry)) (now (out .exit)) at r (rule.line (now (label .entry)) (rule.field (entries.display (now (text .entry)) (now (tree .entry))))) ⌝ }
+    ensures { λ r. ⌜ Wrote (now (out .entry)) (now (out .exit)) at r
+            (rule.line (now (label .entry)) (rule.field (entries.display (now (text .entry)) (now (tree .entry))))) ⌝ }
 {
     match check(text, tree) {
         Answer::Value(_) => {
@@ -74,7 +75,8 @@ pub fn tree_line(out: &mut [u8], at: usize, label: &[u8], text: &[u8], tree: &[u
 pub fn inverse_line(out: &mut [u8], at: usize, label: &[u8], text: &[u8], tree: &[u8]) -> usize
     requires { ⌜ at ≤ most ⌝ }
     requires { ⌜ length (now tree) ≤ maxTree ⌝ }
-    ensures { λ r. ⌜ Wrote (now (out .entry)) (now (out .exit)) at r (rule.line (now (label .entry)) (rule.field (printedInverse (now (text .entry)) (now (tree .entry))))) ⌝ }
+    ensures { λ r. ⌜ Wrote (now (out .entry)) (now (out .exit)) at r
+            (rule.line (now (label .entry)) (rule.field (printedInverse (now (text .entry)) (now (tree .entry))))) ⌝ }
 {
     let mut inverse = [0u8; MAX_TREE];
     match entries::inv(text, tree, &mut inverse) {

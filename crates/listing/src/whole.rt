@@ -9,7 +9,7 @@ ghost use Rattle.notation.specs.Packed.{unpack};
 ghost use Rattle.notation.specs.Invert.{undo};
 ghost use Rattle.notation.specs.Entries as entries;
 ghost use Rattle.notation.specs.Lister as rule;
-ghost use Rattle.laws.proofs.Unrolling.{flat};
+ghost use Rattle.laws.specs.Unrolled.{flat};
 ghost use Rattle.checked.specs.Checked.{Counted};
 ghost use Rattle.display.specs.Written.{MOST as most, Wrote};
 ghost use Rattle.listing.specs.Listing.{MAX-TREE as maxTree, AtFront};
@@ -43,7 +43,8 @@ pub fn list_whole(input: &[u8], out: &mut [u8; MAX_LISTING]) -> usize
 
 // The whole listing of an input, or refusal 5 where it does not fit. The first run has no room and only measures.
 pub fn list(input: &[u8], out: &mut [u8]) -> Answer
-    ensures { λ r. ⌜ record { answer = entries.outcome r; buffer = now (out .exit) } ≡ entries.lend (result (rule.lister (now (input .entry)))) (now (out .entry)) ⌝ }
+    ensures { λ r. ⌜ entries.lent r (now (out .exit))
+        ≡ entries.lend (result (rule.lister (now (input .entry)))) (now (out .entry)) ⌝ }
 {
     let mut nothing = [0u8; 0];
     let size = put_input(&mut nothing, input);
@@ -93,7 +94,8 @@ fn put_listing(out: &mut [u8], text: &[u8], features: Features) -> usize
 // The lines of a text that was read.
 fn put_tree(out: &mut [u8], text: &[u8], tree: &[u8]) -> usize
     requires { ⌜ length (now tree) ≤ maxTree ⌝ }
-    ensures { λ r. ⌜ Wrote (now (out .entry)) (now (out .exit)) 0 r (λ rest. rule.treePart (now (text .entry)) (result (now (tree .entry))) ++ rest) ⌝ }
+    ensures { λ r. ⌜ Wrote (now (out .entry)) (now (out .exit)) 0 r
+            (λ rest. rule.treePart (now (text .entry)) (result (now (tree .entry))) ++ rest) ⌝ }
 {
     let inverse = tree_line(out, 0, b"text", text, tree);
     let steps = inverse_line(out, inverse, b"inverse", text, tree);
@@ -103,7 +105,8 @@ fn put_tree(out: &mut [u8], text: &[u8], tree: &[u8]) -> usize
 // The count and the first steps.
 fn put_steps(out: &mut [u8], at: usize, text: &[u8], tree: &[u8]) -> usize
     requires { ⌜ at ≤ most ⌝ }
-    ensures { λ r. ⌜ Wrote (now (out .entry)) (now (out .exit)) at r (λ rest. rule.stepsPart (now (text .entry)) (entries.steps (now (text .entry)) (now (tree .entry))) ++ rest) ⌝ }
+    ensures { λ r. ⌜ Wrote (now (out .entry)) (now (out .exit)) at r
+            (λ rest. rule.stepsPart (now (text .entry)) (entries.steps (now (text .entry)) (now (tree .entry))) ++ rest) ⌝ }
 {
     match count_steps(text, tree) {
         Answer::Value(n) => {
@@ -118,7 +121,8 @@ fn put_steps(out: &mut [u8], at: usize, text: &[u8], tree: &[u8]) -> usize
 fn step_lines(out: &mut [u8], at: usize, text: &[u8], tree: &[u8], n: u64) -> usize
     requires { ⌜ at ≤ most ⌝ }
     requires { ⌜ Counted (now text) (now tree) n ⌝ }
-    ensures { λ r. ⌜ Wrote (now (out .entry)) (now (out .exit)) at r (λ rest. rule.stepLines (now (text .entry)) 1000 0 (flat undo false (unpack (now (tree .entry)))) ++ rest) ⌝ }
+    ensures { λ r. ⌜ Wrote (now (out .entry)) (now (out .exit)) at r
+            (λ rest. rule.stepLines (now (text .entry)) 1000 0 (flat undo false (unpack (now (tree .entry)))) ++ rest) ⌝ }
 {
     let end = least(n, SHOWN);
     let mut next = at;

@@ -22,8 +22,10 @@ use Rattle.record.specs.Meaning.{field, kindAt, FIRST, NUMBER}
 use Rattle.record.specs.Range.{FitsNumber, FitsHead}
 use Rattle.record.proofs.Numbered.{kindOf, kind-field}
 use Rattle.record.proofs.RoundTrip.{length-headRecord}
-use Rattle.laws.proofs.Packing.{FitsNode, FitsTree, unpack-pack}
-use Rattle.laws.proofs.Walking.{Packed, packed, packed-nil, no-node, nodeHead, nodeEnd, Step, first-node, one-list, two-lists}
+use Rattle.laws.specs.Packed.{FitsNode, FitsTree}
+use Rattle.laws.proofs.Packing.{unpack-pack}
+use Rattle.laws.specs.Packed.{Packed}
+use Rattle.laws.proofs.Walking.{packed, packed-nil, no-node, nodeHead, nodeEnd, Step, first-node, one-list, two-lists}
 use Rattle.nodes.specs.Nodes.{IsNode, part, FirstNode, firstList, secondList, Lists}
 
 pub part-rest : (a : ℕ) (bs : List ℕ) → part a (length bs) bs ≡ drop a bs

@@ -5,8 +5,8 @@ use mathlib.Core.List.{List}
 use lib.ListN.{length, take, drop}
 use Rattle.notation.specs.Tree.{Leaf, Node, leaf, block, group, binaryGroup, nil, cons, Tree}
 use Rattle.notation.specs.Packed.{RECORD, packNode, unpack}
-use Rattle.laws.proofs.Packing.{FitsNode}
-use Rattle.laws.proofs.Walking.{Packed}
+use Rattle.laws.specs.Packed.{FitsNode}
+use Rattle.laws.specs.Packed.{Packed}
 
 pub record IsNode (bs : List ℕ) (n : Node Leaf) : Type 0 where
   pub bytes : packNode n ≡ bs

@@ -3,7 +3,7 @@ ghost use mathlib.Core.Path.{_≡_};
 ghost use Prim.Native.Nat.{_<_};
 ghost use lib.ListN.{length};
 ghost use Rattle.notation.specs.Tree.{Node, Leaf};
-ghost use Rattle.laws.proofs.Walking.{Packed};
+ghost use Rattle.laws.specs.Packed.{Packed};
 ghost use Rattle.nodes.specs.Nodes.{IsNode, FirstNode, Lists};
 use record::RECORD;
 use record::fields;

@@ -81,7 +81,8 @@ pub fn uint(s: &[u8], at: usize, low: u32, high: u32) -> Unsigned
 // The number after the `-` at `at`.
 fn negative(s: &[u8], at: usize, low: u32, high: u32) -> Signed
     requires { ⌜ (at < length (now s)) × (high ≤ 2147483648) ⌝ }
-    ensures { λ r. ⌜ sintReading (now (s .entry)) r ≡ rule.andThen (rule.uint low high (at + 1) (drop (at + 1) (now (s .entry)))) (λ n. rule.done (negℤ (pos n))) ⌝ }
+    ensures { λ r. ⌜ sintReading (now (s .entry)) r
+        ≡ rule.andThen (rule.uint low high (at + 1) (drop (at + 1) (now (s .entry)))) (λ n. rule.done (negℤ (pos n))) ⌝ }
 {
     let Unsigned::Took(value, end) = uint(s, at + 1, low, high) else {
         return Signed::Nothing;

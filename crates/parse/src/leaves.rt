@@ -75,7 +75,8 @@ fn numbered_layers(text: &[u8], at: usize) -> Layers
 // The layers before a family; none is fine. No number starts with a brace.
 pub fn layer_prefix_contents(text: &[u8], at: usize, features: Features) -> Layers
     requires { ⌜ (at ≤ length (now text)) × (length (now text) ≤ MAX-TEXT) ⌝ }
-    ensures { λ r. ⌜ means.layersReading (now (text .entry)) r ≡ rule.layerPrefixContents features at (drop at (now (text .entry))) ⌝ }
+    ensures { λ r. ⌜ means.layersReading (now (text .entry)) r
+        ≡ rule.layerPrefixContents features at (drop at (now (text .entry))) ⌝ }
 {
     if features.layers.layer_sets && has(text, at, b'{') {
         let Taken::To(next) = layer_set(text, at, features.layers.hsc1_layer_ranges) else {
@@ -218,7 +219,8 @@ pub fn group_kind(text: &[u8], at: usize) -> Group
 fn rotation(text: &[u8], at: usize, features: Features) -> LeafAnswer
     requires { ⌜ (at < length (now text)) × (length (now text) ≤ MAX-TEXT) ⌝ }
     requires { ⌜ eqb (byteAt (now text) at) 64 ≡ true ⌝ }
-    ensures { λ r. ⌜ means.recordReading (now (text .entry)) r ≡ means.repeated features (rule.rotationNode features at (drop at (now (text .entry)))) ⌝ }
+    ensures { λ r. ⌜ means.recordReading (now (text .entry)) r
+        ≡ means.repeated features (rule.rotationNode features at (drop at (now (text .entry)))) ⌝ }
 {
     if features.generalized_rotations {
         let from = at + 1;
@@ -242,7 +244,8 @@ fn rotation(text: &[u8], at: usize, features: Features) -> LeafAnswer
 // A move: layers, a family of at least one character, constraints and a multiplier.
 fn move_(text: &[u8], at: usize, features: Features) -> LeafAnswer
     requires { ⌜ (at ≤ length (now text)) × (length (now text) ≤ MAX-TEXT) ⌝ }
-    ensures { λ r. ⌜ means.recordReading (now (text .entry)) r ≡ means.repeated features (rule.moveNode features at (drop at (now (text .entry)))) ⌝ }
+    ensures { λ r. ⌜ means.recordReading (now (text .entry)) r
+        ≡ means.repeated features (rule.moveNode features at (drop at (now (text .entry)))) ⌝ }
 {
     let sign = tilde(text, at, features);
     let prefix = layer_prefix_contents(text, sign.next, features);

@@ -76,7 +76,8 @@ fn binary_group_kind(text: &[u8], at: usize) -> BinaryKind
 // A group's record, with the number of its list's tally where the count will stand. The number is below 256; said here, it spares three stores.
 fn put_group(tree: &mut [u8], slot: usize, f: Fields, tally: u64)
     requires { ⌜ slot ≤ MAX-TEXT ⌝ }
-    ensures { λ _. ⌜ now (tree .exit) ≡ nodes.put (packed.RECORD * slot) (packed.layOut packed.widths (set (listed f) 11 (tally % 256))) (now (tree .entry)) ⌝ }
+    ensures { λ _. ⌜ now (tree .exit)
+        ≡ nodes.put (packed.RECORD * slot) (packed.layOut packed.widths (set (listed f) 11 (tally % 256))) (now (tree .entry)) ⌝ }
 {
     let at = RECORD * slot;
     let end = at + RECORD;
@@ -90,7 +91,8 @@ fn put_group(tree: &mut [u8], slot: usize, f: Fields, tally: u64)
 // The same of a leaf. It has a function of its own since that has one caller, into which the compiler puts it: a leaf's fields then never go through memory.
 fn put_leaf(tree: &mut [u8], slot: usize, f: Fields, tally: u64)
     requires { ⌜ slot ≤ MAX-TEXT ⌝ }
-    ensures { λ _. ⌜ now (tree .exit) ≡ nodes.put (packed.RECORD * slot) (packed.layOut packed.widths (set (listed f) 11 (tally % 256))) (now (tree .entry)) ⌝ }
+    ensures { λ _. ⌜ now (tree .exit)
+        ≡ nodes.put (packed.RECORD * slot) (packed.layOut packed.widths (set (listed f) 11 (tally % 256))) (now (tree .entry)) ⌝ }
 {
     let at = RECORD * slot;
     let end = at + RECORD;
@@ -111,7 +113,8 @@ fn leaf_node(
     tally: u64,
 ) -> NodeAnswer
     requires { ⌜ nodes.Within (now text) at slot tally ⌝ }
-    ensures { λ r. ⌜ nodes.NodeAnswered (λ _. rule.node features rule.fail) (now (text .entry)) at slot tally (now (tree .entry)) (now (tree .exit)) r ⌝ }
+    ensures { λ r. ⌜ nodes.NodeAnswered (λ _. rule.node features rule.fail) (now (text .entry)) at slot tally (now (tree .entry))
+            (now (tree .exit)) r ⌝ }
 {
     let LeafAnswer::Took(f, next) = leaf(text, at, features) else {
         return NodeAnswer::Nothing;
@@ -130,7 +133,8 @@ pub fn node_list(
     tally: u64,
 ) -> Listed
     requires { ⌜ nodes.Within (now text) at slot tally ⌝ }
-    ensures { λ r. ⌜ nodes.ListRead features (now (text .entry)) at slot tally (now (tree .entry)) (now (tree .exit)) (r .next) (r .slot) ⌝ }
+    ensures { λ r. ⌜ nodes.ListRead features (now (text .entry)) at slot tally (now (tree .entry)) (now (tree .exit)) (r .next)
+            (r .slot) ⌝ }
 {
     let mut next = whitespace_end(text, at);
     let mut end = slot;
@@ -149,7 +153,8 @@ pub fn node_list(
 // A leaf is tried first: where one stands, no group does, so the rule's order does not matter, and most nodes are leaves.
 fn node(text: &[u8], at: usize, features: Features, tree: &mut [u8], slot: usize, tally: u64) -> NodeAnswer
     requires { ⌜ nodes.Within (now text) at slot tally ⌝ }
-    ensures { λ r. ⌜ nodes.NodeAnswered (λ k. rule.node features (rule.nodeList features k)) (now (text .entry)) at slot tally (now (tree .entry)) (now (tree .exit)) r ⌝ }
+    ensures { λ r. ⌜ nodes.NodeAnswered (λ k. rule.node features (rule.nodeList features k)) (now (text .entry)) at slot tally
+            (now (tree .entry)) (now (tree .exit)) r ⌝ }
 {
     let NodeAnswer::Took(next, end) = leaf_node(text, at, features, tree, slot, tally) else {
         return any_group(text, at, features, tree, slot, tally);
@@ -167,7 +172,8 @@ fn any_group(
     tally: u64,
 ) -> NodeAnswer
     requires { ⌜ nodes.Within (now text) at slot tally ⌝ }
-    ensures { λ r. ⌜ nodes.NodeAnswered (λ k. nodes.repeated features (nodes.nested (rule.nodeList features k))) (now (text .entry)) at slot tally (now (tree .entry)) (now (tree .exit)) r ⌝ }
+    ensures { λ r. ⌜ nodes.NodeAnswered (λ k. nodes.repeated features (nodes.nested (rule.nodeList features k))) (now (text .entry))
+            at slot tally (now (tree .entry)) (now (tree .exit)) r ⌝ }
 {
     if text.len() <= at {
         return NodeAnswer::Nothing;
@@ -189,7 +195,8 @@ fn group(
     tally: u64,
 ) -> NodeAnswer
     requires { ⌜ nodes.Within (now text) at slot tally × (at < length (now text)) ⌝ }
-    ensures { λ r. ⌜ nodes.NodeAnswered (λ k. nodes.repeated features (rule.groupNode (rule.nodeList features k))) (now (text .entry)) at slot tally (now (tree .entry)) (now (tree .exit)) r ⌝ }
+    ensures { λ r. ⌜ nodes.NodeAnswered (λ k. nodes.repeated features (rule.groupNode (rule.nodeList features k))) (now (text .entry))
+            at slot tally (now (tree .entry)) (now (tree .exit)) r ⌝ }
 {
     let start = group_kind(text, at);
     let kind = start.kind;
@@ -217,7 +224,8 @@ fn binary_group(
     tally: u64,
 ) -> NodeAnswer
     requires { ⌜ nodes.Within (now text) at slot tally × (at < length (now text)) × (getD (now text) at 0 ≡ 91) ⌝ }
-    ensures { λ r. ⌜ nodes.NodeAnswered (λ k. nodes.repeated features (rule.binaryGroupNode (rule.nodeList features k))) (now (text .entry)) at slot tally (now (tree .entry)) (now (tree .exit)) r ⌝ }
+    ensures { λ r. ⌜ nodes.NodeAnswered (λ k. nodes.repeated features (rule.binaryGroupNode (rule.nodeList features k)))
+            (now (text .entry)) at slot tally (now (tree .entry)) (now (tree .exit)) r ⌝ }
 {
     let a = node_list(text, at + 1, features, tree, slot + 1, tally + OF_FIRST);
     let BinaryKind::Is(kind) = binary_group_kind(text, a.next) else {

@@ -66,7 +66,8 @@ fn scramble_kind(right: bool, plus: bool) -> MegaminxScrambleMove
 // A scramble move, which was seen.
 pub fn megaminx_scramble_move(text: &[u8], at: usize) -> LeafAnswer
     requires { ⌜ (at < length (now text)) × (means.scrambleAt (now text) at ≡ true) ⌝ }
-    ensures { λ r. ⌜ means.recordReading (now (text .entry)) r ≡ means.scrambleRead (rule.megaminxScrambleMove at (drop at (now (text .entry)))) ⌝ }
+    ensures { λ r. ⌜ means.recordReading (now (text .entry)) r
+        ≡ means.scrambleRead (rule.megaminxScrambleMove at (drop at (now (text .entry)))) ⌝ }
 {
     let kind = scramble_kind(has(text, at, b'R'), has(text, at + 1, b'+'));
     LeafAnswer::Took(megaminx_fields(kind), at + 3)
@@ -119,7 +120,8 @@ fn sq1_move(text: &[u8], at: usize) -> LeafAnswer
 
 pub fn admitted_sq1_move(text: &[u8], at: usize, features: Features) -> LeafAnswer
     requires { ⌜ at < length (now text) ⌝ }
-    ensures { λ r. ⌜ means.recordReading (now (text .entry)) r ≡ means.leafRead (rule.when (features .sq1) rule.sq1Move at (drop at (now (text .entry)))) ⌝ }
+    ensures { λ r. ⌜ means.recordReading (now (text .entry)) r
+        ≡ means.leafRead (rule.when (features .sq1) rule.sq1Move at (drop at (now (text .entry)))) ⌝ }
 {
     if features.sq1 {
         sq1_move(text, at)

@@ -136,7 +136,8 @@ fn closing(text: &[u8], at: usize) -> Taken
 // A set in braces, with commas between its elements.
 fn braces(text: &[u8], at: usize, element: Element) -> Taken
     requires { ⌜ at ≤ length (now text) ⌝ }
-    ensures { λ r. ⌜ means.endReading (now (text .entry)) r ≡ means.forget (rule.braces (means.elementOf element) at (drop at (now (text .entry)))) ⌝ }
+    ensures { λ r. ⌜ means.endReading (now (text .entry)) r
+        ≡ means.forget (rule.braces (means.elementOf element) at (drop at (now (text .entry)))) ⌝ }
 {
     if has(text, at, b'{') {
         return in_braces(text, at, element);
@@ -148,7 +149,8 @@ fn braces(text: &[u8], at: usize, element: Element) -> Taken
 // After a comma only an element can follow. One loop for the first element and the others, so that `element_end` has one caller.
 fn in_braces(text: &[u8], at: usize, element: Element) -> Taken
     requires { ⌜ (at ≤ length (now text)) × (byteAt (now text) at ≡ 123) ⌝ }
-    ensures { λ r. ⌜ means.endReading (now (text .entry)) r ≡ means.forget (rule.braces (means.elementOf element) at (drop at (now (text .entry)))) ⌝ }
+    ensures { λ r. ⌜ means.endReading (now (text .entry)) r
+        ≡ means.forget (rule.braces (means.elementOf element) at (drop at (now (text .entry)))) ⌝ }
 {
     // The brace or comma that stands before an element.
     let mut mark = at;
@@ -179,7 +181,8 @@ pub fn constraint_set(text: &[u8], at: usize) -> Taken
 
 pub fn layer_set(text: &[u8], at: usize, hsc1: bool) -> Taken
     requires { ⌜ at ≤ length (now text) ⌝ }
-    ensures { λ r. ⌜ means.endReading (now (text .entry)) r ≡ means.forget (rule.layerSetElements hsc1 at (drop at (now (text .entry)))) ⌝ }
+    ensures { λ r. ⌜ means.endReading (now (text .entry)) r
+        ≡ means.forget (rule.layerSetElements hsc1 at (drop at (now (text .entry)))) ⌝ }
 {
     braces(text, at, Element::Layer(hsc1))
 }

@@ -18,7 +18,7 @@ use tally::fill_counts;
 // The tree of a text, written to the front of `tree`; the answer is its size in bytes. A refusal leaves the buffer as it was, so
 // the text is read twice: first to measure, then to write. Step counts come last.
 pub fn parse_notation(text: &[u8], features: Features, tree: &mut [u8]) -> Answer
-    ensures { λ r. ⌜ record { answer = rule.outcome r; buffer = now (tree .exit) } ≡ rule.parseNotation features (now (text .entry)) (now (tree .entry)) ⌝ }
+    ensures { λ r. ⌜ rule.lent r (now (tree .exit)) ≡ rule.parseNotation features (now (text .entry)) (now (tree .entry)) ⌝ }
 {
     if MAX_TEXT < text.len() {
         return Answer::Refused(TOO_LONG);

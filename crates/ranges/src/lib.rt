@@ -51,7 +51,8 @@ fn resolve(
     bytes: &mut [u8],
 ) -> Answer
     requires { ⌜ length (now bytes) ≡ 65536 ⌝ }
-    ensures { λ r. ⌜ Resolved (now (text .entry)) (now (tree .entry)) «record» «max_layer» «allow_negatives» room r (now (bytes .exit)) ⌝ }
+    ensures { λ r. ⌜ Resolved (now (text .entry)) (now (tree .entry)) «record» «max_layer» «allow_negatives» room r
+            (now (bytes .exit)) ⌝ }
 {
     let answer = entries::simplify(text, tree, record, max_layer, allow_negatives, bytes);
     let Answer::Value(n) = answer else {
@@ -83,7 +84,9 @@ pub fn simplify(
     allow_negatives: bool,
     ranges: &mut [LayerRange],
 ) -> Answer
-    ensures { λ r. ⌜ record { answer = rule.outcome r; buffer = map meaning.range (now (ranges .exit)) } ≡ rule.simplify (now (text .entry)) (now (tree .entry)) «record» «max_layer» «allow_negatives» (map meaning.range (now (ranges .entry))) ⌝ }
+    ensures { λ r. ⌜ rule.lent r (map meaning.range (now (ranges .exit)))
+        ≡ rule.simplify (now (text .entry)) (now (tree .entry)) «record» «max_layer» «allow_negatives»
+                (map meaning.range (now (ranges .entry))) ⌝ }
 {
     let mut bytes = [0; BYTES];
     let room = ranges.len();

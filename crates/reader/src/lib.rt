@@ -66,7 +66,8 @@ impl<'a> Reader<'a> {
     // The 32 bits of a multiplier: 1 where no number is written.
     pub fn multiplier(&mut self, features: Features) -> u32
         requires { ⌜ cursor.Inside (now self) ⌝ }
-        ensures { λ m. ⌜ (cursor.reads (rule.done (fromBits 32 m)) (now (self .exit)) ≡ cursor.reads (rule.multiplier features) (now (self .entry))) × cursor.Moves (rule.multiplier features) (now (self .entry)) (now (self .exit)) ⌝ }
+        ensures { λ m. ⌜ (cursor.reads (rule.done (fromBits 32 m)) (now (self .exit)) ≡ cursor.reads (rule.multiplier features)
+                (now (self .entry))) × cursor.Moves (rule.multiplier features) (now (self .entry)) (now (self .exit)) ⌝ }
     {
         let times = parse::multiplier(self.text, self.at, features);
         self.at = times.next;
@@ -76,7 +77,9 @@ impl<'a> Reader<'a> {
     // A set of constraints: where it ends.
     pub fn constraint_set(&mut self) -> Taken
         requires { ⌜ cursor.Inside (now self) ⌝ }
-        ensures { λ r. ⌜ (means.endReading (cursor.text (now (self .entry))) r ≡ means.forget (cursor.reads rule.constraintSet (now (self .entry)))) × cursor.Moves rule.constraintSet (now (self .entry)) (now (self .exit)) ⌝ }
+        ensures { λ r. ⌜ (means.endReading (cursor.text (now (self .entry))) r ≡ means.forget
+                (cursor.reads rule.constraintSet (now (self .entry)))) × cursor.Moves rule.constraintSet (now (self .entry)) (now
+                (self .exit)) ⌝ }
     {
         let answer = parse::constraint_set(self.text, self.at);
         self.at = after_set(answer, self.at);
@@ -86,7 +89,8 @@ impl<'a> Reader<'a> {
     // A node that is no group.
     pub fn leaf(&mut self, features: Features) -> LeafAnswer
         requires { ⌜ cursor.Inside (now self) × (length (cursor.text (now self)) ≤ MAX-TEXT) ⌝ }
-        ensures { λ r. ⌜ (means.recordReading (cursor.text (now (self .entry))) r ≡ cursor.reads (cursor.leaf features) (now (self .entry))) × cursor.Moves (cursor.leaf features) (now (self .entry)) (now (self .exit)) ⌝ }
+        ensures { λ r. ⌜ (means.recordReading (cursor.text (now (self .entry))) r ≡ cursor.reads (cursor.leaf features)
+                (now (self .entry))) × cursor.Moves (cursor.leaf features) (now (self .entry)) (now (self .exit)) ⌝ }
     {
         let answer = parse::leaf(self.text, self.at, features);
         self.at = after_leaf(answer, self.at);

@@ -54,7 +54,8 @@ fn family_at(p: Span) -> Span
 // The family of a move or a rotation.
 pub fn family_of(t: &[u8]) -> Span
     requires { ⌜ RECORD ≤ length (now t) ⌝ }
-    ensures { λ r. ⌜ meaning.span r ≡ familyAt (meaning.field meaning.FAMILY (now (t .entry))) (meaning.field meaning.FAMILY-SIZE (now (t .entry))) ⌝ }
+    ensures { λ r. ⌜ meaning.span r
+        ≡ familyAt (meaning.field meaning.FAMILY (now (t .entry))) (meaning.field meaning.FAMILY-SIZE (now (t .entry))) ⌝ }
     ensures { λ r. ⌜ FitsSpan (meaning.span r) ⌝ }
 {
     family_at(fields::family(t))

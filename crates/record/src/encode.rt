@@ -152,7 +152,8 @@ pub fn without_parts(
     count: u64,
 ) -> Fields
     requires { ⌜ kind < 16 ⌝ }
-    ensures { λ f. ⌜ meaning.listed f ≡ packed.inOrder kind 0 0 0 first second number other packed.nowhere packed.nowhere packed.nowhere count ⌝ }
+    ensures { λ f. ⌜ meaning.listed f
+        ≡ packed.inOrder kind 0 0 0 first second number other packed.nowhere packed.nowhere packed.nowhere count ⌝ }
 {
     Fields {
         small: kind * 16,

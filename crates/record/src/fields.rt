@@ -95,7 +95,9 @@ pub fn other(t: &[u8]) -> u32
 // The span whose offset and size stand from `at` on: three bytes each, which the machine takes as four and two.
 fn span_at(t: &[u8], at: usize) -> Span
     requires { ⌜ at + (placeWidth + placeWidth) ≤ length (now t) ⌝ }
-    ensures { λ r. ⌜ span r ≡ tree.span (fromBigEndian (take placeWidth (drop at (now (t .entry))))) (fromBigEndian (take placeWidth (drop (at + placeWidth) (now (t .entry))))) ⌝ }
+    ensures { λ r. ⌜ span r
+        ≡ tree.span (fromBigEndian (take placeWidth (drop at (now (t .entry)))))
+                (fromBigEndian (take placeWidth (drop (at + placeWidth) (now (t .entry))))) ⌝ }
     ensures { λ r. ⌜ FitsSpan (span r) ⌝ }
 {
     let head = read_u32(t, at);
@@ -151,7 +153,9 @@ pub fn counts_one(t: &[u8]) -> bool
 // Whether both fields from `at` on, of three bytes each, are 0.
 fn both_zero(t: &[u8], at: usize) -> bool
     requires { ⌜ at + (placeWidth + placeWidth) ≤ length (now t) ⌝ }
-    ensures { λ r. ⌜ r ≡ (eqb (fromBigEndian (take placeWidth (drop at (now (t .entry))))) 0 && eqb (fromBigEndian (take placeWidth (drop (at + placeWidth) (now (t .entry))))) 0) ⌝ }
+    ensures { λ r. ⌜ r
+        ≡ (eqb (fromBigEndian (take placeWidth (drop at (now (t .entry))))) 0 && eqb
+                (fromBigEndian (take placeWidth (drop (at + placeWidth) (now (t .entry))))) 0) ⌝ }
 {
     read_u32(t, at) == 0 && read_u16(t, at + 4) == 0
 }
@@ -216,7 +220,8 @@ pub fn set_other(out: &mut [u8], n: u32)
 
 fn set_span(out: &mut [u8], at: usize, p: Span)
     requires { ⌜ at + (placeWidth + placeWidth) ≤ length (now out) ⌝ }
-    ensures { λ _. ⌜ now (out .exit) ≡ sets (sets (now (out .entry)) at (bigEndian placeWidth (p .offset))) (at + placeWidth) (bigEndian placeWidth (p .size)) ⌝ }
+    ensures { λ _. ⌜ now (out .exit)
+        ≡ sets (sets (now (out .entry)) at (bigEndian placeWidth (p .offset))) (at + placeWidth) (bigEndian placeWidth (p .size)) ⌝ }
 {
     write_u24(out, at, p.offset);
     write_u24(out, at + layout::PLACE_BYTES, p.size);

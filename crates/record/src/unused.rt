@@ -36,7 +36,9 @@ pub fn leaf_written(t: &[u8]) -> bool
 // Whether nothing stands beside the kind but perhaps numbers.
 fn kind_alone(t: &[u8]) -> bool
     requires { ⌜ RECORD ≤ length (now t) ⌝ }
-    ensures { λ r. ⌜ r ≡ (eqb (field SMALL (now (t .entry)) % 16) 0 && (bothZero FAMILY (now (t .entry)) && (bothZero CONSTRAINTS (now (t .entry)) && bothZero LAYER-SET (now (t .entry))))) ⌝ }
+    ensures { λ r. ⌜ r
+        ≡ (eqb (field SMALL (now (t .entry)) % 16) 0 &&
+                (bothZero FAMILY (now (t .entry)) && (bothZero CONSTRAINTS (now (t .entry)) && bothZero LAYER-SET (now (t .entry))))) ⌝ }
 {
     fields::small(t) % 16 == 0
         && (fields::no_family(t) && (fields::no_constraints(t) && fields::no_layer_set(t)))
@@ -51,7 +53,9 @@ fn no_numbers(t: &[u8]) -> bool
 
 fn move_written(t: &[u8]) -> bool
     requires { ⌜ RECORD ≤ length (now t) ⌝ }
-    ensures { λ r. ⌜ r ≡ (eqb (field OTHER (now (t .entry))) (lowAndHigh (layersAt (now (t .entry)))) && (setWritten (now (t .entry)) && partsWritten (now (t .entry)))) ⌝ }
+    ensures { λ r. ⌜ r
+        ≡ (eqb (field OTHER (now (t .entry))) (lowAndHigh (layersAt (now (t .entry)))) &&
+                (setWritten (now (t .entry)) && partsWritten (now (t .entry)))) ⌝ }
 {
     fields::other(t) == low_and_high(layers(t)) && (set_written(t) && parts_written(t))
 }
@@ -59,7 +63,9 @@ fn move_written(t: &[u8]) -> bool
 // A rotation has no tilde and no layers.
 fn rotation_written(t: &[u8]) -> bool
     requires { ⌜ RECORD ≤ length (now t) ⌝ }
-    ensures { λ r. ⌜ r ≡ (eqb (field SMALL (now (t .entry)) / 2 % 8) 0 && (eqb (field OTHER (now (t .entry))) 0 && (bothZero LAYER-SET (now (t .entry)) && partsWritten (now (t .entry))))) ⌝ }
+    ensures { λ r. ⌜ r
+        ≡ (eqb (field SMALL (now (t .entry)) / 2 % 8) 0 &&
+                (eqb (field OTHER (now (t .entry))) 0 && (bothZero LAYER-SET (now (t .entry)) && partsWritten (now (t .entry))))) ⌝ }
 {
     fields::small(t) / 2 % 8 == 0
         && (fields::other(t) == 0 && (fields::no_layer_set(t) && parts_written(t)))

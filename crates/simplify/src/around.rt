@@ -35,7 +35,9 @@ fn write_some(out: &mut [u8], at: usize, low: u16, high: u16) -> usize
 pub fn simplify_around(low: u16, high: u16, max_layer: u16, out: &mut [u8]) -> Answer
     requires { ⌜ meaning.IsRange (table.rangeFrom low high) ⌝ }
     requires { ⌜ meaning.IsLayer «max_layer» ⌝ }
-    ensures { λ r. ⌜ elements.GivesRanges (rule.others «max_layer» (rule.keep (rule.clampToLayerCount «max_layer» (table.rangeFrom low high)) [])) r (now (out .exit)) (now (out .entry)) ⌝ }
+    ensures { λ r. ⌜ elements.GivesRanges
+            (rule.others «max_layer» (rule.keep (rule.clampToLayerCount «max_layer» (table.rangeFrom low high)) [])) r
+            (now (out .exit)) (now (out .entry)) ⌝ }
 {
     let before = if low <= max_layer { low - 1 } else { max_layer };
     let ranges = count_some(1, before) + count_some(high + 1, max_layer);

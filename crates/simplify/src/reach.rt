@@ -106,7 +106,9 @@ pub fn write_runs(reach: &[u16], out: &mut [u8])
     requires { ⌜ table.Reaches (now reach) ⌝ }
     requires { ⌜ length (now reach) ≤ 65536 ⌝ }
     requires { ⌜ 4 * length (table.runsFrom (now reach) 0) ≤ length (now out) ⌝ }
-    ensures { λ _. ⌜ now (out .exit) ≡ rangeBytes (table.runsFrom (now (reach .entry)) 0) ++ drop (4 * length (table.runsFrom (now (reach .entry)) 0)) (now (out .entry)) ⌝ }
+    ensures { λ _. ⌜ now (out .exit)
+        ≡ rangeBytes (table.runsFrom (now (reach .entry)) 0) ++ drop (4 * length (table.runsFrom (now (reach .entry)) 0))
+                (now (out .entry)) ⌝ }
 {
     let mut at: usize = 0;
     let mut low = next_start(reach, 0);

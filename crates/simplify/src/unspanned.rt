@@ -60,7 +60,8 @@ fn signed_layer(bits: u32) -> SignedLayer
 fn element_range(axis: AxisLayersInfo, element: LayerSetElement) -> LayerRangeOption
     requires { ⌜ meaning.IsLayer (axis .«max_layer») ⌝ }
     requires { ⌜ elements.IsElement (layerSetElementOf element) ⌝ }
-    ensures { λ r. ⌜ meaning.rangeOption r ≡ rule.elementRange (axis .«max_layer») (axis .«allow_negatives») (layerSetElementOf element) ⌝ }
+    ensures { λ r. ⌜ meaning.rangeOption r
+        ≡ rule.elementRange (axis .«max_layer») (axis .«allow_negatives») (layerSetElementOf element) ⌝ }
     ensures { λ r. ⌜ meaning.Each (meaning.RangeUpTo (axis .«max_layer»)) (meaning.rangeOption r) ⌝ }
 {
     match element {
@@ -80,7 +81,8 @@ fn mark_element(reach: &mut [u16], axis: AxisLayersInfo, element: LayerSetElemen
     requires { ⌜ meaning.IsLayer (axis .«max_layer») ⌝ }
     requires { ⌜ axis .«max_layer» < length (now reach) ⌝ }
     requires { ⌜ elements.IsElement (layerSetElementOf element) ⌝ }
-    ensures { λ _. ⌜ now (reach .exit) ≡ elements.markedElement (axis .«max_layer») (axis .«allow_negatives») (layerSetElementOf element) (now (reach .entry)) ⌝ }
+    ensures { λ _. ⌜ now (reach .exit)
+        ≡ elements.markedElement (axis .«max_layer») (axis .«allow_negatives») (layerSetElementOf element) (now (reach .entry)) ⌝ }
 {
     if let LayerRangeOption::Some(range) = element_range(axis, element) {
         mark(reach, range);
@@ -106,7 +108,9 @@ fn mark_set(part: &[u8], axis: AxisLayersInfo, reach: &mut [u16])
     requires { ⌜ meaning.IsLayer (axis .«max_layer») ⌝ }
     requires { ⌜ axis .«max_layer» < length (now reach) ⌝ }
     requires { ⌜ isSome (layerSetIn (now part)) ≡ true ⌝ }
-    ensures { λ _. ⌜ now (reach .exit) ≡ elements.markedSet (axis .«max_layer») (axis .«allow_negatives») (orEmpty (layerSetIn (now (part .entry)))) (now (reach .entry)) ⌝ }
+    ensures { λ _. ⌜ now (reach .exit)
+        ≡ elements.markedSet (axis .«max_layer») (axis .«allow_negatives») (orEmpty (layerSetIn (now (part .entry))))
+                (now (reach .entry)) ⌝ }
 {
     let mut at = whitespace_end(part, 1);
     loop {
@@ -126,7 +130,8 @@ fn gather_set(part: &[u8], axis: AxisLayersInfo, inverted: bool, reach: &mut [u1
     requires { ⌜ meaning.IsLayer (axis .«max_layer») ⌝ }
     requires { ⌜ now reach ≡ replicate (axis .«max_layer» + 1) 0 ⌝ }
     requires { ⌜ isSome (layerSetIn (now part)) ≡ true ⌝ }
-    ensures { λ _. ⌜ table.Gathered (axis .«max_layer») (elements.litSet (axis .«max_layer») (axis .«allow_negatives») inverted (now (part .entry))) (now (reach .exit)) ⌝ }
+    ensures { λ _. ⌜ table.Gathered (axis .«max_layer»)
+            (elements.litSet (axis .«max_layer») (axis .«allow_negatives») inverted (now (part .entry))) (now (reach .exit)) ⌝ }
 {
     mark_set(part, axis, reach);
     if inverted {
@@ -139,7 +144,9 @@ fn simplify_set(part: &[u8], axis: AxisLayersInfo, inverted: bool, reach: &mut [
     requires { ⌜ meaning.IsLayer (axis .«max_layer») ⌝ }
     requires { ⌜ now reach ≡ replicate (axis .«max_layer» + 1) 0 ⌝ }
     requires { ⌜ isSome (layerSetIn (now part)) ≡ true ⌝ }
-    ensures { λ r. ⌜ elements.GivesRanges (elements.litSet (axis .«max_layer») (axis .«allow_negatives») inverted (now (part .entry))) r (now (out .exit)) (now (out .entry)) ⌝ }
+    ensures { λ r. ⌜ elements.GivesRanges
+            (elements.litSet (axis .«max_layer») (axis .«allow_negatives») inverted (now (part .entry))) r (now (out .exit))
+            (now (out .entry)) ⌝ }
 {
     gather_set(part, axis, inverted, reach);
     let runs = count_runs(reach);
@@ -154,7 +161,9 @@ fn simplify_set(part: &[u8], axis: AxisLayersInfo, inverted: bool, reach: &mut [
 fn simplify_set_of_few(part: &[u8], axis: AxisLayersInfo, inverted: bool, out: &mut [u8]) -> Answer
     requires { ⌜ (1 ≤ axis .«max_layer») × (axis .«max_layer» < 128) ⌝ }
     requires { ⌜ isSome (layerSetIn (now part)) ≡ true ⌝ }
-    ensures { λ r. ⌜ elements.GivesRanges (elements.litSet (axis .«max_layer») (axis .«allow_negatives») inverted (now (part .entry))) r (now (out .exit)) (now (out .entry)) ⌝ }
+    ensures { λ r. ⌜ elements.GivesRanges
+            (elements.litSet (axis .«max_layer») (axis .«allow_negatives») inverted (now (part .entry))) r (now (out .exit))
+            (now (out .entry)) ⌝ }
 {
     let mut reach = [0u16; 128];
     let layers = axis.max_layer as usize + 1;
@@ -165,7 +174,9 @@ fn simplify_set_of_few(part: &[u8], axis: AxisLayersInfo, inverted: bool, out: &
 fn simplify_set_of_many(part: &[u8], axis: AxisLayersInfo, inverted: bool, out: &mut [u8]) -> Answer
     requires { ⌜ meaning.IsLayer (axis .«max_layer») ⌝ }
     requires { ⌜ isSome (layerSetIn (now part)) ≡ true ⌝ }
-    ensures { λ r. ⌜ elements.GivesRanges (elements.litSet (axis .«max_layer») (axis .«allow_negatives») inverted (now (part .entry))) r (now (out .exit)) (now (out .entry)) ⌝ }
+    ensures { λ r. ⌜ elements.GivesRanges
+            (elements.litSet (axis .«max_layer») (axis .«allow_negatives») inverted (now (part .entry))) r (now (out .exit))
+            (now (out .entry)) ⌝ }
 {
     let mut reach = [0u16; 32768];
     let layers = axis.max_layer as usize + 1;
@@ -175,7 +186,8 @@ fn simplify_set_of_many(part: &[u8], axis: AxisLayersInfo, inverted: bool, out: 
 // The ranges of a prefix that is no set: the layers from `low` to `high` as far as the axis has them.
 fn simplify_range(low: u16, high: u16, max_layer: u16, out: &mut [u8]) -> Answer
     requires { ⌜ meaning.IsRange (table.rangeFrom low high) ⌝ }
-    ensures { λ r. ⌜ elements.GivesRanges (rule.keep (rule.clampToLayerCount «max_layer» (table.rangeFrom low high)) []) r (now (out .exit)) (now (out .entry)) ⌝ }
+    ensures { λ r. ⌜ elements.GivesRanges (rule.keep (rule.clampToLayerCount «max_layer» (table.rangeFrom low high)) []) r
+            (now (out .exit)) (now (out .entry)) ⌝ }
 {
     let range = LayerRange {
         min: Layer(low),
@@ -195,7 +207,9 @@ fn simplify_range(low: u16, high: u16, max_layer: u16, out: &mut [u8]) -> Answer
 fn simplify_no_set(low: u16, high: u16, inverted: bool, max_layer: u16, out: &mut [u8]) -> Answer
     requires { ⌜ meaning.IsRange (table.rangeFrom low high) ⌝ }
     requires { ⌜ meaning.IsLayer «max_layer» ⌝ }
-    ensures { λ r. ⌜ elements.GivesRanges (rule.lit «max_layer» inverted (rule.keep (rule.clampToLayerCount «max_layer» (table.rangeFrom low high)) [])) r (now (out .exit)) (now (out .entry)) ⌝ }
+    ensures { λ r. ⌜ elements.GivesRanges
+            (rule.lit «max_layer» inverted (rule.keep (rule.clampToLayerCount «max_layer» (table.rangeFrom low high)) [])) r
+            (now (out .exit)) (now (out .entry)) ⌝ }
 {
     if inverted {
         simplify_around(low, high, max_layer, out)
@@ -217,7 +231,9 @@ pub fn simplify(
     requires { ⌜ meaning.IsLayer «max_layer» ⌝ }
     requires { ⌜ length (now text) ≤ MAX-TEXT ⌝ }
     requires { ⌜ layersOk (now text) (record′.layers layers) ≡ true ⌝ }
-    ensures { λ r. ⌜ elements.GivesRanges (rule.lit «max_layer» inverted (rangesIn (now (text .entry)) «max_layer» «allow_negatives» (record′.layers layers))) r (now (out .exit)) (now (out .entry)) ⌝ }
+    ensures { λ r. ⌜ elements.GivesRanges
+            (rule.lit «max_layer» inverted (rangesIn (now (text .entry)) «max_layer» «allow_negatives» (record′.layers layers))) r
+            (now (out .exit)) (now (out .entry)) ⌝ }
 {
     match layers {
         LayerPrefixContents::None => simplify_no_set(1, 1, inverted, max_layer, out),

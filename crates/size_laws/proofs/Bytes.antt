@@ -24,7 +24,7 @@ use Rattle.notation.specs.Grammar.{
 }
 use Rattle.notation.specs.Invert.{undo}
 use Rattle.notation.specs.declared.features.Features.{Features}
-use Rattle.laws.proofs.Inverses.{inverted, invertedNode}
+use Rattle.laws.specs.Inverted.{inverted, invertedNode}
 use Rattle.laws.proofs.Readers.{
   Place, Yields, pick-read, took-front, took-is, weaken, yields-done, yields-fail, yields-bind, yields-or, yields-when, yields-just, yields-someWhitespace,
   yields-padded, yields-spanned, yields-separatedBy, run-le

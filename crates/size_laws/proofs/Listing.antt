@@ -27,7 +27,8 @@ use Rattle.laws.proofs.Bools.{and-left, and-right, and-both, no-some}
 use Rattle.laws.proofs.Unrolling.{verdict}
 use Rattle.laws.proofs.Fits.{leafFits, nodeFits, bodyFits, treeFits}
 use Rattle.laws.proofs.Packing.{tree-fits, unpack-pack, packed-well-formed}
-use Rattle.laws.proofs.Inverses.{inverted, invertedNode, leafRefusal, invRefusal, inv-is}
+use Rattle.laws.specs.Inverted.{inverted, invertedNode, leafRefusal, invRefusal}
+use Rattle.laws.proofs.Inverses.{inv-is}
 use Rattle.laws.proofs.WellFormedInverses.{inverted-ok, inverted-size, inverted-depth}
 use Rattle.laws.proofs.Reached.{negatable, cleanNode, cleanNodes, first-left, first-right, unrolled-list}
 use Rattle.laws.proofs.Parens.{parens-depth}

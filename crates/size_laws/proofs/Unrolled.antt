@@ -11,7 +11,7 @@ use Rattle.notation.specs.Unroll.{copies, turned}
 use Rattle.notation.specs.Counts.{times}
 use Rattle.notation.specs.declared.common.BinaryGroupKind.{BinaryGroupKind}
 use Rattle.notation.specs.declared.common.BinaryGroupKind.the-variants.{Commutator, Conjugate}
-use Rattle.laws.proofs.Unrolling.{inOrder, flatBinary, flatNode, flatBody, flat}
+use Rattle.laws.specs.Unrolled.{inOrder, flatBinary, flatNode, flatBody, flat}
 use Rattle.size_laws.proofs.Bytes.{leafBytes, nodeBytes, bodyBytes, bytes, undo-bytes}
 
 -- every step takes at most n bytes

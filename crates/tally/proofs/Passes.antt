@@ -13,7 +13,7 @@ use Rattle.notation.specs.Packed.{RECORD, bodyHead, headRecord, nodeSize, bodyS
 use Rattle.notation.specs.Counts.{CAP, cap, countNode, count, stored}
 use Rattle.notation.specs.Basics.{pick}
 use Rattle.notation.specs.WellFormed.{MAX-NESTING, nodeDepth, bodyDepth, depth}
-use Rattle.laws.proofs.Packing.{FitsNode, FitsBody, FitsTree}
+use Rattle.laws.specs.Packed.{FitsNode, FitsBody, FitsTree}
 use Rattle.laws.proofs.Walking.{nodeHead, node-head-fits}
 use Rattle.record.specs.Meaning.{withField, COUNT, kindAt}
 use Rattle.tally.specs.Tallies.{TALLIES, tallyRecord, tallyNode, tallyBody, tallyList, tallyAt, ownCount, freed, added, Capped}

@@ -10,7 +10,7 @@ use lib.Seq.{take-all, take-append-le, drop-append-le, drop-drop}
 use Rattle.notation.specs.Tree.{Leaf, Node, leaf, block, Body, group, binaryGroup, nil, cons, Tree}
 use Rattle.notation.specs.Packed.{RECORD, leafHead, bodyHead, nodeSize, bodySize, size}
 use Rattle.notation.specs.WellFormed.{nodeDepth, bodyDepth, depth}
-use Rattle.laws.proofs.Packing.{FitsNode, FitsBody, FitsTree}
+use Rattle.laws.specs.Packed.{FitsNode, FitsBody, FitsTree}
 use Rattle.nodes.proofs.Nodes.{leaf-kind}
 use Rattle.tally.specs.Tallies.{TALLIES, tallyRecord, tallyNode, tallyBody, tallyList, Open}
 use Rattle.tally.proofs.Sizes.{length-tallyRecord, length-tallyNode, length-tallyList}

@@ -10,7 +10,7 @@ use Rattle.notation.specs.Tree.{Leaf, Node, leaf, block, Body, group, binaryGro
 use Rattle.notation.specs.Packed.{RECORD, widths, layOut, Head, leafHead, headFields, bodyHead}
 use Rattle.notation.specs.Counts.{CAP, cap}
 use Rattle.notation.specs.WellFormed.{MAX-NESTING, depth}
-use Rattle.laws.proofs.Packing.{FitsTree}
+use Rattle.laws.specs.Packed.{FitsTree}
 use Rattle.record.specs.Meaning.{field, kindAt, NUMBER, COUNT}
 use Rattle.counts.specs.Groups.{groupCount}
 

@@ -62,7 +62,9 @@ fn group_count(t: &[u8], tally: usize, sums: &mut [u64; TALLIES]) -> u64
     requires { ⌜ recordSize ≤ length (now t) ⌝ }
     requires { ⌜ tally + 2 < tallies.TALLIES ⌝ }
     requires { ⌜ tallies.Capped (now sums) ⌝ }
-    ensures { λ r. ⌜ r ≡ groupCount (kindAt (now (t .entry))) (fromBits 32 (field NUMBER (now (t .entry)))) (getD (now (sums .entry)) (tally + 2) 0) (getD (now (sums .entry)) (tally + 1) 0) ⌝ }
+    ensures { λ r. ⌜ r
+        ≡ groupCount (kindAt (now (t .entry))) (fromBits 32 (field NUMBER (now (t .entry)))) (getD (now (sums .entry)) (tally + 2) 0)
+                (getD (now (sums .entry)) (tally + 1) 0) ⌝ }
     ensures { λ _. ⌜ now (sums .exit) ≡ set (set (now (sums .entry)) (tally + 2) 0) (tally + 1) 0 ⌝ }
 {
     let first = tally + OF_FIRST as usize;

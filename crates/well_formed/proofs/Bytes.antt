@@ -18,8 +18,9 @@ use Rattle.numbers.proofs.Positional.{Below, below-take, below-drop}
 use Rattle.record.specs.Meaning.{field, placeWidth, spanAt, constraintsAt, layersAt, kindAt, formAt, presentAt, NUMBER, OTHER, FAMILY, FAMILY-SIZE, CONSTRAINTS, LAYER-SET}
 use Rattle.record.specs.Range.{FitsSpan, FitsFamily, FitsConstraints, FitsLayers, FitsNumber, FitsHead}
 use Rattle.record.proofs.Packed.{field-lt, Numbered, numbered-at, byKind, headAt-kind}
-use Rattle.laws.proofs.Packing.{FitsNode, FitsBody, FitsTree, opened, well-formed-packed, well-formed-ok, well-formed-depth}
-use Rattle.laws.proofs.Walking.{Packed}
+use Rattle.laws.specs.Packed.{FitsNode, FitsBody, FitsTree}
+use Rattle.laws.proofs.Packing.{opened, well-formed-packed, well-formed-ok, well-formed-depth}
+use Rattle.laws.specs.Packed.{Packed}
 
 pub fromBits-fits : (n : ℕ) → n < 4294967296 → fitsBits 32 (fromBits 32 n) ≡ true
 fromBits-fits n h = go (ltb n 2147483648) refl

@@ -61,7 +61,9 @@ fn to_end(part: &[u8], taken: Taken) -> bool
 
 // Where the set of layers, or else of constraints, ends that the part begins with.
 fn set_end(part: &[u8], layers: bool) -> Taken
-    ensures { λ r. ⌜ endReading (now (part .entry)) r ≡ pick layers (forget (grammar.layerSetElements true 0 (now (part .entry)))) (forget (grammar.constraintSet 0 (now (part .entry)))) ⌝ }
+    ensures { λ r. ⌜ endReading (now (part .entry)) r
+        ≡ pick layers (forget (grammar.layerSetElements true 0 (now (part .entry))))
+                (forget (grammar.constraintSet 0 (now (part .entry)))) ⌝ }
 {
     if layers {
         layer_set(part, 0, true)
@@ -72,7 +74,9 @@ fn set_end(part: &[u8], layers: bool) -> Taken
 
 // Whether the part stands inside the text and is such a set.
 fn set_ok(text: &[u8], p: Span, layers: bool) -> bool
-    ensures { λ r. ⌜ r ≡ pick layers (rule.layersOk (now (text .entry)) (tree.layerSet (span p))) (rule.constraintsOk (now (text .entry)) (some (span p))) ⌝ }
+    ensures { λ r. ⌜ r
+        ≡ pick layers (rule.layersOk (now (text .entry)) (tree.layerSet (span p)))
+                (rule.constraintsOk (now (text .entry)) (some (span p))) ⌝ }
 {
     let from = p.offset as usize;
     let to = from + p.size as usize;

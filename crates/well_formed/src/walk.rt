@@ -114,7 +114,9 @@ fn group_ok(text: &[u8], t: &[u8], depth: usize) -> bool
 fn group_record_ok(t: &[u8]) -> bool
     requires { ⌜ RECORD ≤ length (now t) ⌝ }
     requires { ⌜ kindAt (now t) < 6 ⌝ }
-    ensures { λ r. ⌜ r ≡ (sameList (headRecord (headAt (now (t .entry)))) (take RECORD (now (t .entry))) && multiplierOk (fromBits 32 (field NUMBER (now (t .entry))))) ⌝ }
+    ensures { λ r. ⌜ r
+        ≡ (sameList (headRecord (headAt (now (t .entry)))) (take RECORD (now (t .entry))) && multiplierOk
+                (fromBits 32 (field NUMBER (now (t .entry))))) ⌝ }
 {
     let kind = fields::kind(t);
     let second = fields::second(t);

@@ -1,4 +1,4 @@
-//! Parsing leans on chumsky, which cannot be had: these only let unspanned.rs compile.
+//! Stands in for the spanned trees. Parsing needs chumsky, which cannot be had here; these only let unspanned.rs compile.
 use crate::{Features, LayerFeatures, ParseError};
 
 pub struct Unread;

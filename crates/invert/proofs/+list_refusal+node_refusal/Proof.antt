@@ -7,7 +7,7 @@ use native.Mathlib.Omega.{arith}
 use borrow.Author.Needs.{needs}
 use lib.ListN.{length}
 use Rattle.notation.specs.Tree.{Tree}
-use Rattle.laws.proofs.Inverses.{deepRefusal}
+use Rattle.laws.specs.Inverted.{deepRefusal}
 use Rattle.invert.specs.Nodes.{over}
 use Rattle.nodes.proofs.Nodes.{list-less, node-room, alone}
 use Rattle.invert.proofs.Nodes.{node-starts, niss-refused, commutator-refused, leaf-refused}

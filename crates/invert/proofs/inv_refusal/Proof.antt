@@ -5,7 +5,7 @@ use Prim.Native.Nat.{ℕ}
 use mathlib.Core.Path.{ap, _∙_}
 use mathlib.Core.Option.{Option}
 use lib.ListN.{length}
-use Rattle.laws.proofs.Inverses.{invRefusal}
+use Rattle.laws.specs.Inverted.{invRefusal}
 use Rattle.invert.specs.Nodes.{over}
 use Rattle.invert.proofs.Nodes.{packed-starts}
 use Rattle.invert.proofs.Loops.{Looked, looked-none, looked-more, looked-all, inv-latest, inv-one}

@@ -12,7 +12,7 @@ use Rattle.notation.specs.Entries.{MAX-STEPS}
 use Rattle.nodes.specs.Nodes.{Lists}
 use Rattle.nodes.proofs.Nodes.{node-room}
 use Rattle.expand.specs.Places.{stepIn, Sought}
-use Rattle.laws.proofs.Seeking.{undoIf}
+use Rattle.laws.specs.Unrolled.{undoIf}
 use Rattle.expand.proofs.Seeking.{
   sought-itself, Group, in-group, Repeat, at-place, repeats-one, once-some, within-once, forward, from-the-end, into-list, first-few, first-part, Parts, sum-few, into-A, into-B, into-A′, into-B′
 }

@@ -1,6 +1,6 @@
 use borrow.Author.Needs.{needs}
 use mathlib.Core.Path.{ap, _∙_}
-use Rattle.laws.proofs.Unrolling.{first}
+use Rattle.laws.specs.Unrolled.{first}
 use Rattle.expand.specs.Meaning.{refusalOf}
 use Rattle.expand.proofs.Visiting.{either-way}
 use Rattle.expand.proofs.visit.of_binary.Statement.{statement}

@@ -10,7 +10,7 @@ use Rattle.notation.specs.Invert.{undo}
 use Rattle.notation.specs.Print.{put}
 use Rattle.notation.specs.Entries.{outcome, steps}
 use Rattle.notation.specs.Lister.{line, stepLines, stepsPart}
-use Rattle.laws.proofs.Unrolling.{flat}
+use Rattle.laws.specs.Unrolled.{flat}
 use Rattle.entries.proofs.Stepping.{refused-steps}
 use Rattle.display.proofs.Writing.{wrote-then}
 use Rattle.listing.proofs.Fields.{wrote-to, steps-counted, steps-refused}

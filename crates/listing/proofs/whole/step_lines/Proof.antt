@@ -5,7 +5,7 @@ use native.Mathlib.Omega.{arith}
 use borrow.Author.Needs.{needs}
 use Rattle.notation.specs.Packed.{unpack}
 use Rattle.notation.specs.Invert.{undo}
-use Rattle.laws.proofs.Unrolling.{flat}
+use Rattle.laws.specs.Unrolled.{flat}
 use Rattle.laws.proofs.Counting.{count-is}
 use Rattle.listing.proofs.GoodSteps.{there}
 use Rattle.listing.proofs.StepLoop.{Listed, listed-starts, listed-goes-on, listed-all}

@@ -1,0 +1,4 @@
+-- What contracts cite beside the rules of `notation`: the walks without their refusals, and packed lists.
+pub mod Unrolled
+pub mod Inverted
+pub mod Packed
