@@ -6,7 +6,7 @@ use notation::char_set::Class;
 ghost use mathlib.Core.Path.{_≡_};
 ghost use Prim.Native.Nat.{_≤_};
 ghost use Rattle.notation.specs.Basics.{between, oneOf};
-ghost use Rattle.notation.specs.Chars.{classNumber, classify, curlyPrimes, isFamilyChar, isGreekLetter, isLatinLetter, isPrime, whiteSpace};
+ghost use Rattle.notation.specs.Chars.{classNumber, classify, curlyPrimes, isFamilyChar, isLatinLetter, isPrime, whiteSpace};
 
 // The primes past the table's end, which word processors write for an apostrophe.
 fn is_curly_prime(c: u32) -> bool
@@ -82,20 +82,6 @@ pub fn is_latin_letter(c: u32) -> bool
     ensures { λ r. ⌜ r ≡ isLatinLetter c ⌝ }
 {
     between(0x61, 0x7a, c) || between(0x41, 0x5a, c)
-}
-
-// Whether it is a Greek letter that looks unlike the Latin ones.
-pub fn is_greek_letter(c: u32) -> bool
-    ensures { λ r. ⌜ r ≡ isGreekLetter c ⌝ }
-{
-    match classify(c) {
-        Class::In(set) => match set {
-            CharSet::UppercaseGreek | CharSet::TallLowercaseGreek | CharSet::ShortLowercaseGreek =>
-                true,
-            _ => false,
-        },
-        Class::Outside => false,
-    }
 }
 
 // Whether the ASCII character is white space. Most characters lie above the space, which one test tells.

@@ -6,7 +6,6 @@ pub mod utf8;
 
 pub use chars::classify;
 pub use chars::is_family_char;
-pub use chars::is_greek_letter;
 pub use chars::is_latin_letter;
 pub use chars::is_prime;
 pub use chars::is_whitespace;

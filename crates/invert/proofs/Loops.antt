@@ -9,12 +9,12 @@ use native.Mathlib.Omega.{arith}
 use lib.ListN.{length, take, drop, length-append, length-drop}
 use lib.Seq.{take-at, drop-length, drop-at, drop-drop, length-take-le}
 use Rattle.notation.specs.Tree.{Leaf, Node, leaf, block, group, binaryGroup, nil, cons, append, Tree}
-use Rattle.notation.specs.Packed.{RECORD, packNode, pack, unpack, headAt}
+use Rattle.notation.specs.Packed.{RECORD, packNode, pack, unpack, headAt, nodeHead}
 use Rattle.record.specs.Meaning.{field, kindAt}
 use Rattle.laws.specs.Unrolled.{first}
 use Rattle.laws.specs.Inverted.{inverted, invRefusal, deeply, deeplyNode, deepRefusal}
 use Rattle.laws.specs.Packed.{Packed}
-use Rattle.laws.proofs.Walking.{no-node, nodeHead}
+use Rattle.laws.proofs.Walking.{no-node}
 use Rattle.nodes.specs.Nodes.{IsNode, part, FirstNode}
 use Rattle.nodes.proofs.Nodes.{part-length, length-part, part-front, alone, first-low, first-head, FirstLeaf, leaf-node}
 use Rattle.invert.specs.Nodes.{inverse, over, headRefusal}

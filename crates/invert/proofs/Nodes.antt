@@ -10,7 +10,7 @@ use lib.ListN.{length, take}
 use lib.Seq.{take-at, take-add}
 use Rattle.notation.specs.Refusals.{NISS}
 use Rattle.notation.specs.Tree.{Leaf, Node, leaf, block, Body, group, binaryGroup, append, Tree}
-use Rattle.notation.specs.Packed.{RECORD, Head, groupHead, binaryHead, headRecord, groupNumber, size, bodyHead, packNode, packBody, pack, headAt, unpack}
+use Rattle.notation.specs.Packed.{RECORD, Head, groupHead, binaryHead, headRecord, groupNumber, size, bodyHead, packNode, packBody, pack, headAt, unpack, nodeHead}
 use Rattle.notation.specs.Counts.{cap, stored}
 use Rattle.notation.specs.declared.common.GroupKind.{GroupKind}
 use Rattle.notation.specs.declared.common.GroupKind.the-variants.{Simple, Macro, Simultaneous, Niss}
@@ -20,7 +20,7 @@ use Rattle.record.specs.Undone.{StartsRecord, undoneHead}
 use Rattle.record.proofs.RoundTrip.{length-headRecord}
 use Rattle.record.proofs.Undoing.{Undone, starts-with, undone-with}
 use Rattle.laws.specs.Packed.{Packed}
-use Rattle.laws.proofs.Walking.{nodeHead, inside, node-bytes, node-head-fits, nodeEnd, one-list}
+use Rattle.laws.proofs.Walking.{inside, node-bytes, node-head-fits, nodeEnd, one-list}
 use Rattle.laws.specs.Inverted.{inverted, deeply, deeplyNode, deeplyBody, deepRefusal, deepRefusalNode, deepRefusalBody, nissFirst}
 use Rattle.laws.proofs.WellFormedInverses.{deeply-size, node-count, deeplyNode-count}
 use Rattle.nodes.specs.Nodes.{IsNode, part, Lists}

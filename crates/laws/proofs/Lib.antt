@@ -14,6 +14,7 @@ pub mod Fits
 pub mod Packing
 pub mod WellFormedInverses
 pub mod Walking
+pub mod Stored
 -- What reading yields.
 pub mod InRange
 pub mod Readers

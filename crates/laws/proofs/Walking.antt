@@ -9,7 +9,7 @@ use lib.ListN.{length, getD, take, drop, length-append}
 use lib.Seq.{take-at, drop-at, drop-drop}
 use Rattle.notation.specs.Tree.{Leaf, rotation, move, pause, pair, slash, megaminx, Node, leaf, block, group, binaryGroup, nil, cons, Tree}
 use Rattle.notation.specs.Packed.{
-  RECORD, widths, cut, Head, leafHead, groupHead, binaryHead, headFields, headRecord, nodeSize, bodySize, size, bodyHead, packNode, packBody, pack, headAt, unpack
+  RECORD, widths, cut, Head, leafHead, groupHead, binaryHead, headFields, headRecord, nodeSize, bodySize, size, bodyHead, nodeHead, packNode, packBody, pack, headAt, unpack
 }
 use Rattle.notation.specs.Counts.{countNode, stored}
 use Rattle.notation.specs.declared.common.GroupKind.{GroupKind}
@@ -32,11 +32,7 @@ pub packed-nil : Packed []
 unfolding pack FitsTree
 packed-nil = packed nil tt
 
--- The record of a node.
-abbrev pub nodeHead : Node Leaf → Head
-nodeHead (leaf x) = leafHead x
-nodeHead (block b m) = bodyHead b m
-
+-- The bytes of a node behind its record.
 abbrev pub inside : Node Leaf → List ℕ
 inside (leaf x) = []
 inside (block b m) = packBody b

@@ -19,11 +19,6 @@ use Rattle.layer.specs.declared.count.UnclampedLayer.the-variants.{Beyon
 
 -- ── signs ──
 
-negative-with : (negative : Bool) (i : ℕ) → 1 ≤ i → negative ≡ meaning.isNegative (withSign negative i)
-negative-with true zero h = absurd (omega arith)
-negative-with true (suc i) h = refl
-negative-with false i h = refl
-
 positive-with : (negative : Bool) (i : ℕ) → 1 ≤ i → not negative ≡ meaning.isPositive (withSign negative i)
 positive-with negative zero h = absurd (omega arith)
 positive-with true (suc i) h = refl
@@ -125,44 +120,6 @@ module _ (n low high : ℕ) (real : IsRange (record { low = low; high = high }))
       let f : none ≡ some (min high n) = rw some-layers at e in
       let z : _≡_ {A = ℕ} 0 1 = cc in
       omega arith
-
-sum-is : (x y : ℕ) → max x y + min x y ≡ x + y
-sum-is x y = omega arith
-
--- two ranges touch where their span, from `low` to `high`, is not longer than the two together
-module _ (a b : Range) (real-a : IsRange a) (real-b : IsRange b) (low high : ℕ) (low-is : low ≡ min (a .low) (b .low))
-    (high-is : high ≡ max (a .high) (b .high)) where
-  lows : max (a .low) (b .low) + low ≡ a .low + b .low
-  lows = rw low-is (sum-is (a .low) (b .low))
-
-  highs : high + min (a .high) (b .high) ≡ a .high + b .high
-  highs = rw high-is (sum-is (a .high) (b .high))
-
-  spans : low ≤ high
-  spans = omega arith
-
-  -- numbers for the deeper low end and the shallower high end, so that `omega` meets three differences and no more
-  touch : (l h : ℕ) →
-      l + low ≡ a .low + b .low →
-      high + h ≡ a .high + b .high →
-      low ≤ high →
-      high - low + 1 ≤ meaning.len a + meaning.len b →
-      l ≤ h + 1
-  touch l h p q r s = omega arith
-
-  part : (l h : ℕ) →
-      l + low ≡ a .low + b .low →
-      high + h ≡ a .high + b .high →
-      low ≤ high →
-      meaning.len a + meaning.len b < high - low + 1 →
-      h + 1 < l
-  part l h p q r s = omega arith
-
-  pub union-is : high - low + 1 ≤ meaning.len a + meaning.len b → some (record { low = low; high = high }) ≡ rule.union a b
-  union-is h = rw (le-leb _ _ (touch _ _ lows highs spans h), low-is, high-is)
-
-  pub union-fails : meaning.len a + meaning.len b < high - low + 1 → none ≡ rule.union a b
-  union-fails h = rw (lt-leb _ _ (part _ _ lows highs spans h))
 
 -- ── ranges of an axis ──
 

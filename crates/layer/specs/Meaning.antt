@@ -2,7 +2,7 @@
 -- compute where the rules have no name for it.
 use Prim.Native.Nat.{ℕ, zero, suc, _+_, _-_, _≤_, min, max}
 use mathlib.Core.Bool.{Bool, true, false}
-use mathlib.Core.Option.{Option, none, some, Option·map}
+use mathlib.Core.Option.{Option, none, some}
 use lib.Dec.{leb}
 use lib.IntN.{ℤ, pos, negsuc, negℤ}
 use Rattle.notation.specs.Basics.{pick, between}
@@ -12,8 +12,6 @@ use Rattle.layer.specs.declared.unsigned.Layer.{Layer}
 use Rattle.layer.specs.declared.unsigned.LayerOption.{LayerOption}
 use Rattle.layer.specs.declared.unsigned.LayerOption.the-variants.{Some as SomeLayer, None as NoLayer}
 use Rattle.layer.specs.declared.signed.SignedLayer.{SignedLayer}
-use Rattle.layer.specs.declared.signed.SignedLayerOption.{SignedLayerOption}
-use Rattle.layer.specs.declared.signed.SignedLayerOption.the-variants.{Some as SomeSigned, None as NoSigned}
 use Rattle.layer.specs.declared.range.LayerRange.{LayerRange}
 use Rattle.layer.specs.declared.range.LayerRangeOption.{LayerRangeOption}
 use Rattle.layer.specs.declared.range.LayerRangeOption.the-variants.{Some as SomeRange, None as NoRange}
@@ -35,10 +33,6 @@ withSign negative i = pick negative (negℤ (pos i)) (pos i)
 
 abbrev pub signed : SignedLayer → ℤ
 signed s = withSign (s .negative) (layer (s .layer))
-
-abbrev pub signedOption : SignedLayerOption → Option ℤ
-signedOption (SomeSigned s) = some (signed s)
-signedOption NoSigned = none
 
 abbrev pub range : LayerRange → Range
 range r = record { low = layer (r .min); high = layer (r .max) }
@@ -69,10 +63,6 @@ IsRange r = RangeUpTo MAX-LAYER r
 abbrev pub IsSignedLayer : SignedLayer → Type 0
 IsSignedLayer s = IsLayer (layer (s .layer))
 
-abbrev pub IsSignedLayerOption : SignedLayerOption → Type 0
-IsSignedLayerOption (SomeSigned s) = IsSignedLayer s
-IsSignedLayerOption NoSigned = Unit {0}
-
 -- what an option holds, if anything, is as P says
 abbrev pub Each : {A : Type 0} → (A → Type 0) → Option A → Type 0
 Each P (some a) = P a
@@ -95,20 +85,10 @@ clampLayer i = max 1 (min i MAX-LAYER)
 abbrev pub clampLayerToCount : ℕ → ℕ → Option ℕ
 clampLayerToCount n i = pick (leb 1 n) (some (min i n)) none
 
-abbrev pub newSigned : Bool → ℕ → Option ℤ
-newSigned negative i = Option·map (withSign negative) (newLayer i)
-
 abbrev pub isPositive : ℤ → Bool
 isPositive (pos zero) = false
 isPositive (pos (suc i)) = true
 isPositive (negsuc i) = false
-
-abbrev pub isNegative : ℤ → Bool
-isNegative (pos i) = false
-isNegative (negsuc i) = true
-
-abbrev pub len : Range → ℕ
-len r = r .high - r .low + 1
 
 -- an end of a range: the layer that it resolves to, or else the side that it lies beyond
 abbrev pub unclamped : Option ℕ → UnclampedLayer → UnclampedLayer

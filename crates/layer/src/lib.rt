@@ -10,6 +10,5 @@ pub use count::UnclampedLayer;
 pub use range::LayerRange;
 pub use range::LayerRangeOption;
 pub use signed::SignedLayer;
-pub use signed::SignedLayerOption;
 pub use unsigned::Layer;
 pub use unsigned::LayerOption;

@@ -32,25 +32,6 @@ impl LayerRange {
         }
     }
 
-    pub fn from_layer(layer: Layer) -> LayerRange
-        requires { ⌜ meaning.IsLayer (meaning.layer layer) ⌝ }
-        ensures { λ r. ⌜ meaning.range r ≡ rule.rangeOf (meaning.layer layer) (meaning.layer layer) ⌝ }
-        ensures { λ r. ⌜ meaning.IsRange (meaning.range r) ⌝ }
-    {
-        LayerRange {
-            min: layer,
-            max: layer,
-        }
-    }
-
-    // How many layers the range has.
-    pub fn len(self) -> usize
-        requires { ⌜ meaning.IsRange (meaning.range self) ⌝ }
-        ensures { λ r. ⌜ r ≡ meaning.len (meaning.range self) ⌝ }
-    {
-        (self.max.0 - self.min.0) as usize + 1
-    }
-
     // The range within layers 1 to `layer_count`, or none where it lies beyond them.
     pub fn clamp_to_layer_count(self, layer_count: u16) -> LayerRangeOption
         requires { ⌜ meaning.IsRange (meaning.range self) ⌝ }
@@ -65,24 +46,6 @@ impl LayerRange {
         match max.clamp_to_layer_count(layer_count) {
             LayerOption::Some(max) => LayerRangeOption::Some(LayerRange { min, max }),
             LayerOption::None => LayerRangeOption::None,
-        }
-    }
-
-    // The layers of both, or none where a layer between the two is missing: the span is then longer than the two together.
-    pub fn union(self, other: LayerRange) -> LayerRangeOption
-        requires { ⌜ meaning.IsRange (meaning.range self) ⌝ }
-        requires { ⌜ meaning.IsRange (meaning.range other) ⌝ }
-        ensures { λ r. ⌜ meaning.rangeOption r ≡ rule.union (meaning.range self) (meaning.range other) ⌝ }
-        ensures { λ r. ⌜ meaning.Each meaning.IsRange (meaning.rangeOption r) ⌝ }
-    {
-        let combined = LayerRange {
-            min: shallower(self.min, other.min),
-            max: deeper(self.max, other.max),
-        };
-        if combined.len() <= self.len() + other.len() {
-            LayerRangeOption::Some(combined)
-        } else {
-            LayerRangeOption::None
         }
     }
 }

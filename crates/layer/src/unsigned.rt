@@ -1,10 +1,8 @@
 // Layer numbers: the Rust's layer/unsigned.rs.
 ghost use mathlib.Core.Path.{_≡_};
-ghost use lib.IntN.{pos};
 ghost use Prim.Native.Nat.{min};
 ghost use Rattle.notation.specs.Layers.{MAX-LAYER};
 ghost use Rattle.layer.specs.Meaning as meaning;
-use crate::signed::SignedLayer;
 
 // A layer's number, from 1 (the shallowest) to 32,767. The functions below make no other, and ask for no other.
 pub struct Layer(pub u16);
@@ -58,17 +56,6 @@ impl Layer {
             Layer::new(layer_count)
         } else {
             LayerOption::Some(self)
-        }
-    }
-
-    pub fn to_signed(self) -> SignedLayer
-        requires { ⌜ meaning.IsLayer (meaning.layer self) ⌝ }
-        ensures { λ r. ⌜ meaning.signed r ≡ pos (meaning.layer self) ⌝ }
-        ensures { λ r. ⌜ meaning.IsSignedLayer r ⌝ }
-    {
-        SignedLayer {
-            negative: false,
-            layer: self,
         }
     }
 }

@@ -10,7 +10,7 @@ use lib.Seq.{take-all, take-take, length-take-le}
 use Rattle.notation.specs.Numbers.{fromBits, toBits}
 use Rattle.notation.specs.Tree.{Leaf, rotation, move, pause, pair, slash, megaminx, Node, leaf, block, Body, group, binaryGroup, nil, cons, Tree}
 use Rattle.notation.specs.Packed.{
-  RECORD, widths, cut, leafHead, bodyHead, headFields, packNode, unpack, pack, headOf, headAt, groupNumber, binaryNumber
+  RECORD, widths, cut, leafHead, bodyHead, headFields, packNode, unpack, pack, headOf, headAt, groupNumber, binaryNumber, nodeHead
 }
 use Rattle.notation.specs.declared.common.GroupKind.{GroupKind}
 use Rattle.notation.specs.declared.common.GroupKind.the-variants.{Simple, Macro, Simultaneous, Niss}
@@ -25,7 +25,7 @@ use Rattle.record.proofs.RoundTrip.{length-headRecord}
 use Rattle.laws.specs.Packed.{FitsNode, FitsTree}
 use Rattle.laws.proofs.Packing.{unpack-pack}
 use Rattle.laws.specs.Packed.{Packed}
-use Rattle.laws.proofs.Walking.{packed, packed-nil, no-node, nodeHead, nodeEnd, Step, first-node, one-list, two-lists}
+use Rattle.laws.proofs.Walking.{packed, packed-nil, no-node, nodeEnd, Step, first-node, one-list, two-lists}
 use Rattle.nodes.specs.Nodes.{IsNode, part, FirstNode, firstList, secondList, Lists}
 
 pub part-rest : (a : ℕ) (bs : List ℕ) → part a (length bs) bs ≡ drop a bs

@@ -4,6 +4,11 @@ use mathlib.Core.Bool.{Bool, true, false, _&&_, _||_}
 use mathlib.Core.List.{List, [], _∷_}
 use lib.Dec.{leb, eqb}
 
+-- texts, trees and lent buffers: a list of bytes
+abbrev pub Bytes : Type 0
+Bytes = List ℕ
+
+-- one of two things, by a test
 abbrev pub pick {ℓ} : {A : Type ℓ} → Bool → A → A → A
 pick true a b = a
 pick false a b = b
@@ -17,6 +22,7 @@ choose false a b = b tt
 abbrev pub between : ℕ → ℕ → ℕ → Bool
 between a b x = leb a x && leb x b
 
+-- whether the number is one of these
 unfoldable pub oneOf : List ℕ → ℕ → Bool
 oneOf [] x = false
 oneOf (a ∷ l) x = eqb a x || oneOf l x
@@ -28,6 +34,7 @@ sameList [] (b ∷ t) = false
 sameList (a ∷ s) [] = false
 sameList (a ∷ s) (b ∷ t) = eqb a b && sameList s t
 
+-- whether the test holds of each
 unfoldable pub every : {A : Type 0} → (A → Bool) → List A → Bool
 every p [] = true
 every p (a ∷ l) = p a && every p l

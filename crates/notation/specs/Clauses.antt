@@ -1,6 +1,6 @@
 -- Well-formed trees clause by clause, in document 01's words and order, over the fields of the records as they stand.
 -- `wellFormed` (specs/WellFormed) says the same by what packing writes, which is what proofs work with:
--- crates/clauses/proofs/Same.antt, `same`, shows that both are equal, whatever the text and the tree.
+-- crates/clause_laws/proofs/Same.antt, `same`, shows that both are equal, whatever the text and the tree.
 use Prim.Native.Nat.{ℕ, zero, suc, _+_, _*_, _/_, _%_, max}
 use mathlib.Core.Bool.{Bool, true, not, _&&_, _||_}
 use mathlib.Core.List.{List, [], _∷_}
@@ -13,7 +13,7 @@ use Rattle.notation.specs.Utf8.{run}
 use Rattle.notation.specs.Layers.{MAX-LAYER}
 use Rattle.notation.specs.Tree.{Span, span, partOf}
 use Rattle.notation.specs.Packed.{widths, RECORD, cut}
-use Rattle.notation.specs.Numbers.{fromBits}
+use Rattle.notation.specs.Numbers.{fromBits, MIN-BITS}
 use Rattle.notation.specs.Counts.{cap}
 use Rattle.notation.specs.Meaning.{constraintsIn, layerSetIn}
 use Rattle.notation.specs.WellFormed.{MAX-NESTING, isSome, inside}
@@ -159,9 +159,9 @@ layersInRange r =
     not (hasLayers r)
     || leb 1 (low r) && leb (low r) (high r) && leb (high r) MAX-LAYER && (not (isSingle r) || eqb (low r) (high r))
 
--- multipliers other than −2147483648, whose bits are those of 2147483648
+-- multipliers other than −2147483648
 abbrev pub multiplierInRange : Fields → Bool
-multiplierInRange r = not (hasMultiplier r && eqb (number r) 2147483648)
+multiplierInRange r = not (hasMultiplier r && eqb (number r) MIN-BITS)
 
 -- families of family characters (empty only in a rotation)
 abbrev pub familyReads : List ℕ → Fields → Bool

@@ -7,7 +7,7 @@ use Rattle.notation.specs.Unroll.{isNiss}
 use Rattle.notation.specs.declared.common.BinaryGroupKind.{BinaryGroupKind}
 use Rattle.notation.specs.declared.common.BinaryGroupKind.the-variants.{Commutator, Conjugate}
 
--- a count above 4,294,967,295 is stored as 4,294,967,296
+-- a count is capped: one above 4,294,967,295 is stored as 4,294,967,296
 abbrev pub CAP : ℕ
 CAP = 4294967296
 

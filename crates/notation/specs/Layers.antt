@@ -24,24 +24,24 @@ abbrev pub rangeOf : ℕ → ℕ → Range
 rangeOf a b = record { low = min a b; high = max a b }
 
 -- −i is `max_layer` + 1 − i if negatives are allowed; out of range gives none
-abbrev pub resolve : ℕ → Bool → ℤ → Option ℕ
-resolve n neg (pos i) = pick (leb i n) (some i) none
-resolve n neg (negsuc i) = pick (leb (suc i) n && neg) (some (n - i)) none
+abbrev pub resolve : (layers : ℕ) (negatives : Bool) → ℤ → Option ℕ
+resolve layers negatives (pos i) = pick (leb i layers) (some i) none
+resolve layers negatives (negsuc i) = pick (leb (suc i) layers && negatives) (some (layers - i)) none
 
 -- an end of a range in a set: one too deep becomes `max_layer`, a negative one beyond the shallowest becomes 1, a forbidden negative gives none
-abbrev pub rangeEnd : ℕ → Bool → ℤ → Option ℕ
-rangeEnd n neg (pos i) = some (min i n)
-rangeEnd n neg (negsuc i) = pick neg (some (max 1 (n - i))) none
+abbrev pub rangeEnd : (layers : ℕ) (negatives : Bool) → ℤ → Option ℕ
+rangeEnd layers negatives (pos i) = some (min i layers)
+rangeEnd layers negatives (negsuc i) = pick negatives (some (max 1 (layers - i))) none
 
 -- beyond the deepest layer
-abbrev pub tooDeep : ℕ → ℤ → Bool
-tooDeep n (pos i) = ltb n i
-tooDeep n (negsuc i) = false
+abbrev pub tooDeep : (layers : ℕ) → ℤ → Bool
+tooDeep layers (pos i) = ltb layers i
+tooDeep layers (negsuc i) = false
 
 -- beyond the shallowest
-abbrev pub tooShallow : ℕ → ℤ → Bool
-tooShallow n (pos i) = false
-tooShallow n (negsuc i) = ltb n (suc i)
+abbrev pub tooShallow : (layers : ℕ) → ℤ → Bool
+tooShallow layers (pos i) = false
+tooShallow layers (negsuc i) = ltb layers (suc i)
 
 -- the range between two layers, if there are two
 abbrev pub rangeBetween : Option ℕ → Option ℕ → Option Range
@@ -50,30 +50,30 @@ rangeBetween (some a) none = none
 rangeBetween (some a) (some b) = some (rangeOf a b)
 
 -- both ends beyond the same side gives none
-abbrev pub resolveRange : ℕ → Bool → ℤ → ℤ → Option Range
-resolveRange n neg i j =
-    pick (tooDeep n i && tooDeep n j || tooShallow n i && tooShallow n j) none
-    (rangeBetween (rangeEnd n neg i) (rangeEnd n neg j))
+abbrev pub resolveRange : (layers : ℕ) (negatives : Bool) → ℤ → ℤ → Option Range
+resolveRange layers negatives i j =
+    pick (tooDeep layers i && tooDeep layers j || tooShallow layers i && tooShallow layers j) none
+    (rangeBetween (rangeEnd layers negatives i) (rangeEnd layers negatives j))
 
 -- a range's low end above `max_layer` gives nothing, a high end above it becomes `max_layer`
-abbrev pub clampToLayerCount : ℕ → Range → Option Range
-clampToLayerCount n r = pick (leb (r .low) n) (some (record { low = r .low; high = min (r .high) n })) none
+abbrev pub clampToLayerCount : (layers : ℕ) → Range → Option Range
+clampToLayerCount layers r = pick (leb (r .low) layers) (some (record { low = r .low; high = min (r .high) layers })) none
 
 abbrev pub alone : Option ℕ → Option Range
 alone none = none
 alone (some i) = some (record { low = i; high = i })
 
-abbrev pub elementRange : ℕ → Bool → LayerSetElement → Option Range
-elementRange n neg (single i) = alone (resolve n neg i)
-elementRange n neg (range i j) = resolveRange n neg i j
+abbrev pub elementRange : (layers : ℕ) (negatives : Bool) → LayerSetElement → Option Range
+elementRange layers negatives (single i) = alone (resolve layers negatives i)
+elementRange layers negatives (range i j) = resolveRange layers negatives i j
 
 abbrev pub keep : {A : Type 0} → Option A → List A → List A
 keep none l = l
 keep (some a) l = a ∷ l
 
-unfoldable pub setRanges : ℕ → Bool → List LayerSetElement → List Range
-setRanges n neg [] = []
-setRanges n neg (e ∷ es) = keep (elementRange n neg e) (setRanges n neg es)
+unfoldable pub setRanges : (layers : ℕ) (negatives : Bool) → List LayerSetElement → List Range
+setRanges layers negatives [] = []
+setRanges layers negatives (e ∷ es) = keep (elementRange layers negatives e) (setRanges layers negatives es)
 
 -- sort: by low end, then by high end
 abbrev pub before : Range → Range → Bool
@@ -93,10 +93,6 @@ touching a b = leb (max (a .low) (b .low)) (min (a .high) (b .high) + 1)
 
 abbrev pub joined : Range → Range → Range
 joined a b = record { low = min (a .low) (b .low); high = max (a .high) (b .high) }
-
--- `LayerRange::union`
-abbrev pub union : Range → Range → Option Range
-union a b = pick (touching a b) (some (joined a b)) none
 
 unfoldable pub joinFrom : Range → List Range → List Range
 joinFrom a [] = a ∷ []
@@ -120,12 +116,12 @@ othersFrom i zero l = []
 othersFrom i (suc m) l = keep (pick (contains l i) none (alone (some i))) (othersFrom (suc i) m l)
 
 -- the layers from 1 to n that the ranges do not give, each alone
-abbrev pub others : ℕ → List Range → List Range
-others n l = othersFrom 1 n l
+abbrev pub others : (layers : ℕ) → List Range → List Range
+others layers l = othersFrom 1 layers l
 
-abbrev pub complement : ℕ → List Range → List Range
-complement n l = simplified (others n l)
+abbrev pub complement : (layers : ℕ) → List Range → List Range
+complement layers l = simplified (others layers l)
 
 -- document 02, request 3: with a tilde the layers that the same prefix without it does not give; simplified, `lit n true l` is `complement n l`
-abbrev pub lit : ℕ → (tilde : Bool) → List Range → List Range
-lit n tilde l = pick tilde (others n l) l
+abbrev pub lit : (layers : ℕ) (tilde : Bool) → List Range → List Range
+lit layers tilde l = pick tilde (others layers l) l

@@ -17,13 +17,23 @@ use Rattle.notation.specs.Print.{put, putStep}
 use Rattle.notation.specs.Entries.{reading, inverse, display, steps}
 use Rattle.notation.specs.declared.features.Features.{Features}
 
+abbrev pub SPACE : ℕ
+SPACE = code " "
+
+abbrev pub NEWLINE : ℕ
+NEWLINE = 10
+
 -- label or place, one space, the field and a newline
 abbrev pub line : List ℕ → List ℕ → List ℕ → List ℕ
-line label field rest = label ++ (32 ∷ (field ++ (10 ∷ rest)))
+line label field rest = label ++ (SPACE ∷ (field ++ (NEWLINE ∷ rest)))
 
 abbrev pub field : Outcome (List ℕ) → List ℕ
 field (refusal r) = put "refused " (show r [])
 field (result l) = l
+
+-- so many steps are listed
+abbrev pub SHOWN : ℕ
+SHOWN = 1000
 
 -- place and step for the first m
 unfoldable pub stepLines : List ℕ → ℕ → ℕ → List Leaf → List ℕ
@@ -33,7 +43,7 @@ stepLines text (suc m) k (x ∷ l) = line (show k []) (putStep (stepOf text x) [
 
 abbrev pub stepsPart : List ℕ → Outcome (List Leaf) → List ℕ
 stepsPart text (refusal r) = line (put "steps" []) (field (refusal r)) []
-stepsPart text (result l) = line (put "steps" []) (show (length l) []) (stepLines text 1000 0 l)
+stepsPart text (result l) = line (put "steps" []) (show (length l) []) (stepLines text SHOWN 0 l)
 
 abbrev pub treePart : List ℕ → Outcome (List ℕ) → List ℕ
 treePart text (refusal r) = line (put "text" []) (field (refusal r)) []

@@ -31,6 +31,10 @@ toBits w (negsuc n) = 2 ^ w - suc n
 abbrev pub fromBits : ℕ → ℕ → ℤ
 fromBits w n = pick (ltb n (2 ^ (w - 1))) (pos n) (negsuc (2 ^ w - suc n))
 
+-- the 32 bits of −2147483648, which has no negative in 32 bits
+abbrev pub MIN-BITS : ℕ
+MIN-BITS = 2147483648
+
 -- z fits w bits
 abbrev pub fitsBits : ℕ → ℤ → Bool
 fitsBits w (pos n) = ltb n (2 ^ (w - 1))

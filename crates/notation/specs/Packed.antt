@@ -145,6 +145,11 @@ abbrev pub bodyHead : Body Leaf → ℤ → Head
 bodyHead (group k a) m = groupHead k (size a) m (stored (block (group k a) m))
 bodyHead (binaryGroup k a b) m = binaryHead k (size a) (size b) m (stored (block (binaryGroup k a b) m))
 
+-- the record of a node
+abbrev pub nodeHead : Node Leaf → Head
+nodeHead (leaf x) = leafHead x
+nodeHead (block b m) = bodyHead b m
+
 unfoldable mutual
   pub packNode : Node Leaf → List ℕ
   packNode (leaf x) = leafRecord x

@@ -1,4 +1,5 @@
--- Document 02, request 3: what the two answers for one prefix, with a tilde and without, are to each other. The theorem is `lights-others` in crates/tilde/proofs/Tilde.antt.
+-- Document 02, request 3: what the two answers for one prefix, with a tilde and without, are to each other.
+-- The theorem is `lights-others` in crates/tilde_laws/proofs/Tilde.antt.
 use Prim.Native.Nat.{ℕ}
 use mathlib.Core.Path.{_≡_}
 use mathlib.Core.Bool.{Bool, true, false, not}

@@ -9,12 +9,12 @@ use lib.Dec.{ltb}
 use lib.ListN.{length, getD, take, drop, set, replicate, length-set, length-drop, length-replicate}
 use lib.Seq.{take-all, take-append-le, drop-append-le, set-set, set-comm, set-getD, getD-set-same, getD-set-other}
 use Rattle.notation.specs.Tree.{Leaf, Node, leaf, block, Body, group, binaryGroup, nil, cons, Tree}
-use Rattle.notation.specs.Packed.{RECORD, bodyHead, headRecord, nodeSize, bodySize, size, packNode, packBody, pack}
+use Rattle.notation.specs.Packed.{RECORD, bodyHead, headRecord, nodeSize, bodySize, size, packNode, packBody, pack, nodeHead}
 use Rattle.notation.specs.Counts.{CAP, cap, countNode, count, stored}
 use Rattle.notation.specs.Basics.{pick}
 use Rattle.notation.specs.WellFormed.{MAX-NESTING, nodeDepth, bodyDepth, depth}
 use Rattle.laws.specs.Packed.{FitsNode, FitsBody, FitsTree}
-use Rattle.laws.proofs.Walking.{nodeHead, node-head-fits}
+use Rattle.laws.proofs.Walking.{node-head-fits}
 use Rattle.record.specs.Meaning.{withField, COUNT, kindAt}
 use Rattle.tally.specs.Tallies.{TALLIES, tallyRecord, tallyNode, tallyBody, tallyList, tallyAt, ownCount, freed, added, Capped}
 use Rattle.tally.proofs.Sizes.{length-tallyRecord, length-tallyNode, length-tallyList}

@@ -11,12 +11,12 @@ use lib.ListN.{getD, set, length-set}
 use lib.Seq.{take-all, set-set, set-getD, getD-set-same, getD-set-other}
 use Rattle.notation.specs.Numbers.{fromBits}
 use Rattle.notation.specs.Tree.{Leaf, Node, leaf, block, Body, group, binaryGroup}
-use Rattle.notation.specs.Packed.{RECORD, widths, layOut, cut, Head, leafHead, headFields, bodyHead, headRecord, groupNumber, binaryNumber}
+use Rattle.notation.specs.Packed.{RECORD, widths, layOut, cut, Head, leafHead, headFields, bodyHead, headRecord, groupNumber, binaryNumber, nodeHead}
 use Rattle.notation.specs.Counts.{cap, countNode, count, stored}
 use Rattle.counts.specs.Groups.{groupCount}
 use Rattle.counts.proofs.Capped.{group-stored, binary-stored}
 use Rattle.numbers.proofs.TwosComplement.{fromBits-toBits}
-use Rattle.laws.proofs.Walking.{nodeHead, head-stored}
+use Rattle.laws.proofs.Walking.{head-stored}
 use Rattle.nodes.proofs.Nodes.{leaf-kind, group-kind, binary-kind}
 use Rattle.record.specs.Meaning.{field, withField, NUMBER, COUNT, kindAt}
 use Rattle.record.specs.Range.{FitsHead}

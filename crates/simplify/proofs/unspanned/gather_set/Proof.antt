@@ -25,7 +25,7 @@ gathered m =
     set-gathered (s .args .axis .«max_layer») (s .pre .0) (s .args .axis .«allow_negatives») (s .args .part .now) (s .args .reach .now) _ (s .pre .1 .0)
     (m .mark-set .ensures)
 
-turn-over-requires : tie.Need-invert-requires
+turn-over-requires : tie.Need-turn-over-requires
 turn-over-requires c κs =
     let m = c .before .before .before .before in
     omega (arith, gathered m .size, m .before .before .before .before .pre .0 .high)
