@@ -105,47 +105,6 @@ abbrev pub greek : Class → Bool
 greek Outside = false
 greek (In q) = greekSet q
 
-pub greek-tags : (q : CharSet) → oneOf (2 ∷ 3 ∷ 4 ∷ []) (tagOf the-type q) ≡ greekSet q
-unfolding oneOf
-greek-tags LowercaseLatin = refl
-greek-tags UppercaseLatin = refl
-greek-tags UppercaseGreek = refl
-greek-tags TallLowercaseGreek = refl
-greek-tags ShortLowercaseGreek = refl
-greek-tags Underscore = refl
-greek-tags Prime = refl
-
-pub other-tags : (q : CharSet) → oneOf (0 ∷ 1 ∷ 5 ∷ 6 ∷ []) (tagOf the-type q) ≡ not (greekSet q)
-unfolding oneOf
-other-tags LowercaseLatin = refl
-other-tags UppercaseLatin = refl
-other-tags UppercaseGreek = refl
-other-tags TallLowercaseGreek = refl
-other-tags ShortLowercaseGreek = refl
-other-tags Underscore = refl
-other-tags Prime = refl
-
--- no Latin letter is a Greek one, so the order of the tests of `classify` does not matter
-pub greek-letter : (c : ℕ) → isGreekLetter c ≡ greek (classify c)
-unfolding classify every
-greek-letter c = by-latin (between 0x61 0x7a c) (between 0x41 0x5a c) refl refl where
-  none : (p : ℕ → Bool) → every (λ a. not (p a)) uppercaseGreek ≡ true → every (λ a. not (p a)) tallLowercaseGreek ≡ true → every (λ a. not (p a)) shortLowercaseGreek ≡ true → p c ≡ true → isGreekLetter c ≡ false
-  none p u t s h = rw (apart p uppercaseGreek c u h, apart p tallLowercaseGreek c t h, apart p shortLowercaseGreek c s h)
-
-  by-greek : (u t s e p : Bool) → (u || t || s)
-      ≡ greek (pick u (In UppercaseGreek) (pick t (In TallLowercaseGreek) (pick s (In ShortLowercaseGreek) (pick e (In Underscore) (pick p (In Prime) Outside)))))
-  by-greek true t s e p = refl
-  by-greek false true s e p = refl
-  by-greek false false true e p = refl
-  by-greek false false false true p = refl
-  by-greek false false false false true = refl
-  by-greek false false false false false = refl
-
-  by-latin : (l u : Bool) → between 0x61 0x7a c ≡ l → between 0x41 0x5a c ≡ u → isGreekLetter c ≡ greek (classify c)
-  by-latin true u e f = rw e (none (between 0x61 0x7a) refl refl refl e)
-  by-latin false true e f = rw (e, f) (none (between 0x41 0x5a) refl refl refl f)
-  by-latin false false e f = rw (e, f) (by-greek (oneOf uppercaseGreek c) (oneOf tallLowercaseGreek c) (oneOf shortLowercaseGreek c) (eqb c 0x5f) (oneOf (0x27 ∷ curlyPrimes) c))
-
 -- in ASCII a family character is a Latin letter or the underscore
 pub ascii-family : (c : ℕ) → c ≤ 0x7f → isFamilyChar c ≡ (isLatinLetter c || eqb c 0x5f)
 unfolding classify every

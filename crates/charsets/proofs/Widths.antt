@@ -81,16 +81,6 @@ form s =
     by-rows (byteAt s 0) (byteAt s 1) (byteAt s 2) (byteAt s 3) (leb (byteAt s 0) 0x7f) (two (byteAt s 0) (byteAt s 1))
     (three (byteAt s 0) (byteAt s 1) (byteAt s 2)) (four (byteAt s 0) (byteAt s 1) (byteAt s 2) (byteAt s 3)) refl refl refl refl
 
--- a character is at most four bytes long
-pub width-four : (s : List ℕ) → charWidth s ≤ 4
-width-four s = of (form s) where
-  of : {a b c d w : ℕ} → Form a b c d w → w ≤ 4
-  of no-form = omega arith
-  of (one-byte p) = omega arith
-  of (two-bytes p q) = omega arith
-  of (three-bytes p q r) = omega arith
-  of (four-bytes p q r t) = omega arith
-
 -- and lies within the text
 pub width-length : (s : List ℕ) → charWidth s ≤ length s
 width-length s = of (form s) where

@@ -162,7 +162,7 @@ pub fn node_list(out: &mut [u8], at: usize, text: &[u8], tree: &[u8]) -> usize
     let mut t = tree;
     let mut next = at;
     while 0 < t.len() {
-        if kinds::CONJUGATE < fields::kind(t) {
+        if fields::is_leaf(t) {
             next = leaf(out, next, text, t);
             t = &t[RECORD..];
         } else {

@@ -24,9 +24,6 @@ use Rattle.checked.specs.Checked.{Accepted}
 use Rattle.checked.proofs.Outcomes.{Checks, refused}
 use Rattle.checked.proofs.Records.{HeadOk, prefix-ok, record-ok}
 
-abbrev pub tildeAt : List ℕ → Bool
-tildeAt bs = tildeAt bs
-
 -- What a record names, by its kind: 6 is a rotation, 7 a move.
 module _ (bs : List ℕ) (k : ℕ) (e : k ≡ kindAt bs) where
   family-by-kind : familyOf (headAt bs) ≡ pick (between 6 7 k) (result (familyAt (field FAMILY bs) (field FAMILY-SIZE bs))) (refusal NO-SUCH-RECORD)

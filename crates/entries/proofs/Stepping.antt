@@ -20,7 +20,7 @@ use Rattle.laws.specs.Unrolled.{flat, firstRefusal}
 use Rattle.laws.proofs.Unrolling.{flatten-is}
 use Rattle.laws.proofs.Counting.{count-is}
 use Rattle.expand.specs.declared.visit.Refusals.{Refusals}
-use Rattle.expand.specs.Meaning.{told, refuses}
+use Rattle.expand.specs.Meaning.{refusalOf, refuses}
 use Rattle.expand.specs.Places.{stepIn, found}
 use Rattle.expand.specs.Steps.{WroteSteps}
 use Rattle.expand.proofs.Steps.{length-records}
@@ -41,16 +41,16 @@ unfolding steps
 count-unsound {text} {tree} {o} {r} c q = refused-as text tree r q (rw (refused c q))
 
 module _ (text tree : List ℕ) (sound : Accepted text tree) (s : Refusals) (e : refuses s ≡ (λ (d : Bool). firstRefusal d (unpack tree))) where
-  met : told (s .forward) ≡ firstRefusal false (unpack tree)
+  met : refusalOf (s .forward) ≡ firstRefusal false (unpack tree)
   met = ap (λ (f : Bool → Option ℕ). f false) e
 
   unmet : s .forward ≡ 0 → firstRefusal false (unpack tree) ≡ none
-  unmet z = sym met ∙ ap told z
+  unmet z = sym met ∙ ap refusalOf z
 
   met-some : (s .forward ≡ 0 → ⊥) → firstRefusal false (unpack tree) ≡ some (s .forward)
   met-some h = sym met ∙ go (s .forward) h
     where
-      go : (r : ℕ) → (r ≡ 0 → ⊥) → told r ≡ some r
+      go : (r : ℕ) → (r ≡ 0 → ⊥) → refusalOf r ≡ some r
       go zero h = absurd (h refl)
       go (suc r) h = refl
 

@@ -8,6 +8,7 @@ ghost use Rattle.notation.specs.WellFormed.{inside};
 ghost use Rattle.record.specs.Meaning as means;
 ghost use Rattle.entries.specs.Parts.{partOutcome, Inside, Fits};
 use notation::answer::Answer;
+use notation::limits;
 use notation::refusals::NO_SUCH_LAYER_COUNT;
 use notation::refusals::NO_SUCH_RECORD;
 use record::RECORD;
@@ -18,7 +19,7 @@ use record::kinds;
 use record::spanned::Span;
 use checked::check;
 
-const MAX_LAYER: u32 = 32767;
+const MAX_LAYER: u32 = limits::MAX_LAYER as u32;
 
 // A part of the text, or why there is none.
 pub enum PartAnswer {

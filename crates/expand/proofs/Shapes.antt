@@ -5,7 +5,7 @@ use mathlib.Core.Bool.{Bool, true, false}
 use mathlib.Core.List.{List, append-nil}
 use native.Mathlib.Nat.{zero-mul, mul-comm}
 use native.Mathlib.Omega.{arith}
-use lib.Dec.{eqb}
+use lib.Dec.{eqb, ltb}
 use lib.IntN.{ℤ, natAbs}
 use lib.ListN.{length}
 use Rattle.notation.specs.Basics.{pick}
@@ -21,6 +21,7 @@ use Rattle.notation.specs.declared.common.GroupKind.the-variants.{Simple, Macro
 use Rattle.notation.specs.declared.common.BinaryGroupKind.{BinaryGroupKind}
 use Rattle.notation.specs.declared.common.BinaryGroupKind.the-variants.{Commutator, Conjugate}
 use Rattle.record.specs.Meaning.{field, kindAt, NUMBER, COUNT}
+use Rattle.record.proofs.KindTests.{no-leaf-low}
 use Rattle.laws.specs.Unrolled.{flatNode, flat}
 use Rattle.laws.proofs.Walking.{head-stored}
 use Rattle.nodes.specs.Nodes.{IsNode, part, FirstNode, firstList, secondList}
@@ -54,8 +55,8 @@ shapes (block (binaryGroup g a b) m) bs s =
 pub shape-of : {n : Node Leaf} {bs : List ℕ} → IsNode bs n → Shape (kindAt bs) (fromBits 32 (field NUMBER bs)) n
 shape-of {n} {bs} s = shapes n bs s
 
-pub group-of : {bs : List ℕ} {e k : ℕ} → FirstNode bs e → k ≡ kindAt bs → k ≤ 5 → IsGroup (part 0 e bs)
-group-of f q h = record { node = f .node; isNode = f .isNode; low = first-low f q h }
+pub group-of : {bs : List ℕ} {e : ℕ} {r : Bool} → FirstNode bs e → r ≡ ltb 5 (kindAt bs) → r ≡ false → IsGroup (part 0 e bs)
+group-of f q left = record { node = f .node; isNode = f .isNode; low = first-low f refl (no-leaf-low q left) }
 
 -- A group is its body repeated; a leaf has none.
 abbrev pub bodyOf : Node Leaf → Body Leaf

@@ -27,7 +27,8 @@ use Rattle.laws.proofs.Walking.{no-node}
 use Rattle.laws.specs.Unrolled.{first, ifReached, firstInOrder, refusalBinary, refusalNode, refusalBody, firstRefusal}
 use Rattle.nodes.specs.Nodes.{IsNode, part, FirstNode, firstList, secondList, Lists}
 use Rattle.nodes.proofs.Nodes.{part-length, fields-of, kind-of, alone, front-field, FirstLeaf, leaf-node}
-use Rattle.expand.specs.Meaning.{refusalOf, refuses, leafRefuses, overflowsAt, binaryKind}
+use Rattle.expand.specs.Meaning.{refusalOf, refuses, leafRefuses, binaryKind}
+use Rattle.record.specs.Undone.{overflowsAt}
 use Rattle.expand.specs.Steps.{IsGroup}
 use Rattle.expand.specs.declared.visit.Refusals.{Refusals}
 use Rattle.expand.proofs.Shapes.{Shape, isLeaf, isGroup, isBinary, shape-of, bodyOf, block-is, group-body, binary-body}
@@ -68,17 +69,6 @@ turned-round (negsuc n) s g = either-way refl refl
 pub turned-not : (m : ℤ) (s : Refusals) → isNegative m ≡ false → refuses s ≡ turnedBy m (refuses s)
 turned-not (pos n) s g = refl
 turned-not (negsuc n) s g = absurd (let y : _≡_ {A = ℕ} 0 1 = cc in omega arith)
-
--- the three ways of the test of a pair
-module _ (bs : List ℕ) {k : ℕ} (e : k ≡ kindAt bs) where
-  pub over-first : {n : ℕ} → n ≡ field NUMBER bs → k ≡ 9 → n ≡ 2147483648 → eqb n 2147483648 ≡ overflowsAt bs
-  over-first f p q = rw (← e, ← f, p, q)
-
-  pub over-second : {n o : ℕ} → n ≡ field NUMBER bs → o ≡ field OTHER bs → k ≡ 9 → ((n ≡ 2147483648) → ⊥) → eqb o 2147483648 ≡ overflowsAt bs
-  over-second f g p q = rw (← e, ← f, ← g, p, ne-eqb _ 2147483648 q)
-
-  pub over-none : ((k ≡ 9) → ⊥) → eqb k 9 ≡ overflowsAt bs
-  over-none p = rw (← e, ne-eqb k 9 p)
 
 -- the bits of −2147483648
 min-bits : (z : ℤ) → FitsNumber z → eqb (toBits 32 z) 2147483648 ≡ isMin z

@@ -27,7 +27,3 @@ binaryKind false = Conjugate
 -- a leaf that cannot be undone, or can
 abbrev pub leafRefuses : Bool → Bool → Option ℕ
 leafRefuses overflows d = pick (d && overflows) (some OVERFLOW) none
-
--- a record of a pair with −2147483648
-abbrev pub overflowsAt : List ℕ → Bool
-overflowsAt bs = eqb (kindAt bs) 9 && (eqb (field NUMBER bs) 2147483648 || eqb (field OTHER bs) 2147483648)

@@ -19,7 +19,7 @@ pub fn count(list: &[u8]) -> u64
     let mut steps = 0;
     while 0 < t.len() {
         // A leaf, which most nodes are, is one record and one step: neither its count nor its lists need be read.
-        if kinds::CONJUGATE < fields::kind(t) {
+        if fields::is_leaf(t) {
             steps += 1;
             t = &t[RECORD..];
         } else {

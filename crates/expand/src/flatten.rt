@@ -36,7 +36,7 @@ pub fn flatten(tree: &[u8], out: &mut [u8]) -> usize
     let mut at = 0;
     while 0 < t.len() {
         // A leaf is one record, which is the step.
-        if kinds::CONJUGATE < fields::kind(t) {
+        if fields::is_leaf(t) {
             copy_record(&t[0..RECORD], &mut out[at..]);
             at += RECORD;
             t = &t[RECORD..];

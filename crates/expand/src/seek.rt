@@ -37,7 +37,7 @@ pub fn seek(tree: &[u8], place: u64, step: &mut [u8])
     let mut inverted = false;
     loop {
         // A leaf is one record and one step: neither its count nor its lists need be read.
-        if kinds::CONJUGATE < fields::kind(rest) {
+        if fields::is_leaf(rest) {
             if remaining == 0 {
                 write_step(&rest[0..RECORD], inverted, step);
                 return;

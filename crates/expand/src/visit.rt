@@ -8,7 +8,7 @@ ghost use Rattle.notation.specs.Unroll.{turned as turnedBy};
 ghost use Rattle.notation.specs.Packed.{RECORD as recordSize, unpack};
 ghost use Rattle.laws.specs.Packed.{Packed};
 ghost use Rattle.laws.specs.Unrolled as unrolling;
-ghost use Rattle.expand.specs.Meaning.{refusalOf, refuses, leafRefuses, overflowsAt, binaryKind};
+ghost use Rattle.expand.specs.Meaning.{refusalOf, refuses, leafRefuses, binaryKind};
 ghost use Rattle.expand.specs.Steps.{IsGroup};
 use nodes::first_end;
 use nodes::node_end;
@@ -18,6 +18,7 @@ use numbers::signed::is_negative;
 use record::RECORD;
 use record::fields;
 use record::kinds;
+use record::undo::overflows;
 
 pub struct Refusals {
     // The first that unrolling meets, or 0.
@@ -40,7 +41,7 @@ pub fn visit(tree: &[u8]) -> Refusals
     let mut met = NONE;
     while 0 < t.len() {
         // A leaf, which most nodes are, is one record: the sizes of its lists need not be read.
-        if kinds::CONJUGATE < fields::kind(t) {
+        if fields::is_leaf(t) {
             met = join(met, of_leaf(overflows(t)));
             t = &t[RECORD..];
         } else {
@@ -76,15 +77,6 @@ fn visit_node(node: &[u8]) -> Refusals
     }
     let b = visit(&node[middle..]);
     turned(multiplier, of_binary(kind == kinds::COMMUTATOR, a, b))
-}
-
-// A pair with −2147483648, which has no negative in 32 bits.
-fn overflows(node: &[u8]) -> bool
-    requires { ⌜ recordSize ≤ length (now node) ⌝ }
-    ensures { λ r. ⌜ r ≡ overflowsAt (now (node .entry)) ⌝ }
-{
-    fields::kind(node) == kinds::PAIR
-        && (fields::number(node) == 2147483648 || fields::other(node) == 2147483648)
 }
 
 fn of_leaf(overflows: bool) -> Refusals

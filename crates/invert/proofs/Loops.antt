@@ -6,11 +6,13 @@ use mathlib.Core.Bool.{Bool, true, false}
 use mathlib.Core.List.{List, [], _++_, append-nil, append-assoc}
 use mathlib.Core.Option.{Option, none, some}
 use native.Mathlib.Omega.{arith}
+use lib.Dec.{ltb}
 use lib.ListN.{length, take, drop, length-append, length-drop}
 use lib.Seq.{take-at, drop-length, drop-at, drop-drop, length-take-le}
 use Rattle.notation.specs.Tree.{Leaf, Node, leaf, block, group, binaryGroup, nil, cons, append, Tree}
 use Rattle.notation.specs.Packed.{RECORD, packNode, pack, unpack, headAt, nodeHead}
 use Rattle.record.specs.Meaning.{field, kindAt}
+use Rattle.record.proofs.KindTests.{no-leaf-low}
 use Rattle.laws.specs.Unrolled.{first}
 use Rattle.laws.specs.Inverted.{inverted, invRefusal, deeply, deeplyNode, deepRefusal}
 use Rattle.laws.specs.Packed.{Packed}
@@ -82,8 +84,8 @@ module _ {t : List ℕ} {e : ℕ} (s : FirstNode t e) where
   pub front-long : length (take e t) ≡ e
   front-long = length-take-le e t (s .most)
 
-  pub front-low : {k : ℕ} → k ≡ kindAt t → k ≤ 5 → kindAt (take e t) ≤ 5
-  front-low q h = subst (λ (l : List ℕ). kindAt l ≤ 5) (part-front e t) (first-low s q h)
+  pub front-low : {r : Bool} → r ≡ ltb 5 (kindAt t) → r ≡ false → kindAt (take e t) ≤ 5
+  front-low q left = subst (λ (l : List ℕ). kindAt l ≤ 5) (part-front e t) (first-low s refl (no-leaf-low q left))
 
 -- t is what is left of tree, and out holds what is done from `at` on.
 pub record WroteNodes (f : Tree → Tree) (tree t : List ℕ) (at : ℕ) (out : List ℕ) : Type 0 where

@@ -111,7 +111,7 @@ fn invert(tree: &[u8], out: &mut [u8], deep: bool)
     let mut at = out.len();
     while 0 < t.len() {
         // A leaf is one record.
-        if kinds::CONJUGATE < fields::kind(t) {
+        if fields::is_leaf(t) {
             let to = at - RECORD;
             inv_leaf(&t[..RECORD], &mut out[to..at]);
             at = to;

@@ -225,13 +225,6 @@ unrollable-clean t list e h =
 pub inverse-accepted : (t : Tree) → clean t ≡ true → inv t ≡ result (inverted t)
 inverse-accepted t e = inv-is t ∙ ap (λ (r : Option ℕ). verdict r (inverted t)) (clean-inverts t e)
 
-pub inverse-flattens : (t : Tree) (list : List Leaf) → flatten t ≡ result list → every negatable list ≡ true →
-    flatten (inverted t) ≡ result (backwards list)
-inverse-flattens t list e h =
-    flatten-is (inverted t) false
-    ∙ ap (λ (r : Option ℕ). verdict r (flat undo false (inverted t))) (inverted-walks t (unrollable-clean t list e h))
-    ∙ ap result (inverse-unrolls t ∙ ap backwards (unrolled-list t list e .1))
-
 -- Being clean does not depend on the text.
 module _ {L M : Type 0} (g : L → M) (p : L → Bool) (q : M → Bool) (keeps : (x : L) → q (g x) ≡ p x) where
   mutual

@@ -74,13 +74,6 @@ pub there : (c : Place) {A : Type 0} {Q : A → ℕ → Type 0} {at : ℕ} {s : 
     c .here at s → c .here at′ s′
 there c {at} {s} {s′} t h = rw (t .moves) (c .onward at (t .part) s′ (rw (t .splits) at h))
 
--- the same by the number of bytes taken
-pub took-drop : {A : Type 0} {Q : A → ℕ → Type 0} {at : ℕ} {s : List ℕ} {a : A} {at′ : ℕ} {s′ : List ℕ} (t : Took Q at s a at′ s′) →
-    (length (t .part) ≤ length s) × (s′ ≡ drop (length (t .part)) s)
-took-drop {s} {s′} t =
-    (omega (arith, ap length (t .splits), length-append (t .part) s′),
-     sym (drop-append-seam (t .part) s′) ∙ sym (ap (drop (length (t .part))) (t .splits)))
-
 -- one reading after another
 pub took-join : {A B : Type 0} {Q : A → ℕ → Type 0} {R : B → ℕ → Type 0} {at : ℕ} {s : List ℕ} {a : A} {at′ : ℕ} {s′ : List ℕ} {b : B} {at″ : ℕ}
     {s″ : List ℕ} (t : Took Q at s a at′ s′) → Took (λ b m. R b (length (t .part) + m)) at′ s′ b at″ s″ → Took R at s b at″ s″

@@ -24,10 +24,6 @@ positive-with negative zero h = absurd (omega arith)
 positive-with true (suc i) h = refl
 positive-with false (suc i) h = refl
 
-negated-with : (negative : Bool) (i : ℕ) → withSign (not negative) i ≡ negℤ (withSign negative i)
-negated-with true i = sym (negℤ-negℤ (pos i))
-negated-with false i = refl
-
 and-pick : {A : Type 0} (a b : Bool) (x y : A) → pick (a && b) x y ≡ pick a (pick b x y) y
 and-pick true b x y = refl
 and-pick false b x y = refl
@@ -47,14 +43,9 @@ resolve-with n neg true (suc i) h =
 resolve-with n neg false (suc i) h = refl
 
 module _ (l : SignedLayer) (real : IsSignedLayer l) where
-  pub negative-is : l .negative ≡ meaning.isNegative (signed l)
-  negative-is = negative-with (l .negative) (layer (l .layer)) (real .low)
 
   pub positive-is : not (l .negative) ≡ meaning.isPositive (signed l)
   positive-is = positive-with (l .negative) (layer (l .layer)) (real .low)
-
-  pub negated-is : withSign (not (l .negative)) (layer (l .layer)) ≡ negℤ (signed l)
-  negated-is = negated-with (l .negative) (layer (l .layer))
 
   module _ (axis : AxisLayersInfo) where
     -- `resolve` by the tests that the code makes

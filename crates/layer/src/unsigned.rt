@@ -3,6 +3,7 @@ ghost use mathlib.Core.Path.{_≡_};
 ghost use Prim.Native.Nat.{min};
 ghost use Rattle.notation.specs.Layers.{MAX-LAYER};
 ghost use Rattle.layer.specs.Meaning as meaning;
+use notation::limits::MAX_LAYER;
 
 // A layer's number, from 1 (the shallowest) to 32,767. The functions below make no other, and ask for no other.
 pub struct Layer(pub u16);
@@ -16,7 +17,7 @@ pub enum LayerOption {
 impl Layer {
     pub const MIN: Layer = Layer(1);
 
-    pub const MAX: Layer = Layer(32767);
+    pub const MAX: Layer = Layer(MAX_LAYER);
     // The shallowest layer of any axis.
     pub const SHALLOWEST: Layer = Layer(1);
 
@@ -28,7 +29,7 @@ impl Layer {
         if i < 1 {
             return LayerOption::None;
         }
-        if i <= 32767 {
+        if i <= MAX_LAYER {
             LayerOption::Some(Layer(i))
         } else {
             LayerOption::None
@@ -43,7 +44,7 @@ impl Layer {
         if i < 1 {
             return Layer::MIN;
         }
-        if i < 32767 { Layer(i) } else { Layer::MAX }
+        if i < MAX_LAYER { Layer(i) } else { Layer::MAX }
     }
 
     // The layer, or the deepest of `layer_count` layers where it lies below that; none where there are no layers.

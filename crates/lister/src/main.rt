@@ -3,10 +3,11 @@
 use libc::STDIN_FILENO;
 use libc::STDOUT_FILENO;
 use listing::MAX_LISTING;
+use listing::MAX_READ;
 
-// One byte more than the longest input is read, so that a longer text is seen to be one.
+// Reads an input and writes its listing.
 fn main() {
-    let mut input = [0u8; 3075];
+    let mut input = [0u8; MAX_READ];
     let mut out = [0u8; MAX_LISTING];
     let n = io::read_full(STDIN_FILENO, &mut input);
     let size = listing::list_whole(&input[..n], &mut out);

@@ -10,7 +10,7 @@ use Rattle.notation.specs.Packed.{unpack}
 use Rattle.notation.specs.Invert.{undo}
 use Rattle.notation.specs.Print.{put, printed}
 use Rattle.notation.specs.Entries.{checked, inverse, display, steps}
-use Rattle.notation.specs.Lister.{line, field, stepLines, stepsPart, treePart}
+use Rattle.notation.specs.Lister.{line, field, stepLines, stepsPart, treePart, SHOWN}
 use Rattle.notation.specs.Demands.{printedInverse}
 use Rattle.laws.specs.Unrolled.{flat}
 use Rattle.notation.specs.Counts.{count}
@@ -53,10 +53,10 @@ inverse-refused text tree r e = rw e
 
 -- The count and the steps.
 pub steps-counted : (text tree : List ℕ) (n : ℕ) → Counted text tree n →
-    line (put "steps" []) (show n []) (stepLines text 1000 0 (flat undo false (unpack tree)) ++ []) ≡ stepsPart text (steps text tree)
+    line (put "steps" []) (show n []) (stepLines text SHOWN 0 (flat undo false (unpack tree)) ++ []) ≡ stepsPart text (steps text tree)
 steps-counted text tree n c =
-    ap (line (put "steps" []) (show n [])) (append-nil (stepLines text 1000 0 (flat undo false (unpack tree))))
-    ∙ ap (λ (k : ℕ). line (put "steps" []) (show k []) (stepLines text 1000 0 (flat undo false (unpack tree)))) (c .steps ∙ sym (count-is (unpack tree) false))
+    ap (line (put "steps" []) (show n [])) (append-nil (stepLines text SHOWN 0 (flat undo false (unpack tree))))
+    ∙ ap (λ (k : ℕ). line (put "steps" []) (show k []) (stepLines text SHOWN 0 (flat undo false (unpack tree)))) (c .steps ∙ sym (count-is (unpack tree) false))
     ∙ ap (stepsPart text) (sym (these text tree n c []))
 
 pub steps-refused : (text tree : List ℕ) (r : ℕ) → steps text tree ≡ refusal r → line (put "steps" []) (field (refusal r)) [] ≡ stepsPart text (steps text tree)

@@ -28,7 +28,7 @@ use notation::answer::Answer;
 use record::RECORD;
 use checked::check;
 
-// So many bytes of text are listed; their tree has at most a record for each of them.
+// Bytes of a text that is listed, and of its tree, which has at most a record for each of them.
 pub const MAX_INPUT: usize = 3072;
 pub const MAX_TREE: usize = RECORD * MAX_INPUT;
 

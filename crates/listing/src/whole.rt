@@ -28,10 +28,16 @@ use notation::features::Features;
 use notation::refusals::NO_ROOM;
 use parse::parse_notation;
 
-// So many steps are listed.
+// Steps that are listed.
 const SHOWN: u64 = 1000;
 
-// So many bytes hold every listing.
+// Bytes of the first line of an input, which names the features.
+const FIRST_LINE: usize = 2;
+
+// Bytes of an input that are worth reading: one more than the longest that is listed, so that a longer one is seen to be one.
+pub const MAX_READ: usize = FIRST_LINE + MAX_INPUT + 1;
+
+// Bytes that hold every listing.
 pub const MAX_LISTING: usize = 4194304;
 
 // The whole listing of an input. It always fits, so it is written at once and nothing is refused.
@@ -59,17 +65,17 @@ pub fn list(input: &[u8], out: &mut [u8]) -> Answer
 fn put_input(out: &mut [u8], input: &[u8]) -> usize
     ensures { λ r. ⌜ Wrote (now (out .entry)) (now (out .exit)) 0 r (λ rest. rule.lister (now (input .entry)) ++ rest) ⌝ }
 {
-    if input.len() < 2 {
+    if input.len() < FIRST_LINE {
         return put_bytes(out, 0, b"refused input\n");
     }
     if input[1] != b'\n' {
         return put_bytes(out, 0, b"refused input\n");
     }
     if input[0] == b'w' {
-        return put_listing(out, &input[2..], features::wca());
+        return put_listing(out, &input[FIRST_LINE..], features::wca());
     }
     if input[0] == b'm' {
-        return put_listing(out, &input[2..], features::maximal());
+        return put_listing(out, &input[FIRST_LINE..], features::maximal());
     }
     put_bytes(out, 0, b"refused input\n")
 }
@@ -117,12 +123,12 @@ fn put_steps(out: &mut [u8], at: usize, text: &[u8], tree: &[u8]) -> usize
     }
 }
 
-// Place and step for the first 1,000 of n.
+// Writes place and step for the first of n steps, as many as are listed.
 fn step_lines(out: &mut [u8], at: usize, text: &[u8], tree: &[u8], n: u64) -> usize
     requires { ⌜ at ≤ most ⌝ }
     requires { ⌜ Counted (now text) (now tree) n ⌝ }
     ensures { λ r. ⌜ Wrote (now (out .entry)) (now (out .exit)) at r
-            (λ rest. rule.stepLines (now (text .entry)) 1000 0 (flat undo false (unpack (now (tree .entry)))) ++ rest) ⌝ }
+            (λ rest. rule.stepLines (now (text .entry)) rule.SHOWN 0 (flat undo false (unpack (now (tree .entry)))) ++ rest) ⌝ }
 {
     let end = least(n, SHOWN);
     let mut next = at;

@@ -1,9 +1,10 @@
 -- The bytes of a node: its record, its lists, and its place at the front of a list. Assumes nothing.
 use Prim.Native.Nat.{ℕ, zero, suc, _+_, _-_, _*_, _/_, _≤_, _<_}
 use mathlib.Core.Path.{_≡_, refl, sym, ap, _∙_, subst}
+use mathlib.Core.Bool.{Bool, true}
 use mathlib.Core.List.{List, [], append-nil}
 use native.Mathlib.Omega.{arith}
-use lib.Dec.{lit<, lit≤}
+use lib.Dec.{ltb, lit<, lit≤}
 use lib.IntN.{ℤ}
 use lib.ListN.{length, getD, take, drop, length-take, length-drop}
 use lib.Seq.{take-all, take-take, length-take-le}
@@ -20,11 +21,11 @@ use Rattle.notation.specs.declared.common.MegaminxScrambleMove.the-variants.{Rp
 use Rattle.numbers.proofs.TwosComplement.{fromBits-toBits}
 use Rattle.record.specs.Meaning.{field, kindAt, FIRST, NUMBER}
 use Rattle.record.specs.Range.{FitsNumber, FitsHead}
+use Rattle.record.proofs.KindTests.{leaf-high}
 use Rattle.record.proofs.Numbered.{kindOf, kind-field}
 use Rattle.record.proofs.RoundTrip.{length-headRecord}
-use Rattle.laws.specs.Packed.{FitsNode, FitsTree}
+use Rattle.laws.specs.Packed.{FitsNode, FitsTree, Packed}
 use Rattle.laws.proofs.Packing.{unpack-pack}
-use Rattle.laws.specs.Packed.{Packed}
 use Rattle.laws.proofs.Walking.{packed, packed-nil, no-node, nodeEnd, Step, first-node, one-list, two-lists}
 use Rattle.nodes.specs.Nodes.{IsNode, part, FirstNode, firstList, secondList, Lists}
 
@@ -214,9 +215,10 @@ leaf-of (leaf x) s h = (x, refl)
 leaf-of (block (group g a) m) s h = absurd (omega (arith, kind-of s, group-kind g))
 leaf-of (block (binaryGroup g a b) m) s h = absurd (omega (arith, kind-of s, binary-kind g .1))
 
-pub first-leaf : {bs : List ℕ} {k : ℕ} → Packed bs → 0 < length bs → k ≡ kindAt bs → 5 < k → FirstLeaf bs
-first-leaf {bs} {k} p h q l =
+pub first-leaf : {bs : List ℕ} {r : Bool} → Packed bs → 0 < length bs → r ≡ ltb 5 (kindAt bs) → r ≡ true → FirstLeaf bs
+first-leaf {bs} p h q taken =
     let f = first-of bs p h in
+    let l : 5 < kindAt bs = leaf-high q taken in
     go (nodeEnd bs) f (leaf-of (f .node) (f .isNode) (omega (arith, front-field bs (nodeEnd bs) (f .least) 0)))
   where
     go : (e : ℕ) (f : FirstNode bs e) → (x : Leaf) × (f .node ≡ leaf x) → FirstLeaf bs

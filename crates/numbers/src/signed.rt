@@ -1,21 +1,28 @@
-// A signed number of 32 bits, held as its bits in two's complement.
+// A signed number of 32 bits as its bits in two's complement.
 ghost use mathlib.Core.Path.{_≡_};
 ghost use lib.IntN.{natAbs, negℤ};
 ghost use Rattle.notation.specs.Numbers.{toBits, fromBits};
 ghost use Rattle.numbers.specs.Sign.{isNegative};
 use std::num;
 
+// The largest number.
+pub const MAX: u32 = 2147483647;
+
+// The bits of the smallest number, −2147483648, which are its magnitude too. It has no opposite in 32 bits.
+pub const MIN: u32 = MAX + 1;
+
+// Whether the number is below 0.
 pub fn is_negative(bits: u32) -> bool
     ensures { λ r. ⌜ r ≡ isNegative (fromBits 32 bits) ⌝ }
 {
-    2147483648 <= bits
+    MIN <= bits
 }
 
 // The number without its sign.
 pub fn magnitude(bits: u32) -> u32
     ensures { λ r. ⌜ r ≡ natAbs (fromBits 32 bits) ⌝ }
 {
-    if bits < 2147483648 {
+    if bits < MIN {
         bits
     } else {
         negate(bits)

@@ -53,13 +53,6 @@ pub takes-sint : (low high high-negative : ℕ) → Takes 1 (sint low high high-
 takes-sint low high high-negative =
     takes-or (first (takes-just "-") (λ _. first (takes-uint low high-negative) (λ n. takes-done))) (first (takes-uint low high) (λ n. takes-done))
 
-pub takes-after-hyphen : Takes 1 layerAfterHyphen
-takes-after-hyphen = first (takes-just "-") (λ _. takes-uint 1 32767)
-
-pub takes-after-dots : Takes 1 layerAfterDots
-unfolding word
-takes-after-dots = first (first (takes-just ".") (λ _. first (takes-just ".") (λ _. takes-done))) (λ _. takes-sint 1 32767 32767)
-
 pub takes-constraint : Takes 1 constraint
 unfolding word
 takes-constraint =

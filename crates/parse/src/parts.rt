@@ -1,16 +1,12 @@
-// What the readers hand back: the parts of the notation with the offset after them; and the limits of numbers.
+// What the readers hand back: the parts of the notation with the offset after them.
 use notation::common::GroupKind;
+use notation::limits;
 use record::encode::Fields;
 use record::spanned::LayerPrefixContents;
 use record::spanned::SpanOption;
 
-// The deepest layer.
-pub const MAX_LAYER: u32 = 32767;
-
-// The largest number, and the magnitude of the smallest.
-pub const MAX: u32 = 2147483647;
-
-pub const MAX_NEGATIVE: u32 = 2147483648;
+// The number of the deepest layer, as wide as numbers are read.
+pub const MAX_LAYER: u32 = limits::MAX_LAYER as u32;
 
 // Where a part ends whose meaning is not asked for.
 pub enum Taken {

@@ -1,13 +1,13 @@
 // The moves of single puzzles, which a feature admits: the Megaminx scramble and Square-1.
 use crate::look::has;
 use crate::parts::LeafAnswer;
-use crate::parts::MAX;
-use crate::parts::MAX_NEGATIVE;
 use charsets::whitespace_end;
 use notation::common::MegaminxScrambleMove;
 use notation::features::Features;
 use numbers::decimal::Signed;
 use numbers::decimal::sint;
+use numbers::signed::MAX;
+use numbers::signed::MIN;
 use record::encode::megaminx_fields;
 use record::encode::pair_fields;
 use record::encode::slash_fields;
@@ -79,7 +79,7 @@ fn padded_number(text: &[u8], at: usize) -> Signed
     ensures { λ r. ⌜ sintReading (now (text .entry)) r ≡ rule.padded rule.i32 at (drop at (now (text .entry))) ⌝ }
 {
     let from = whitespace_end(text, at);
-    let Signed::Took(bits, end) = sint(text, from, 0, MAX, MAX_NEGATIVE) else {
+    let Signed::Took(bits, end) = sint(text, from, 0, MAX, MIN) else {
         return Signed::Nothing;
     };
     Signed::Took(bits, whitespace_end(text, end))

@@ -10,18 +10,19 @@ ghost use Rattle.ranges.specs.Lent.{rangeAt, rangesFrom, rangeCount, Res
 use layer::Layer;
 use layer::LayerRange;
 use notation::answer::Answer;
+use notation::limits::RANGE;
 use notation::refusals::NO_ROOM;
 use numbers::big_endian::read_u16;
 
-// Simplified ranges neither overlap nor touch, so 32,767 layers hold at most 16,384 of them, of four bytes each.
-const BYTES: usize = 65536;
+// Simplified ranges neither overlap nor touch, so an axis has at most 16,384 of them.
+const BYTES: usize = RANGE * 16384;
 
 // The k-th of the ranges that the bytes hold.
 fn range_at(bytes: &[u8], k: usize) -> LayerRange
     requires { ⌜ 4 * k + 4 ≤ length (now bytes) ⌝ }
     ensures { λ r. ⌜ r ≡ rangeAt (now (bytes .entry)) k ⌝ }
 {
-    let at = 4 * k;
+    let at = RANGE * k;
     LayerRange {
         min: Layer(read_u16(bytes, at)),
         max: Layer(read_u16(bytes, at + 2)),

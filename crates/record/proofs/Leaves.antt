@@ -100,9 +100,6 @@ module _ (bs : List ℕ) (lists : bothZero FIRST bs ≡ true) where
   abbrev r : Fields
   r = fieldsAt bs
 
-  small-zero : getD r 0 0 % 16 ≡ 0 → (0 ≡ tilde r) × (0 ≡ form r) × (0 ≡ present r)
-  small-zero e = (omega arith, omega arith, omega arith)
-
   move-clean : Uses r true true true false → eqb (field OTHER bs) (lowAndHigh (layersAt bs)) ≡ true → setWritten bs ≡ true → partsWritten bs ≡ true → Clean r
   move-clean u o s p =
       record {

@@ -4,6 +4,7 @@ pub mod Packed
 pub mod RoundTrip
 pub mod Same
 pub mod Numbered
+pub mod KindTests
 pub mod Written
 pub mod Zeros
 pub mod Leaves
@@ -11,3 +12,4 @@ pub mod Leaves
 pub mod Copying
 pub mod Storing
 pub mod Undoing
+pub mod Overflows

@@ -3,13 +3,14 @@ ghost use mathlib.Core.Path.{_≡_};
 ghost use Prim.Native.Nat.{_+_, _/_, _%_, _≤_};
 ghost use lib.ListN.{length, take, drop};
 ghost use mathlib.Core.Bool.{_&&_};
-ghost use lib.Dec.{eqb};
+ghost use lib.Dec.{eqb, ltb};
 ghost use lib.Seq.{sets};
 ghost use Rattle.notation.specs.Numbers.{bigEndian, fromBigEndian};
 ghost use Rattle.notation.specs.Tree as tree;
 ghost use Rattle.notation.specs.Packed.{RECORD};
 ghost use Rattle.record.specs.Range.{FitsSpan};
 ghost use Rattle.record.specs.Meaning.{field, bothZero, placeWidth, spanAt, span, withField, withLists, withSpan, kindAt, tildeAt, formAt, presentAt, SMALL, FIRST, SECOND, NUMBER, OTHER, FAMILY, CONSTRAINTS, LAYER-SET, COUNT};
+use crate::kinds;
 use crate::layout;
 use crate::spanned::Span;
 use numbers::big_endian::read_u8;
@@ -38,6 +39,23 @@ pub fn kind(t: &[u8]) -> u8
     small(t) / 16
 }
 
+// Whether it is a leaf, which is no group: kinds above those of groups.
+pub fn is_leaf(t: &[u8]) -> bool
+    requires { ⌜ RECORD ≤ length (now t) ⌝ }
+    ensures { λ r. ⌜ r ≡ ltb 5 (kindAt (now (t .entry))) ⌝ }
+{
+    kinds::CONJUGATE < kind(t)
+}
+
+// Whether it is a group, plain or binary.
+pub fn is_group(t: &[u8]) -> bool
+    requires { ⌜ RECORD ≤ length (now t) ⌝ }
+    ensures { λ r. ⌜ r ≡ ltb (kindAt (now (t .entry))) 6 ⌝ }
+{
+    kind(t) < kinds::ROTATION
+}
+
+// Whether a move has a tilde.
 pub fn tilde(t: &[u8]) -> bool
     requires { ⌜ RECORD ≤ length (now t) ⌝ }
     ensures { λ r. ⌜ r ≡ tildeAt (now (t .entry)) ⌝ }
@@ -45,7 +63,7 @@ pub fn tilde(t: &[u8]) -> bool
     small(t) / 8 % 2 == 1
 }
 
-// 0 none, 1 single, 2 range, 3 set.
+// The form of its layers: 0 none, 1 single, 2 range, 3 set.
 pub fn layer_form(t: &[u8]) -> u8
     requires { ⌜ RECORD ≤ length (now t) ⌝ }
     ensures { λ r. ⌜ r ≡ formAt (now (t .entry)) ⌝ }
@@ -53,6 +71,7 @@ pub fn layer_form(t: &[u8]) -> u8
     small(t) / 2 % 4
 }
 
+// Whether it has constraints.
 pub fn constraints_present(t: &[u8]) -> bool
     requires { ⌜ RECORD ≤ length (now t) ⌝ }
     ensures { λ r. ⌜ r ≡ presentAt (now (t .entry)) ⌝ }

@@ -1,14 +1,15 @@
-// A record undone in place.
+// A record undone in place, and which ones cannot be undone.
 ghost use mathlib.Core.Path.{_≡_};
 ghost use mathlib.Core.List.{_++_};
 ghost use Prim.Native.Nat.{_≤_};
-ghost use lib.ListN.{drop};
+ghost use lib.ListN.{length, drop};
 ghost use Rattle.notation.specs.Invert.{exchanged as opposite};
 ghost use Rattle.notation.specs.Packed.{RECORD, headRecord, headAt, megaminxNumber};
 ghost use Rattle.notation.specs.declared.common.MegaminxScrambleMove.{MegaminxScrambleMove};
-ghost use Rattle.record.specs.Undone.{StartsRecord, undoneHead};
+ghost use Rattle.record.specs.Undone.{StartsRecord, undoneHead, overflowsAt};
 use crate::fields;
 use crate::kinds;
+use numbers::signed::MIN;
 use numbers::signed::negate;
 
 // Undoes the first record of r: a step, or a group as a whole, whose multiplier is negated.
@@ -43,4 +44,12 @@ fn exchanged(kind: u8) -> u8
         kinds::D_PLUS => kinds::D_MINUS,
         _ => kinds::D_PLUS,
     }
+}
+
+// Whether the first record is a pair that has no opposite: one with −2147483648.
+pub fn overflows(r: &[u8]) -> bool
+    requires { ⌜ RECORD ≤ length (now r) ⌝ }
+    ensures { λ o. ⌜ o ≡ overflowsAt (now (r .entry)) ⌝ }
+{
+    fields::kind(r) == kinds::PAIR && (fields::number(r) == MIN || fields::other(r) == MIN)
 }

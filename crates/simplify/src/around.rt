@@ -9,6 +9,7 @@ ghost use Rattle.simplify.specs.Reach as table;
 ghost use Rattle.simplify.specs.Elements as elements;
 use crate::reach::write_range;
 use notation::answer::Answer;
+use notation::limits::RANGE;
 use notation::refusals::NO_ROOM;
 
 // How many ranges the layers from `low` to `high` are: one, or none where there are no such layers.
@@ -28,7 +29,7 @@ fn write_some(out: &mut [u8], at: usize, low: u16, high: u16) -> usize
         return at;
     }
     write_range(out, at, low, high);
-    at + 4
+    at + RANGE
 }
 
 // The layers of the axis without those from `low` to `high`.
@@ -41,7 +42,7 @@ pub fn simplify_around(low: u16, high: u16, max_layer: u16, out: &mut [u8]) -> A
 {
     let before = if low <= max_layer { low - 1 } else { max_layer };
     let ranges = count_some(1, before) + count_some(high + 1, max_layer);
-    if out.len() / 4 < ranges {
+    if out.len() / RANGE < ranges {
         return Answer::Refused(NO_ROOM);
     }
     let at = write_some(out, 0, 1, before);

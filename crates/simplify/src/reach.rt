@@ -10,6 +10,7 @@ ghost use Rattle.notation.specs.Entries.{rangeBytes};
 ghost use Rattle.layer.specs.Meaning as meaning;
 ghost use Rattle.simplify.specs.Reach as table;
 use layer::LayerRange;
+use notation::limits::RANGE;
 use numbers::big_endian::write_u16;
 
 // Gathers one range.
@@ -115,7 +116,7 @@ pub fn write_runs(reach: &[u16], out: &mut [u8])
     while low < reach.len() {
         let high = run_end(reach, low);
         write_range(out, at, low as u16, high);
-        at += 4;
+        at += RANGE;
         low = next_start(reach, high as usize + 2);
     }
 }

@@ -20,8 +20,8 @@ ghost use Rattle.simplify.specs.Reach as table;
 ghost use Rattle.simplify.specs.Elements as elements;
 use crate::around::simplify_around;
 use crate::reach::count_runs;
-use crate::reach::turn_over;
 use crate::reach::mark;
+use crate::reach::turn_over;
 use crate::reach::write_range;
 use crate::reach::write_runs;
 use charsets::whitespace_end;
@@ -32,6 +32,7 @@ use layer::LayerRange;
 use layer::LayerRangeOption;
 use layer::SignedLayer;
 use notation::answer::Answer;
+use notation::limits::RANGE;
 use notation::refusals::NO_ROOM;
 use numbers::signed::is_negative;
 use numbers::signed::magnitude;
@@ -150,7 +151,7 @@ fn simplify_set(part: &[u8], axis: AxisLayersInfo, inverted: bool, reach: &mut [
 {
     gather_set(part, axis, inverted, reach);
     let runs = count_runs(reach);
-    if out.len() / 4 < runs {
+    if out.len() / RANGE < runs {
         return Answer::Refused(NO_ROOM);
     }
     write_runs(reach, out);
@@ -196,7 +197,7 @@ fn simplify_range(low: u16, high: u16, max_layer: u16, out: &mut [u8]) -> Answer
     let LayerRangeOption::Some(range) = range.clamp_to_layer_count(max_layer) else {
         return Answer::Value(0);
     };
-    if out.len() < 4 {
+    if out.len() < RANGE {
         return Answer::Refused(NO_ROOM);
     }
     write_range(out, 0, range.min.0, range.max.0);

@@ -47,7 +47,7 @@ fn fill_count(t: &mut [u8], sums: &mut [u64; TALLIES])
     ensures { λ _. ⌜ now (sums .exit) ≡ tallies.added (now (t .entry)) (now (sums .entry)) ⌝ }
 {
     let tally = (fields::count(t) % 256) as usize;
-    if fields::kind(t) < kinds::ROTATION {
+    if fields::is_group(t) {
         let count = group_count(t, tally, sums);
         sums[tally] = sum(sums[tally], count);
         fields::set_count(t, count);

@@ -3,7 +3,7 @@
 ghost use Prim.Native.Nat.{_+_, _≤_};
 ghost use mathlib.Core.Path.{_≡_};
 ghost use lib.ListN.{length};
-ghost use Rattle.vectors.specs.Bounds.{AtMost};
+ghost use Rattle.vectors.specs.Bounds.{AtMost, LINE, MOST, MOST-STEP};
 use crate::hex;
 use crate::hex::Decoded;
 use crate::line;
@@ -14,12 +14,13 @@ use hypuz_notation::agree;
 use hypuz_notation::agreement::Agreement;
 use notation::answer::Answer;
 use notation::features;
+use record::RECORD;
 
-// How many bytes stand before the text.
+// Bytes that stand before the text.
 const HEAD: usize = 26;
-// The longest buffers that a case may lend, for trees and texts and for a step: 120 and two records of up to 38 bytes.
-const MOST: usize = 4560;
-const MOST_STEP: usize = 76;
+// Bytes of the longest buffers that a case may lend: 120 records for each tree and text, and two for each step.
+const MOST: usize = RECORD * 120;
+const MOST_STEP: usize = RECORD * 2;
 
 // What is asked beside the text.
 struct Call {
@@ -32,8 +33,8 @@ struct Call {
 
 // Puts the answer of the case `given` into `line`, and answers its length.
 pub fn case(given: &[u8], text: &mut [u8], line: &mut [u8]) -> Decoded
-    requires { ⌜ length (now line) ≡ 1100 ⌝ }
-    ensures { λ r. ⌜ AtMost 1100 r ⌝ }
+    requires { ⌜ length (now line) ≡ LINE ⌝ }
+    ensures { λ r. ⌜ AtMost LINE r ⌝ }
 {
     if given.len() < HEAD {
         return Decoded::Damaged;
@@ -52,8 +53,8 @@ pub fn case(given: &[u8], text: &mut [u8], line: &mut [u8]) -> Decoded
 
 // The same with the features and the text at hand. `given` is what stands between them.
 fn asked(bits: u32, given: &[u8], text: &[u8], line: &mut [u8]) -> Decoded
-    requires { ⌜ (length (now given) ≡ 24) × (length (now line) ≡ 1100) ⌝ }
-    ensures { λ r. ⌜ AtMost 1100 r ⌝ }
+    requires { ⌜ (length (now given) ≡ 24) × (length (now line) ≡ LINE) ⌝ }
+    ensures { λ r. ⌜ AtMost LINE r ⌝ }
 {
     let Decoded::Value(room) = hex::number(&given[0..6]) else {
         return Decoded::Damaged;
@@ -81,17 +82,17 @@ fn asked(bits: u32, given: &[u8], text: &[u8], line: &mut [u8]) -> Decoded
 
 // Lends parts of buffers of its own.
 fn called(call: Call, text: &[u8], line: &mut [u8]) -> usize
-    requires { ⌜ (call .room ≤ 4560) × (call .step ≤ 76) × (length (now line) ≡ 1100) ⌝ }
-    ensures { λ r. ⌜ r ≤ 1100 ⌝ }
+    requires { ⌜ (call .room ≤ MOST) × (call .step ≤ MOST-STEP) × (length (now line) ≡ LINE) ⌝ }
+    ensures { λ r. ⌜ r ≤ LINE ⌝ }
 {
     let room = call.room;
     let lent = call.step;
-    let mut tree = [report::UNTOUCHED; 4560];
-    let mut inverse = [report::UNTOUCHED; 4560];
-    let mut printed = [report::UNTOUCHED; 4560];
-    let mut back = [report::UNTOUCHED; 4560];
-    let mut step = [report::UNTOUCHED; 76];
-    let mut undone = [report::UNTOUCHED; 76];
+    let mut tree = [report::UNTOUCHED; MOST];
+    let mut inverse = [report::UNTOUCHED; MOST];
+    let mut printed = [report::UNTOUCHED; MOST];
+    let mut back = [report::UNTOUCHED; MOST];
+    let mut step = [report::UNTOUCHED; MOST_STEP];
+    let mut undone = [report::UNTOUCHED; MOST_STEP];
     agreed(
         call,
         text,
@@ -117,8 +118,8 @@ fn agreed(
     undone: &mut [u8],
     line: &mut [u8],
 ) -> usize
-    requires { ⌜ (length (now step) ≤ 76) × (length (now undone) ≤ 76) × (length (now line) ≡ 1100) ⌝ }
-    ensures { λ r. ⌜ r ≤ 1100 ⌝ }
+    requires { ⌜ (length (now step) ≤ MOST-STEP) × (length (now undone) ≤ MOST-STEP) × (length (now line) ≡ LINE) ⌝ }
+    ensures { λ r. ⌜ r ≤ LINE ⌝ }
 {
     let features = features::from_bits(call.bits);
     let found = agree(text, features, call.place, tree, inverse, printed, back, step, undone);
@@ -129,7 +130,7 @@ fn agreed(
 
 // Puts the eight answers, in their order, at the start of the line, and answers where they end.
 fn put_answers(line: &mut [u8], found: Agreement) -> usize
-    requires { ⌜ length (now line) ≡ 1100 ⌝ }
+    requires { ⌜ length (now line) ≡ LINE ⌝ }
     ensures { λ r. ⌜ r ≤ 176 ⌝ }
 {
     let read = found.read;
@@ -175,7 +176,7 @@ fn put_number(line: &mut [u8], at: usize, n: u64) -> usize
 
 // Puts the whole of both buffers for a step, so that a byte that was written without need shows.
 fn put_steps(line: &mut [u8], at: usize, step: &[u8], undone: &[u8]) -> usize
-    requires { ⌜ (at ≤ 176) × (length (now step) ≤ 76) × (length (now undone) ≤ 76) × (length (now line) ≡ 1100) ⌝ }
+    requires { ⌜ (at ≤ 176) × (length (now step) ≤ MOST-STEP) × (length (now undone) ≤ MOST-STEP) × (length (now line) ≡ LINE) ⌝ }
     ensures { λ r. ⌜ r ≤ 481 ⌝ }
 {
     let end = hex::put_bytes(line, at, step);
@@ -185,8 +186,8 @@ fn put_steps(line: &mut [u8], at: usize, step: &[u8], undone: &[u8]) -> usize
 
 // Puts a checksum of the whole of each other buffer, and ends the line.
 fn put_sums(line: &mut [u8], at: usize, tree: &[u8], inverse: &[u8], printed: &[u8], back: &[u8]) -> usize
-    requires { ⌜ (at ≤ 481) × (length (now line) ≡ 1100) ⌝ }
-    ensures { λ r. ⌜ r ≤ 1100 ⌝ }
+    requires { ⌜ (at ≤ 481) × (length (now line) ≡ LINE) ⌝ }
+    ensures { λ r. ⌜ r ≤ LINE ⌝ }
 {
     let second = put_sum(line, at, tree);
     let third = put_sum(line, second, inverse);

@@ -3,7 +3,7 @@
 ghost use Prim.Native.Nat.{_≤_};
 ghost use mathlib.Core.Path.{_≡_};
 ghost use lib.ListN.{length};
-ghost use Rattle.vectors.specs.Bounds.{AtMost};
+ghost use Rattle.vectors.specs.Bounds.{AtMost, LINE};
 use crate::hex;
 use crate::hex::Decoded;
 use crate::report;
@@ -18,13 +18,17 @@ use hypuz_notation::inv_deep;
 use hypuz_notation::seek_step;
 use hypuz_notation::simplify;
 use notation::answer::Answer;
+use notation::limits::RANGE;
+use record::RECORD;
 
-// How many bytes stand before the text.
+// Bytes that stand before the text.
 const HEAD: usize = 32;
+// Bytes of a tree of the Rust's sample: no text of it has over 1,000 records.
+const SAMPLED: usize = RECORD * 1000;
 const MAX_U32: usize = 0xffffffff;
-// What an answer counts: bytes of the lent buffer, layer ranges of 4 bytes in it, or steps, which take no bytes.
+// What an answer counts: bytes of the lent buffer, layer ranges in it, or steps, which take no bytes.
 const BYTES: usize = 1;
-const RANGES: usize = 4;
+const RANGES: usize = RANGE;
 const STEPS: usize = 0;
 
 // What is asked beside the text and the tree. Entries pass over what they do not take.
@@ -38,8 +42,8 @@ struct Call {
 
 // Puts the answer of the case `given` into `line`, and answers its length.
 pub fn case(given: &[u8], text: &mut [u8], tree: &mut [u8], out: &mut [u8], line: &mut [u8]) -> Decoded
-    requires { ⌜ length (now line) ≡ 1100 ⌝ }
-    ensures { λ r. ⌜ AtMost 1100 r ⌝ }
+    requires { ⌜ length (now line) ≡ LINE ⌝ }
+    ensures { λ r. ⌜ AtMost LINE r ⌝ }
 {
     if given.len() < HEAD {
         return Decoded::Damaged;
@@ -63,8 +67,8 @@ pub fn case(given: &[u8], text: &mut [u8], tree: &mut [u8], out: &mut [u8], line
 
 // The same with the text and the tree at hand. `out` is what is lent.
 fn asked(given: &[u8], text: &[u8], tree: &[u8], out: &mut [u8], line: &mut [u8]) -> Decoded
-    requires { ⌜ (32 ≤ length (now given)) × (length (now line) ≡ 1100) ⌝ }
-    ensures { λ r. ⌜ AtMost 1100 r ⌝ }
+    requires { ⌜ (32 ≤ length (now given)) × (length (now line) ≡ LINE) ⌝ }
+    ensures { λ r. ⌜ AtMost LINE r ⌝ }
 {
     let Decoded::Value(number) = hex::number(&given[7..23]) else {
         return Decoded::Damaged;
@@ -86,8 +90,8 @@ fn asked(given: &[u8], text: &[u8], tree: &[u8], out: &mut [u8], line: &mut [u8]
 }
 
 fn called(call: Call, text: &[u8], tree: &[u8], out: &mut [u8], line: &mut [u8]) -> usize
-    requires { ⌜ length (now line) ≡ 1100 ⌝ }
-    ensures { λ r. ⌜ r ≤ 1100 ⌝ }
+    requires { ⌜ length (now line) ≡ LINE ⌝ }
+    ensures { λ r. ⌜ r ≤ LINE ⌝ }
 {
     let entry = call.entry;
     if entry == b'n' {
@@ -116,12 +120,12 @@ fn answer(call: Call, text: &[u8], tree: &[u8], out: &mut [u8]) -> Answer {
 
 // The deep inverse as text, for the Rust's answers, which are texts.
 fn deep_shown(text: &[u8], tree: &[u8], out: &mut [u8]) -> Answer {
-    let mut inverse = [0u8; 38000];
+    let mut inverse = [0u8; SAMPLED];
     let answer = inv_deep(text, tree, &mut inverse);
     let Answer::Value(size) = answer else {
         return answer;
     };
-    let n = report::least(size as usize, 38000);
+    let n = report::least(size as usize, SAMPLED);
     display(text, &inverse[0..n], out)
 }
 
@@ -135,8 +139,8 @@ fn unit(entry: u8) -> usize {
 
 // A family is a part of the text. Beside a refusal it is empty: bytes of it show as touched.
 fn named(record: u64, text: &[u8], tree: &[u8], line: &mut [u8]) -> usize
-    requires { ⌜ length (now line) ≡ 1100 ⌝ }
-    ensures { λ r. ⌜ r ≤ 1100 ⌝ }
+    requires { ⌜ length (now line) ≡ LINE ⌝ }
+    ensures { λ r. ⌜ r ≤ LINE ⌝ }
 {
     let family = family(text, tree, record);
     let refusal = family_refusal(text, tree, record);

@@ -1,7 +1,10 @@
-// The line of an answer, put together in a buffer of 1,100 bytes: the longest is `read`, a number, 1,000 digits and ` touched`.
+// The line of an answer, put together in a buffer.
 ghost use Prim.Native.Nat.{_+_, _≤_};
 ghost use mathlib.Core.Path.{_≡_};
 ghost use lib.ListN.{length};
+
+// Bytes of a line: the longest is `read`, a number, 1,000 digits and ` touched`.
+pub const LINE: usize = 1100;
 
 // Puts `piece` into the line from `at` on, and answers where it ends.
 pub fn put(line: &mut [u8], at: usize, piece: &[u8]) -> usize

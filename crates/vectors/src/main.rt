@@ -1,5 +1,5 @@
-// Replays stored cases: each line of standard input is one case, and its answer is one line of standard output, which the gate
-// holds to the file stdout. tests/reference/vectors.py makes both files. A line's first byte tells which entry it is for.
+// Runs stored cases: each line of standard input is one case, and its answer is one line of standard output, which the gate
+// compares with the file stdout. tests/reference/vectors.py makes both files. A line's first byte tells which entry it is for.
 mod agreement;
 mod calls;
 mod hex;
@@ -12,14 +12,15 @@ mod text;
 ghost use mathlib.Core.Path.{_≡_};
 ghost use Prim.Native.Nat.{_≤_};
 ghost use lib.ListN.{length};
-ghost use Rattle.vectors.specs.Bounds.{AtMost};
+ghost use Rattle.vectors.specs.Bounds.{AtMost, LINE};
 use hex::Decoded;
 use libc::STDIN_FILENO;
 use libc::STDOUT_FILENO;
+use record::RECORD;
 
 // One line of the input. Its answer goes out in one call.
 fn case(given: &[u8], text: &mut [u8], tree: &mut [u8], out: &mut [u8]) {
-    let mut line = [0u8; 1100];
+    let mut line = [0u8; line::LINE];
     match answer(given, text, tree, out, &mut line) {
         Decoded::Value(n) => {
             io::write_all(STDOUT_FILENO, &line[0..n]);
@@ -32,8 +33,8 @@ fn case(given: &[u8], text: &mut [u8], tree: &mut [u8], out: &mut [u8]) {
 
 // Puts the answer of the case `given` into `line`, and answers its length.
 fn answer(given: &[u8], text: &mut [u8], tree: &mut [u8], out: &mut [u8], line: &mut [u8]) -> Decoded
-    requires { ⌜ length (now line) ≡ 1100 ⌝ }
-    ensures { λ r. ⌜ AtMost 1100 r ⌝ }
+    requires { ⌜ length (now line) ≡ LINE ⌝ }
+    ensures { λ r. ⌜ AtMost LINE r ⌝ }
 {
     if given.len() == 0 {
         return Decoded::Damaged;
@@ -45,6 +46,7 @@ fn answer(given: &[u8], text: &mut [u8], tree: &mut [u8], out: &mut [u8], line: 
     }
 }
 
+// Runs the cases of these lines.
 fn run_cases(input: &[u8], text: &mut [u8], tree: &mut [u8], out: &mut [u8]) {
     let mut at = 0;
     while at < input.len() {
@@ -65,7 +67,7 @@ fn run(input: &mut [u8], text: &mut [u8], tree: &mut [u8], out: &mut [u8]) {
     run_cases(&input[0..kept], text, tree, out);
 }
 
-// Reads on behind what is kept, replays the lines that are whole, moves the start of the next one to the front, and answers its length.
+// Reads on behind what is kept, runs the cases of the lines that are whole, moves the start of the next one to the front, and answers its length.
 fn piece(input: &mut [u8], kept: usize, text: &mut [u8], tree: &mut [u8], out: &mut [u8]) -> usize
     requires { ⌜ kept ≤ length (now input) ⌝ }
     ensures { λ r. ⌜ r ≤ length (now (input .entry)) ⌝ }
@@ -84,7 +86,7 @@ const PIECE: usize = 262144;
 // Texts of over 65,536 bytes and trees of over 65,536 records: past what 16 bits hold. The stack has no room for the longest texts;
 // those are run from C (tests/host).
 const TEXT: usize = 144000;
-const TREE: usize = 2736000;
+const TREE: usize = RECORD * 72000;
 
 fn main() {
     let mut input = [0u8; PIECE];

@@ -2,7 +2,7 @@
 ghost use Prim.Native.Nat.{_≤_};
 ghost use mathlib.Core.Path.{_≡_};
 ghost use lib.ListN.{length};
-ghost use Rattle.vectors.specs.Bounds.{AtMost};
+ghost use Rattle.vectors.specs.Bounds.{AtMost, LINE};
 use crate::hex;
 use crate::hex::Decoded;
 use crate::report;
@@ -14,8 +14,8 @@ pub const MAX_BITS: usize = 255;
 
 // Puts the answer of the case `given` into `line`, and answers its length.
 pub fn case(given: &[u8], text: &mut [u8], tree: &mut [u8], line: &mut [u8]) -> Decoded
-    requires { ⌜ length (now line) ≡ 1100 ⌝ }
-    ensures { λ r. ⌜ AtMost 1100 r ⌝ }
+    requires { ⌜ length (now line) ≡ LINE ⌝ }
+    ensures { λ r. ⌜ AtMost LINE r ⌝ }
 {
     if given.len() < 8 {
         return Decoded::Damaged;
@@ -38,8 +38,8 @@ pub fn case(given: &[u8], text: &mut [u8], tree: &mut [u8], line: &mut [u8]) -> 
 
 // The call itself. `tree` is what is lent.
 fn parsed(bits: u32, text: &[u8], tree: &mut [u8], line: &mut [u8]) -> usize
-    requires { ⌜ length (now line) ≡ 1100 ⌝ }
-    ensures { λ r. ⌜ r ≤ 1100 ⌝ }
+    requires { ⌜ length (now line) ≡ LINE ⌝ }
+    ensures { λ r. ⌜ r ≤ LINE ⌝ }
 {
     report::fill(tree);
     let answer = parse::parse_notation(text, features::from_bits(bits), tree);

@@ -1,4 +1,5 @@
 // What a line says of an answer: its number, the bytes that were written, and whether a byte was written that should not be.
+ghost use Rattle.vectors.specs.Bounds.{LINE};
 ghost use Prim.Native.Nat.{_≤_};
 ghost use mathlib.Core.Path.{_≡_};
 ghost use lib.ListN.{length};
@@ -13,8 +14,8 @@ const SHOWN: usize = 500;
 
 // An answer whose value counts things of `unit` bytes that were written to the front of `buffer`.
 pub fn answered(answer: Answer, unit: usize, buffer: &[u8], line: &mut [u8]) -> usize
-    requires { ⌜ length (now line) ≡ 1100 ⌝ }
-    ensures { λ r. ⌜ r ≤ 1100 ⌝ }
+    requires { ⌜ length (now line) ≡ LINE ⌝ }
+    ensures { λ r. ⌜ r ≤ LINE ⌝ }
 {
     match answer {
         Answer::Value(value) => read(value, bytes_used(value, unit, buffer.len()), buffer, line),
@@ -33,8 +34,8 @@ fn bytes_used(value: u64, unit: usize, room: usize) -> usize
 }
 
 pub fn refused(number: u8, buffer: &[u8], line: &mut [u8]) -> usize
-    requires { ⌜ length (now line) ≡ 1100 ⌝ }
-    ensures { λ r. ⌜ r ≤ 1100 ⌝ }
+    requires { ⌜ length (now line) ≡ LINE ⌝ }
+    ensures { λ r. ⌜ r ≤ LINE ⌝ }
 {
     let at = line::put(line, 0, b"refused ");
     let end = line::put_decimal(line, at, number as u64);
@@ -43,8 +44,8 @@ pub fn refused(number: u8, buffer: &[u8], line: &mut [u8]) -> usize
 
 // A value, and the first `used` bytes of the buffer.
 pub fn read(value: u64, used: usize, buffer: &[u8], line: &mut [u8]) -> usize
-    requires { ⌜ (length (now line) ≡ 1100) × (used ≤ length (now buffer)) ⌝ }
-    ensures { λ r. ⌜ r ≤ 1100 ⌝ }
+    requires { ⌜ (length (now line) ≡ LINE) × (used ≤ length (now buffer)) ⌝ }
+    ensures { λ r. ⌜ r ≤ LINE ⌝ }
 {
     let start = line::put(line, 0, b"read ");
     let number = line::put_decimal(line, start, value);
@@ -55,7 +56,7 @@ pub fn read(value: u64, used: usize, buffer: &[u8], line: &mut [u8]) -> usize
 
 // Puts bytes, or their checksum where they are many.
 fn shown(bytes: &[u8], line: &mut [u8], at: usize) -> usize
-    requires { ⌜ (length (now line) ≡ 1100) × (at ≤ 26) ⌝ }
+    requires { ⌜ (length (now line) ≡ LINE) × (at ≤ 26) ⌝ }
     ensures { λ r. ⌜ r ≤ 1026 ⌝ }
 {
     if bytes.len() <= SHOWN {
@@ -67,8 +68,8 @@ fn shown(bytes: &[u8], line: &mut [u8], at: usize) -> usize
 
 // Ends the line, and says before if a byte of `rest`, the part of the buffer that was not used, was written.
 fn closed(rest: &[u8], line: &mut [u8], at: usize) -> usize
-    requires { ⌜ (length (now line) ≡ 1100) × (at ≤ 1026) ⌝ }
-    ensures { λ r. ⌜ r ≤ 1100 ⌝ }
+    requires { ⌜ (length (now line) ≡ LINE) × (at ≤ 1026) ⌝ }
+    ensures { λ r. ⌜ r ≤ LINE ⌝ }
 {
     if is_untouched(rest) {
         line::put(line, at, b"\n")

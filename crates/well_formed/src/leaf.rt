@@ -1,5 +1,7 @@
 // Nodes that are no group: the parts of the text that they name, and their numbers.
 use charsets::family_end;
+use notation::limits::MAX_LAYER;
+use numbers::signed::MIN;
 use parse::constraint_set;
 use parse::layer_set;
 use parse::parts::Taken;
@@ -21,12 +23,7 @@ ghost use Rattle.notation.specs.WellFormed as rule;
 ghost use Rattle.parse.specs.Meaning.{endReading, forget};
 ghost use Rattle.record.specs.Meaning.{span, spanOption, layers, rotationLeaf, moveLeaf};
 
-// The deepest layer.
-const MAX_LAYER: u16 = 32767;
-
-// The bits of −2147483648, which has no opposite.
-const MIN: u32 = 0x80000000;
-
+// Whether a multiplier is in bounds: the smallest number is none, since it has no opposite.
 pub fn multiplier_ok(bits: u32) -> bool
     ensures { λ r. ⌜ r ≡ rule.multiplierOk (fromBits 32 bits) ⌝ }
 {

@@ -54,7 +54,7 @@ fn list_count(text: &[u8], list: &[u8], depth: usize) -> StepCount
         if t.len() < RECORD {
             return StepCount::Nothing;
         }
-        if fields::kind(t) < kinds::ROTATION {
+        if fields::is_group(t) {
             let end = RECORD + RECORD * (fields::first(t) as usize + fields::second(t) as usize);
             if t.len() < end {
                 return StepCount::Nothing;

@@ -25,6 +25,7 @@ use Rattle.invert.proofs.inv_leaf.Reads as inv-leaf-reads
 use Rattle.invert.proofs.inv_node.Reads as inv-node-reads
 use Rattle.invert.proofs.parts.inner_start.Reads as inner-start-reads
 use Rattle.nodes.proofs.node_end.Reads as node-end-reads
+use Rattle.record.proofs.fields.is_leaf.Reads as is-leaf-reads
 use Rattle.record.proofs.fields.kind.Reads as kind-reads
 use Rattle.invert.proofs.+invert+invert_group.{statement}
 use Rattle.invert.proofs.+invert+invert_group.Tie.{close}
@@ -56,7 +57,7 @@ invert-group-below t =
 
 -- what the calls in each claim, those of the other function below the measure t
 abbrev list-claims : ℕ → invert-lts.Claims
-list-claims t = (kind-reads.Asked, kind-reads.Learnt, inv-leaf-reads.Asked, inv-leaf-reads.Learnt, node-end-reads.Asked, node-end-reads.Learnt, invert-group-below t, invert-group.Post)
+list-claims t = (is-leaf-reads.Asked, is-leaf-reads.Learnt, inv-leaf-reads.Asked, inv-leaf-reads.Learnt, node-end-reads.Asked, node-end-reads.Learnt, invert-group-below t, invert-group.Post)
 
 abbrev node-claims : ℕ → invert-group-lts.Claims
 node-claims t = (kind-reads.Asked, kind-reads.Learnt, exchange-lists-reads.Asked, exchange-lists-reads.Learnt, inner-start-reads.Asked, inner-start-reads.Learnt, copy-reads.Asked, copy-reads.Learnt, invert-below t, invert.Post, inv-node-reads.Asked, inv-node-reads.Learnt)
@@ -70,12 +71,12 @@ invert-μ-loop tree out₀ deep t₀ at₀ out t at = length t
 invert-loop-holds : (t : ℕ) → invert-lts.Need-loop-holds (list-claims t) (invert-at t) invert.Post invert-Inv-loop invert-μ-loop
 invert-loop-holds t c = wrote-none (inverse-reverses (c .before .before .args .deep)) (c .before .before .args .tree .now) (c .before .before .args .out .now) (c .before .before .pre .1 .0) (c .before .before .pre .1 .1)
 
-invert-kind-requires : (t : ℕ) → invert-lts.Need-kind-requires (list-claims t) (invert-at t) invert.Post invert-Inv-loop invert-μ-loop
-invert-kind-requires t c κs = record-room _ (c .before .loop .inv .packed) (c .loop-test .taken)
+invert-is-leaf-requires : (t : ℕ) → invert-lts.Need-is-leaf-requires (list-claims t) (invert-at t) invert.Post invert-Inv-loop invert-μ-loop
+invert-is-leaf-requires t c κs = record-room _ (c .before .loop .inv .packed) (c .loop-test .taken)
 
 -- the leaf in front of what is left
 leaf-at : (t : ℕ) (c : invert-lts.Then1 (list-claims t) (invert-at t) invert.Post invert-Inv-loop invert-μ-loop) → FirstLeaf (c .before .before .before .loop .t .now)
-leaf-at t c = first-leaf (c .before .before .before .loop .inv .packed) (c .before .before .loop-test .taken) (c .before .kind .ensures) (c .if1 .taken)
+leaf-at t c = first-leaf (c .before .before .before .loop .inv .packed) (c .before .before .loop-test .taken) (c .before .is-leaf .ensures) (c .if1 .taken)
 
 invert-sub-to : (t : ℕ) → invert-lts.Need-sub-to (list-claims t) (invert-at t) invert.Post invert-Inv-loop invert-μ-loop
 invert-sub-to t c = omega (arith, leaf-at t c .first .most, c .before .before .before .loop .inv .place)
@@ -141,7 +142,7 @@ invert-invert-group-requires t c κs =
     let at-loop = tested .before .before .before in
     let step = ended .node-end .ensures in (
       omega (arith, front-long step, step .most, at-loop .loop .inv .short, at-loop .before .before .before .pre .0),
-      ((_, front-node step), (front-low step (tested .before .kind .ensures) (tested .if1 .left), node-place (at-loop .loop .inv) step)),
+      ((_, front-node step), (front-low step (tested .before .is-leaf .ensures) (tested .if1 .left), node-place (at-loop .loop .inv) step)),
     )
 
 invert-sub-t-2 : (t : ℕ) → invert-lts.Need-sub-t-2 (list-claims t) (invert-at t) invert.Post invert-Inv-loop invert-μ-loop
@@ -288,7 +289,7 @@ pub +invert+invert-group-spec : {M : Type 1} → statement M
     invert-Inv-loop
     invert-μ-loop
     (invert-loop-holds t)
-    (invert-kind-requires t)
+    (invert-is-leaf-requires t)
     (invert-sub-to t)
     (invert-slice-aggregate-inv-leaf t)
     (invert-sub-inv-leaf t)

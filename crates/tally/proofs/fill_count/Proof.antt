@@ -1,9 +1,10 @@
 -- `fill_count` meets its contract. Assumes nothing.
-use mathlib.Core.Path.{ap, _∙_}
+use mathlib.Core.Path.{refl, ap, _∙_}
 use Prim.Native.Nat.{ℕ, _%_}
 use native.Mathlib.Omega.{arith}
 use borrow.Author.Needs.{needs}
 use Rattle.record.specs.Meaning.{withField, COUNT}
+use Rattle.record.proofs.KindTests.{group-low, no-group-high}
 use Rattle.tally.proofs.Counted.{group-fits, group-counts, group-adds, leaf-counts, leaf-adds}
 use Rattle.tally.proofs.fill_count.Statement.{statement}
 use Rattle.tally.proofs.fill_count.Tie as tie
@@ -11,15 +12,15 @@ use Rattle.tally.proofs.fill_count.Tie as tie
 count-requires : tie.Need-count-requires
 count-requires c κs = search needs
 
-kind-requires : tie.Need-kind-requires
-kind-requires c κs = search needs
+is-group-requires : tie.Need-is-group-requires
+is-group-requires c κs = search needs
 
 group-count-requires : tie.Need-group-count-requires
 group-count-requires c κs =
     let start = c .before .before .before .before .before .before .before .before in
     let place = c .before .before .before .before .before .count .ensures in
-    let kind = c .before .before .before .kind .ensures in
-    (start .pre .0 .long, (rw place (start .pre .0 .lists (omega (arith, kind, c .before .before .if1 .taken))), start .pre .1))
+    let low = group-low (c .before .before .before .is-group .ensures) (c .before .before .if1 .taken) in
+    (start .pre .0 .long, (rw place (start .pre .0 .lists low), start .pre .1))
 
 mul-sum : tie.Need-mul-sum
 mul-sum c = search needs
@@ -31,7 +32,7 @@ sum-requires : tie.Need-sum-requires
 sum-requires c κs =
     let start = c .before .before .before .before .before .before .before .before .before .before in
     let group = c .before .group-count in
-    group-fits (start .args .t .now) (start .args .sums .now) (c .before .before .before .before .before .before .before .count .ensures) (c .before .before .before .before .before .kind .ensures) (c .before .before .before .before .if1 .taken) _ (group .ensures .1) (group .result) (group .ensures .0) (start .pre .1)
+    group-fits (start .args .t .now) (start .args .sums .now) (c .before .before .before .before .before .before .before .count .ensures) refl (group-low (c .before .before .before .before .before .is-group .ensures) (c .before .before .before .before .if1 .taken)) _ (group .ensures .1) (group .result) (group .ensures .0) (start .pre .1)
 
 mul-sums : tie.Need-mul-sums
 mul-sums c = search needs
@@ -70,10 +71,9 @@ returns c =
     let a = c .before .before .before .before .before .before .before .before .before .before .before .before .before .before .before .args in
     let group = c .before .before .before .before .before .before .group-count in
     let place = c .before .before .before .before .before .before .before .before .before .before .before .before .count .ensures in
-    let kind = c .before .before .before .before .before .before .before .before .before .before .kind .ensures in
-    let low = c .before .before .before .before .before .before .before .before .before .if1 .taken in
-    (c .before .before .set-count .ensures ∙ ap (λ (n : ℕ). withField COUNT n (a .t .now)) (group-counts (a .t .now) (a .sums .now) place kind low _ (group .ensures .1) (group .result) (group .ensures .0)),
-    group-adds (a .t .now) (a .sums .now) place kind low _ (group .ensures .1) (group .result) (group .ensures .0) _ (c .before .before .before .before .sum .ensures))
+    let low = group-low (c .before .before .before .before .before .before .before .before .before .before .is-group .ensures) (c .before .before .before .before .before .before .before .before .before .if1 .taken) in
+    (c .before .before .set-count .ensures ∙ ap (λ (n : ℕ). withField COUNT n (a .t .now)) (group-counts (a .t .now) (a .sums .now) place refl low _ (group .ensures .1) (group .result) (group .ensures .0)),
+    group-adds (a .t .now) (a .sums .now) place refl low _ (group .ensures .1) (group .result) (group .ensures .0) _ (c .before .before .before .before .sum .ensures))
 
 same-length-2 : tie.Need-same-length-2
 same-length-2 c = search needs
@@ -82,17 +82,16 @@ returns-2 : tie.Need-returns-2
 returns-2 c =
     let a = c .before .before .before .before .before .before .before .before .before .before .before .before .args in
     let place = c .before .before .before .before .before .before .before .before .before .count .ensures in
-    let kind = c .before .before .before .before .before .before .before .kind .ensures in
-    let high = c .before .before .before .before .before .before .if1 .left in
-    (c .before .before .set-count2 .ensures ∙ ap (λ (n : ℕ). withField COUNT n (a .t .now)) (leaf-counts (a .t .now) (a .sums .now) place kind high),
-    leaf-adds (a .t .now) (a .sums .now) place kind high _ (c .before .before .before .before .sum2 .ensures))
+    let high = no-group-high (c .before .before .before .before .before .before .before .is-group .ensures) (c .before .before .before .before .before .before .if1 .left) in
+    (c .before .before .set-count2 .ensures ∙ ap (λ (n : ℕ). withField COUNT n (a .t .now)) (leaf-counts (a .t .now) (a .sums .now) place refl high),
+    leaf-adds (a .t .now) (a .sums .now) place refl high _ (c .before .before .before .before .sum2 .ensures))
 
 pub fill-count-spec : {M : Type 1} → statement M
 fill-count-spec =
     tie.close
     (tie.spec
     count-requires
-    kind-requires
+    is-group-requires
     group-count-requires
     mul-sum
     element-copy-out-sum

@@ -2,7 +2,7 @@
 -- lists in the group. Assumes nothing.
 use borrow.Author.Needs.{needs}
 use Prim.Native.Nat.{_+_, _*_}
-use mathlib.Core.Path.{ap}
+use mathlib.Core.Path.{refl, ap}
 use mathlib.Core.Logic.{⊎-elim}
 use mathlib.Core.List.{List}
 use native.Mathlib.Omega.{arith}
@@ -45,6 +45,8 @@ use Rattle.display.proofs.unspanned.leaf.Reads as leaf-reads
 use Rattle.display.proofs.write.put.Reads as put-reads
 use Rattle.nodes.proofs.walk.first_end.Reads as first-end-reads
 use Rattle.nodes.proofs.walk.node_end.Reads as node-end-reads
+use Rattle.record.proofs.KindTests.{no-leaf-low}
+use Rattle.record.proofs.fields.is_leaf.Reads as is-leaf-reads
 use Rattle.record.proofs.fields.kind.Reads as kind-reads
 use Rattle.record.proofs.fields.number.Reads as number-reads
 use Rattle.display.proofs.unspanned.+group+node_list.{statement}
@@ -91,8 +93,8 @@ group-claims t = (
 
 abbrev list-claims : ℕ → node-list-lts.Claims
 list-claims t = (
-  kind-reads.Asked,
-  kind-reads.Learnt,
+  is-leaf-reads.Asked,
+  is-leaf-reads.Learnt,
   leaf-reads.Asked,
   leaf-reads.Learnt,
   node-end-reads.Asked,
@@ -235,14 +237,14 @@ node-list-loop-holds t c =
     let st = c .before .before .before in
     listing-starts (now (st .args .out)) (st .pre .1 .1 .0) (st .pre .1 .1 .1) (st .pre .1 .0)
 
-node-list-kind-requires : (t : ℕ) → node-list-lts.Need-kind-requires (list-claims t) (node-list-at t) node-list.Post node-list-Inv-loop node-list-μ-loop
-node-list-kind-requires t c κs = record-room _ (c .before .loop .inv .packedLeft) (c .loop-test .taken)
+node-list-is-leaf-requires : (t : ℕ) → node-list-lts.Need-is-leaf-requires (list-claims t) (node-list-at t) node-list.Post node-list-Inv-loop node-list-μ-loop
+node-list-is-leaf-requires t c κs = record-room _ (c .before .loop .inv .packedLeft) (c .loop-test .taken)
 
 node-list-leaf-requires : (t : ℕ) → node-list-lts.Need-leaf-requires (list-claims t) (node-list-at t) node-list.Post node-list-Inv-loop node-list-μ-loop
 node-list-leaf-requires t c κs =
     let k = c .before .before in
     let l = k .before .before .loop in
-    (l .inv .place, leaf-good (now (k .before .before .before .before .before .before .args .text)) (first-leaf (l .inv .packedLeft) (k .before .loop-test .taken) (k .kind .ensures) (c .before .if1 .taken)) (l .inv .ok))
+    (l .inv .place, leaf-good (now (k .before .before .before .before .before .before .args .text)) (first-leaf (l .inv .packedLeft) (k .before .loop-test .taken) (k .is-leaf .ensures) (c .before .if1 .taken)) (l .inv .ok))
 
 node-list-sub-t : (t : ℕ) → node-list-lts.Need-sub-t (list-claims t) (node-list-at t) node-list.Post node-list-Inv-loop node-list-μ-loop
 node-list-sub-t t c = let i = c .before .before .before .before .before .before in record-room _ (i .before .loop .inv .packedLeft) (i .loop-test .taken)
@@ -273,7 +275,7 @@ node-list-group-requires t c κs =
     let st = i .before .before .before .before .before .before .before in
     let f = n .node-end .ensures in (
       node-less (now (st .args .tree)) (now (l .t)) (n .node-end .result) _ (l .inv .shorter) (st .pre .0),
-      (l .inv .place, (first-good (now (st .args .text)) f (l .inv .ok), first-low f (i .before .kind .ensures) (i .if1 .left))),
+      (l .inv .place, (first-good (now (st .args .text)) f (l .inv .ok), first-low f refl (no-leaf-low (i .before .is-leaf .ensures) (i .if1 .left)))),
     )
 
 node-list-sub-t-2 : (t : ℕ) → node-list-lts.Need-sub-t-2 (list-claims t) (node-list-at t) node-list.Post node-list-Inv-loop node-list-μ-loop
@@ -295,7 +297,7 @@ others t c =
     let l = i .before .loop in
     ⊎-elim
     (λ w.
-    let f = first-leaf (l .inv .packedLeft) (i .loop-test .taken) (k .kind .ensures) (w .0 .taken) in
+    let f = first-leaf (l .inv .packedLeft) (i .loop-test .taken) (k .is-leaf .ensures) (w .0 .taken) in
     rw (w .6, ap now (w .7), w .8) (leaf-listed (l .inv) f (w .2 .ensures (f .step) (leaf-head f))))
     (λ w. rw (w .8, ap now (w .9), w .10) (group-listed (l .inv) (w .1 .ensures) (w .4 .ensures)))
     (c .if1 .came)
@@ -355,7 +357,7 @@ pub +group+node-list-spec : {M : Type 1} → statement M
     node-list-Inv-loop
     node-list-μ-loop
     (node-list-loop-holds t)
-    (node-list-kind-requires t)
+    (node-list-is-leaf-requires t)
     (node-list-leaf-requires t)
     (node-list-sub-t t)
     (node-list-part-t-start t)

@@ -19,14 +19,14 @@ abbrev μ-loop : tie.MeasureT-loop
 loop-holds : tie.Need-loop-holds Inv-loop μ-loop
 loop-holds c = counting-starts _ (c .before .pre .0) (c .before .pre .1)
 
-kind-requires : tie.Need-kind-requires Inv-loop μ-loop
-kind-requires c κs = record-room _ (c .before .loop .inv .packed) (c .loop-test .taken)
+is-leaf-requires : tie.Need-is-leaf-requires Inv-loop μ-loop
+is-leaf-requires c κs = record-room _ (c .before .loop .inv .packed) (c .loop-test .taken)
 
 add-steps : tie.Need-add-steps Inv-loop μ-loop
 add-steps c =
     let kinded = c .before in
     let at-loop = kinded .before .before in
-    let leaf = first-leaf (at-loop .loop .inv .packed) (kinded .before .loop-test .taken) (kinded .kind .ensures) (c .if1 .taken) in
+    let leaf = first-leaf (at-loop .loop .inv .packed) (kinded .before .loop-test .taken) (kinded .is-leaf .ensures) (c .if1 .taken) in
     record { fits = omega (arith, counted-few (at-loop .loop .inv) (leaf .first) (leaf-steps leaf)) }
 
 sub-t : tie.Need-sub-t Inv-loop μ-loop
@@ -47,7 +47,7 @@ loop-again : tie.Need-loop-again Inv-loop μ-loop
 loop-again c =
     let kinded = c .before .before in
     let at-loop = kinded .before .before in
-    let leaf = first-leaf (at-loop .loop .inv .packed) (kinded .before .loop-test .taken) (kinded .kind .ensures) (c .before .if1 .taken) in
+    let leaf = first-leaf (at-loop .loop .inv .packed) (kinded .before .loop-test .taken) (kinded .is-leaf .ensures) (c .before .if1 .taken) in
     counting-goes-on (at-loop .loop .inv) (leaf .first) (leaf-steps leaf)
 
 count-requires : tie.Need-count-requires Inv-loop μ-loop
@@ -92,7 +92,7 @@ count-spec =
     Inv-loop
     μ-loop
     loop-holds
-    kind-requires
+    is-leaf-requires
     add-steps
     sub-t
     part-t-start

@@ -45,6 +45,7 @@ use Rattle.expand.proofs.flatten.repeat_block.Reads as repeat-block-rea
 use Rattle.nodes.proofs.walk.first_end.Reads as first-end-reads
 use Rattle.nodes.proofs.walk.node_end.Reads as node-end-reads
 use Rattle.record.proofs.fields.count.Reads as count-reads
+use Rattle.record.proofs.fields.is_leaf.Reads as is-leaf-reads
 use Rattle.record.proofs.fields.kind.Reads as kind-reads
 use Rattle.record.proofs.fields.number.Reads as number-reads
 use Rattle.expand.proofs.flatten.+flatten+flatten_node.{statement}
@@ -81,13 +82,13 @@ abbrev flatten-μ-loop : flatten-lts.MeasureT-loop
 flatten-μ-loop tree out₀ t₀ at₀ out t at = length t
 
 pub +flatten+flatten-node-spec : {M : Type 1} → statement M
-+flatten+flatten-node-spec = close μ-flatten μ-flatten-node (λ t. flatten-lts.spec (kind-reads.Asked, kind-reads.Learnt, copy-record-reads.Asked, copy-record-reads.Learnt, node-end-reads.Asked, node-end-reads.Learnt, count-reads.Asked, count-reads.Learnt, flatten-node-below t, flatten-node.Post)
++flatten+flatten-node-spec = close μ-flatten μ-flatten-node (λ t. flatten-lts.spec (is-leaf-reads.Asked, is-leaf-reads.Learnt, copy-record-reads.Asked, copy-record-reads.Learnt, node-end-reads.Asked, node-end-reads.Learnt, count-reads.Asked, count-reads.Learnt, flatten-node-below t, flatten-node.Post)
     (flatten-at t)
     flatten.Post
     flatten-Inv-loop
     flatten-μ-loop
     (λ c. flattening-starts _ _ (c .before .before .pre .1 .0) (c .before .before .pre .1 .1))  -- flatten-loop-holds
-    (λ c κs. record-room _ (c .before .loop .inv .packed) (c .loop-test .taken))  -- flatten-kind-requires
+    (λ c κs. record-room _ (c .before .loop .inv .packed) (c .loop-test .taken))  -- flatten-is-leaf-requires
     (λ c. search needs)  -- flatten-sub-copy-record
     (λ c. search needs)  -- flatten-part-copy-record-start
     (λ c. record-room _ (c .before .before .before .loop .inv .packed) (c .before .before .loop-test .taken))  -- flatten-part-copy-record-end
@@ -97,12 +98,12 @@ pub +flatten+flatten-node-spec : {M : Type 1} → statement M
     (λ c κs.
     let kinded = c .before .before .before in
     let at-loop = kinded .before .before in
-    let leaf = first-leaf (at-loop .loop .inv .packed) (kinded .before .loop-test .taken) (kinded .kind .ensures) (omega (arith, c .before .before .if1 .taken)) in
+    let leaf = first-leaf (at-loop .loop .inv .packed) (kinded .before .loop-test .taken) (kinded .is-leaf .ensures) (c .before .before .if1 .taken) in
     (leaf-record leaf, leaf-room leaf (leaf-fits (at-loop .loop .inv) (leaf .first))))  -- flatten-copy-record-requires
     (λ c.
     let kinded = c .before .before .before .before .before .before in
     let at-loop = kinded .before .before in
-    let leaf = first-leaf (at-loop .loop .inv .packed) (kinded .before .loop-test .taken) (kinded .kind .ensures) (omega (arith, c .before .before .before .before .before .if1 .taken)) in
+    let leaf = first-leaf (at-loop .loop .inv .packed) (kinded .before .loop-test .taken) (kinded .is-leaf .ensures) (c .before .before .before .before .before .if1 .taken) in
     omega (arith, next-fits (at-loop .loop .inv) (leaf .first) (leaf-written leaf (c .before .before .copy-record .ensures)), at-loop .loop .inv .long, at-loop .before .before .before .good))  -- flatten-add-at
     (λ c. let tested = c .before .before .before .before .before .before .before in record-room _ (tested .before .loop .inv .packed) (tested .loop-test .taken))  -- flatten-sub-t
     (λ c. let tested = c .before .before .before .before .before .before .before in record-room _ (tested .before .loop .inv .packed) (tested .loop-test .taken))  -- flatten-part-t-start
@@ -113,7 +114,7 @@ pub +flatten+flatten-node-spec : {M : Type 1} → statement M
     (λ c.
     let kinded = c .before .before .before .before .before .before .before in
     let at-loop = kinded .before .before in
-    let leaf = first-leaf (at-loop .loop .inv .packed) (kinded .before .loop-test .taken) (kinded .kind .ensures) (omega (arith, c .before .before .before .before .before .before .if1 .taken)) in
+    let leaf = first-leaf (at-loop .loop .inv .packed) (kinded .before .loop-test .taken) (kinded .is-leaf .ensures) (c .before .before .before .before .before .before .if1 .taken) in
     flattening-goes-on (at-loop .loop .inv) (leaf .first) (leaf-written leaf (c .before .before .before .copy-record .ensures)) (c .before .before .before .copy-record .kept .1 .0))  -- flatten-loop-again
     (λ c κs. search needs)  -- flatten-node-end-requires
     (λ c κs. search needs)  -- flatten-count-requires
@@ -131,7 +132,7 @@ pub +flatten+flatten-node-spec : {M : Type 1} → statement M
     (
       node-less (start .args .tree .now) (at-loop .loop .t .now) (first .node-end .result) _ (at-loop .loop .inv .shorter) (start .pre .0),
       (
-        group-of (first .node-end .ensures) (kinded .kind .ensures) (first .before .if1 .left),
+        group-of (first .node-end .ensures) (kinded .is-leaf .ensures) (first .before .if1 .left),
         (node-steps (at-loop .loop .inv) (first .node-end .ensures) (c .before .before .before .count .ensures) (c .before .before .if2 .taken), node-fits (at-loop .loop .inv) (first .node-end .ensures)),
       ),
     ))  -- flatten-flatten-node-requires

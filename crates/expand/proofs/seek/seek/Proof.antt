@@ -1,5 +1,6 @@
 -- `seek::seek` meets its contract. Assumes nothing.
 use Prim.Native.Nat.{ℕ, _≤_, _<_}
+use mathlib.Core.Bool.{true}
 use mathlib.Core.Path.{_≡_, refl, sym, ap, _∙_}
 use mathlib.Core.List.{List}
 use borrow.Author.Needs.{needs}
@@ -25,11 +26,11 @@ abbrev μ-loop : tie.MeasureT-loop
 loop-holds : tie.Need-loop-holds Inv-loop μ-loop
 loop-holds c = (sought-starts _ _ (c .before .before .pre .0), refl)
 
-kind-requires : tie.Need-kind-requires Inv-loop μ-loop
-kind-requires c κs = room (c .loop .inv .0 .has)
+is-leaf-requires : tie.Need-is-leaf-requires Inv-loop μ-loop
+is-leaf-requires c κs = room (c .loop .inv .0 .has)
 
-leaf-of : (c : tie.After-kind Inv-loop μ-loop) → 5 < c .kind .result → FirstLeaf (c .before .loop .rest .now)
-leaf-of c h = first-leaf (c .before .loop .inv .0 .has .packed) (some-record (c .before .loop .inv .0 .has)) (c .kind .ensures) h
+leaf-of : (c : tie.After-is-leaf Inv-loop μ-loop) → c .is-leaf .result ≡ true → FirstLeaf (c .before .loop .rest .now)
+leaf-of c h = first-leaf (c .before .loop .inv .0 .has .packed) (some-record (c .before .loop .inv .0 .has)) (c .is-leaf .ensures) h
 
 sub-write-step : tie.Need-sub-write-step Inv-loop μ-loop
 sub-write-step c = search needs
@@ -143,7 +144,7 @@ enter-requires : tie.Need-enter-requires Inv-loop μ-loop
 enter-requires c κs =
     let listed = c .before .before in
     let first = listed .before .before .before in
-    ((group-of (first .node-end .ensures) (first .before .before .before .kind .ensures) (first .before .before .if1 .left), in-group listed .has), exact listed ∙ sym (one-count (first .node-end .ensures .isNode)))
+    ((group-of (first .node-end .ensures) (first .before .before .before .is-leaf .ensures) (first .before .before .if1 .left), in-group listed .has), exact listed ∙ sym (one-count (first .node-end .ensures .isNode)))
 
 sub-rest-3 : tie.Need-sub-rest-3 Inv-loop μ-loop
 sub-rest-3 c = search needs
@@ -192,7 +193,7 @@ seek-spec =
     Inv-loop
     μ-loop
     loop-holds
-    kind-requires
+    is-leaf-requires
     sub-write-step
     part-write-step-start
     part-write-step-end

@@ -21,10 +21,11 @@ use Rattle.expand.proofs.visit.+visit+visit_node.Lts-visit_node as visi
 use Rattle.expand.proofs.visit.join.Reads as join-reads
 use Rattle.expand.proofs.visit.of_binary.Reads as of-binary-reads
 use Rattle.expand.proofs.visit.of_leaf.Reads as of-leaf-reads
-use Rattle.expand.proofs.visit.overflows.Reads as overflows-reads
+use Rattle.record.proofs.undo.overflows.Reads as overflows-reads
 use Rattle.expand.proofs.visit.turned.Reads as turned-reads
 use Rattle.nodes.proofs.walk.first_end.Reads as first-end-reads
 use Rattle.nodes.proofs.walk.node_end.Reads as node-end-reads
+use Rattle.record.proofs.fields.is_leaf.Reads as is-leaf-reads
 use Rattle.record.proofs.fields.kind.Reads as kind-reads
 use Rattle.record.proofs.fields.number.Reads as number-reads
 use Rattle.expand.proofs.visit.+visit+visit_node.{statement}
@@ -57,13 +58,13 @@ abbrev visit-μ-loop : visit-lts.MeasureT-loop
 visit-μ-loop tree t₀ met₀ t met = length t
 
 pub +visit+visit-node-spec : {M : Type 1} → statement M
-+visit+visit-node-spec = close μ-visit μ-visit-node (λ t. visit-lts.spec (kind-reads.Asked, kind-reads.Learnt, overflows-reads.Asked, overflows-reads.Learnt, of-leaf-reads.Asked, of-leaf-reads.Learnt, join-reads.Asked, join-reads.Learnt, node-end-reads.Asked, node-end-reads.Learnt, visit-node-below t, visit-node.Post)
++visit+visit-node-spec = close μ-visit μ-visit-node (λ t. visit-lts.spec (is-leaf-reads.Asked, is-leaf-reads.Learnt, overflows-reads.Asked, overflows-reads.Learnt, of-leaf-reads.Asked, of-leaf-reads.Learnt, join-reads.Asked, join-reads.Learnt, node-end-reads.Asked, node-end-reads.Learnt, visit-node-below t, visit-node.Post)
     (visit-at t)
     visit.Post
     visit-Inv-loop
     visit-μ-loop
     (λ c. visiting-starts _ (c .before .pre .1))  -- visit-loop-holds
-    (λ c κs. record-room _ (c .before .loop .inv .packed) (c .loop-test .taken))  -- visit-kind-requires
+    (λ c κs. record-room _ (c .before .loop .inv .packed) (c .loop-test .taken))  -- visit-is-leaf-requires
     (λ c κs. record-room _ (c .before .before .before .loop .inv .packed) (c .before .before .loop-test .taken))  -- visit-overflows-requires
     (λ c κs. search needs)  -- visit-of-leaf-requires
     (λ c κs. search needs)  -- visit-join-requires
@@ -76,7 +77,7 @@ pub +visit+visit-node-spec : {M : Type 1} → statement M
     (λ c.
     let kinded = c .before .before .before .before .before in
     let at-loop = kinded .before .before in
-    let leaf = first-leaf (at-loop .loop .inv .packed) (kinded .before .loop-test .taken) (kinded .kind .ensures) (c .before .before .before .before .if1 .taken) in
+    let leaf = first-leaf (at-loop .loop .inv .packed) (kinded .before .loop-test .taken) (kinded .is-leaf .ensures) (c .before .before .before .before .if1 .taken) in
     visiting-goes-on _ _ _ (c .before .before .of-leaf .result) _ _ (at-loop .loop .inv) (leaf .first) (c .before .before .of-leaf .ensures ∙ ap leafRefuses (c .before .before .before .overflows .ensures) ∙ leaf-refused leaf) (c .before .join .ensures))  -- visit-loop-again
     (λ c κs. search needs)  -- visit-node-end-requires
     (λ c. search needs)  -- visit-sub-visit-node
@@ -88,7 +89,7 @@ pub +visit+visit-node-spec : {M : Type 1} → statement M
     let start = at-loop .before .before in
     (
       node-less (start .args .tree .now) (at-loop .loop .t .now) (c .before .node-end .result) _ (at-loop .loop .inv .shorter) (start .pre .0),
-      group-of (c .before .node-end .ensures) (kinded .kind .ensures) (c .before .before .if1 .left),
+      group-of (c .before .node-end .ensures) (kinded .is-leaf .ensures) (c .before .before .if1 .left),
     ))  -- visit-visit-node-requires
     (λ c κs. search needs)  -- visit-join-requires-2
     (λ c. search needs)  -- visit-sub-t-2

@@ -9,7 +9,7 @@ use Rattle.notation.specs.Packed.{unpack}
 use Rattle.notation.specs.Invert.{undo}
 use Rattle.notation.specs.Print.{put}
 use Rattle.notation.specs.Entries.{outcome, steps}
-use Rattle.notation.specs.Lister.{line, stepLines, stepsPart}
+use Rattle.notation.specs.Lister.{line, stepLines, stepsPart, SHOWN}
 use Rattle.laws.specs.Unrolled.{flat}
 use Rattle.entries.proofs.Stepping.{refused-steps}
 use Rattle.display.proofs.Writing.{wrote-then}
@@ -61,7 +61,7 @@ returns c =
     let text = a .text .now in
     let tree = a .tree .now in
     wrote-to (stepsPart text (steps text tree)) (steps-counted text tree (n .0 .0) (count .count-steps .ensures .1 _ (ap outcome (n .1))))
-    (wrote-then {f = line (put "steps" []) (show (n .0 .0) [])} {g = λ rest. stepLines text 1000 0 (flat undo false (unpack tree)) ++ rest}
+    (wrote-then {f = line (put "steps" []) (show (n .0 .0) [])} {g = λ rest. stepLines text SHOWN 0 (flat undo false (unpack tree)) ++ rest}
     (line-of .number-line .ensures) (call .step-lines .ensures))
 
 same-length-2 : tie.Need-same-length-2

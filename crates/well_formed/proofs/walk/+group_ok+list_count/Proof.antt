@@ -22,6 +22,9 @@ use Rattle.counts.proofs.of_group.Reads as of-group-reads
 use Rattle.counts.proofs.sum.Reads as sum-reads
 use Rattle.record.proofs.fields.count.Reads as count-reads
 use Rattle.record.proofs.fields.first.Reads as first-reads
+use Rattle.record.specs.Meaning.{kindAt}
+use Rattle.record.proofs.KindTests.{group-low, no-group-high}
+use Rattle.record.proofs.fields.is_group.Reads as is-group-reads
 use Rattle.record.proofs.fields.kind.Reads as kind-reads
 use Rattle.record.proofs.fields.number.Reads as number-reads
 use Rattle.record.proofs.fields.second.Reads as second-reads
@@ -56,7 +59,7 @@ abbrev group-claims : ℕ → group-ok-lts.Claims
 group-claims t = (group-record-ok-reads.Asked, group-record-ok-reads.Learnt, kind-reads.Asked, kind-reads.Learnt, number-reads.Asked, number-reads.Learnt, first-reads.Asked, first-reads.Learnt, list-count-below t, list-count.Post, count-reads.Asked, count-reads.Learnt, of-group-reads.Asked, of-group-reads.Learnt, second-reads.Asked, second-reads.Learnt)
 
 abbrev list-claims : ℕ → list-count-lts.Claims
-list-claims t = (kind-reads.Asked, kind-reads.Learnt, first-reads.Asked, first-reads.Learnt, second-reads.Asked, second-reads.Learnt, group-ok-below t, group-ok.Post, count-reads.Asked, count-reads.Learnt, sum-reads.Asked, sum-reads.Learnt, leaf-ok-reads.Asked, leaf-ok-reads.Learnt, cap-reads.Asked, cap-reads.Learnt)
+list-claims t = (is-group-reads.Asked, is-group-reads.Learnt, first-reads.Asked, first-reads.Learnt, second-reads.Asked, second-reads.Learnt, group-ok-below t, group-ok.Post, count-reads.Asked, count-reads.Learnt, sum-reads.Asked, sum-reads.Learnt, leaf-ok-reads.Asked, leaf-ok-reads.Learnt, cap-reads.Asked, cap-reads.Learnt)
 
 -- what a group's record says
 told : (t : ℕ) (c : group-ok-lts.After-shared-slice-known2 (group-claims t) (group-ok-at t) group-ok.Post) → GroupTold (c .before .before .args .t .now)
@@ -246,8 +249,8 @@ list-count-returns t c =
     refused (a .text .now) (a .depth) (a .list .now) (left .t .now) _ (left .inv)
     (too-short (a .text .now) (a .depth) (left .t .now) (left .inv .below) (c .before .loop-test .taken) (c .if1 .taken))
 
-list-count-kind-requires : (t : ℕ) → list-count-lts.Need-kind-requires (list-claims t) (list-count-at t) list-count.Post list-count-Inv-loop list-count-μ-loop
-list-count-kind-requires t c κs = search needs
+list-count-is-group-requires : (t : ℕ) → list-count-lts.Need-is-group-requires (list-claims t) (list-count-at t) list-count.Post list-count-Inv-loop list-count-μ-loop
+list-count-is-group-requires t c κs = search needs
 
 list-count-first-requires : (t : ℕ) → list-count-lts.Need-first-requires (list-claims t) (list-count-at t) list-count.Post list-count-Inv-loop list-count-μ-loop
 list-count-first-requires t c κs = search needs
@@ -279,7 +282,9 @@ list-count-returns-2 t c =
     (counted (left .t .now) (c .before .before .first .ensures) (c .before .second .ensures)) (c .if3 .taken))
 
 list-count-group-ok-requires : (t : ℕ) → list-count-lts.Need-group-ok-requires (list-claims t) (list-count-at t) list-count.Post list-count-Inv-loop list-count-μ-loop
-list-count-group-ok-requires t c κs = search needs
+list-count-group-ok-requires t c κs =
+    let left = c .before .before .before .before .before .before .before .loop in
+    search (needs, group-low {kind = kindAt (left .t .now)} (c .before .before .before .before .is-group .ensures) (c .before .before .before .if2 .taken))
 
 list-count-count-requires : (t : ℕ) → list-count-lts.Need-count-requires (list-claims t) (list-count-at t) list-count.Post list-count-Inv-loop list-count-μ-loop
 list-count-count-requires t c κs = search needs
@@ -325,7 +330,9 @@ list-count-returns-3 t c =
     (bad-node (a .text .now) (a .depth) (left .t .now) (left .inv .below) (c .before .before .before .before .before .before .before .before .loop-test .taken) (ok .result) (ok .ensures) (c .if4 .left))
 
 list-count-leaf-ok-requires : (t : ℕ) → list-count-lts.Need-leaf-ok-requires (list-claims t) (list-count-at t) list-count.Post list-count-Inv-loop list-count-μ-loop
-list-count-leaf-ok-requires t c κs = search needs
+list-count-leaf-ok-requires t c κs =
+    let left = c .before .before .before .before .loop in
+    search (needs, no-group-high {kind = kindAt (left .t .now)} (c .before .is-group .ensures) (c .if2 .left))
 
 list-count-add-count : (t : ℕ) → list-count-lts.Need-add-count (list-claims t) (list-count-at t) list-count.Post list-count-Inv-loop list-count-μ-loop
 list-count-add-count t c = search needs
@@ -349,7 +356,7 @@ list-count-loop-again-2 t c =
     let a = c .before .before .before .before .before .before .before .before .before .before .args in
     let ok = c .before .before .leaf-ok in
     past-leaf (a .text .now) (a .depth) (a .list .now) (left .t .now) _ (left .inv) (ok .result) (ok .ensures (a .depth)) (c .before .if5 .taken)
-    (subst (λ (n : ℕ). 6 ≤ n) (c .before .before .before .before .kind .ensures) (c .before .before .before .if2 .left)) (c .before .before .before .before .before .if1 .left)
+    (no-group-high (c .before .before .before .before .is-group .ensures) (c .before .before .before .if2 .left)) (c .before .before .before .before .before .if1 .left)
 
 list-count-returns-4 : (t : ℕ) → list-count-lts.Need-returns-4 (list-claims t) (list-count-at t) list-count.Post list-count-Inv-loop list-count-μ-loop
 list-count-returns-4 t c =
@@ -414,7 +421,7 @@ pub +group-ok+list-count-spec : {M : Type 1} → statement M
     list-count-μ-loop
     (list-count-loop-holds t)
     (list-count-returns t)
-    (list-count-kind-requires t)
+    (list-count-is-group-requires t)
     (list-count-first-requires t)
     (list-count-cast-end t)
     (list-count-second-requires t)
