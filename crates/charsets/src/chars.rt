@@ -1,4 +1,5 @@
-// The Rust's charsets.rs: the character sets of family names; and the primes, which are none of theirs. A character is its code point.
+// The Rust's charsets.rs: the character sets of family names; and the primes, which are none of theirs. A character is
+// its code point.
 
 use crate::classes::CLASSES;
 use notation::char_set::CharSet;
@@ -18,6 +19,7 @@ fn is_curly_prime(c: u32) -> bool
     }
 }
 
+// The class number of a character: 0 outside all classes, else as in the table.
 fn class_number(c: u32) -> u8
     ensures { λ r. ⌜ r ≡ classNumber (classify c) ⌝ }
 {
@@ -27,6 +29,7 @@ fn class_number(c: u32) -> u8
     if is_curly_prime(c) { 7 } else { 0 }
 }
 
+// The class of a character: `classify` of the Rust's charsets.rs.
 pub fn classify(c: u32) -> Class
     ensures { λ r. ⌜ r ≡ classify c ⌝ }
 {
@@ -78,6 +81,7 @@ pub fn between(a: u32, b: u32, x: u32) -> bool
     a <= x && x <= b
 }
 
+// Whether the character is one of a-z and A-Z.
 pub fn is_latin_letter(c: u32) -> bool
     ensures { λ r. ⌜ r ≡ isLatinLetter c ⌝ }
 {

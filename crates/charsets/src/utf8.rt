@@ -22,12 +22,14 @@ fn byte_at(s: &[u8], i: usize) -> u32
     if i < s.len() { s[i] as u32 } else { 256 }
 }
 
+// The first number where the test holds, else the second.
 fn pick(test: bool, a: u32, b: u32) -> u32
     ensures { λ r. ⌜ r ≡ pick test a b ⌝ }
 {
     if test { a } else { b }
 }
 
+// Whether a byte continues a character.
 fn is_continuation(b: u32) -> bool
     ensures { λ r. ⌜ r ≡ continuation b ⌝ }
 {
@@ -49,6 +51,7 @@ fn starts_three(a: u32, b: u32) -> bool
     between(0xe0, 0xef, a) && between(pick(a == 0xe0, 0xa0, 0x80), pick(a == 0xed, 0x9f, 0xbf), b)
 }
 
+// Whether the three bytes are a character.
 fn is_three_bytes(a: u32, b: u32, c: u32) -> bool
     ensures { λ r. ⌜ r
         ≡ (between 0xe0 0xef a && between (pick (eqb a 0xe0) 0xa0 0x80) (pick (eqb a 0xed) 0x9f 0xbf) b && continuation c) ⌝ }
@@ -64,10 +67,11 @@ fn starts_four(a: u32, b: u32) -> bool
     between(0xf0, 0xf4, a) && between(pick(a == 0xf0, 0x90, 0x80), pick(a == 0xf4, 0x8f, 0xbf), b)
 }
 
+// Whether the four bytes are a character.
 fn is_four_bytes(a: u32, b: u32, c: u32, d: u32) -> bool
     ensures { λ r. ⌜ r
         ≡ (between 0xf0 0xf4 a && between (pick (eqb a 0xf0) 0x90 0x80) (pick (eqb a 0xf4) 0x8f 0xbf) b && continuation c &&
-                continuation d) ⌝ }
+        continuation d) ⌝ }
 {
     starts_four(a, b) && is_continuation(c) && is_continuation(d)
 }
@@ -126,14 +130,15 @@ pub fn code_point(s: &[u8], at: usize) -> u32
     a % 8 * 262144 + b * 4096 + c * 64 + d
 }
 
+// The width where the character passes, else 0.
 fn width_if(passes: bool, width: usize) -> usize
     ensures { λ r. ⌜ r ≡ pick passes width 0 ⌝ }
 {
     if passes { width } else { 0 }
 }
 
-// The width of a character past ASCII, 0 where none of the wanted ones stands there: white space, or else what a family name
-// may hold. Apart, because it is rare: the tests for ASCII alone are small enough to stand in their callers.
+// The width of a character past ASCII, 0 where none of the wanted ones stands there: white space, or else what a family
+// name may hold. Apart, because it is rare: the tests for ASCII alone are small enough to stand in their callers.
 fn wide_width(s: &[u8], at: usize, white: bool) -> usize
     ensures { λ r. ⌜ r ≡ widthIf (pick white whiteSpace isFamilyChar) (drop at (now (s .entry))) ⌝ }
 {
@@ -154,7 +159,11 @@ fn is_ascii_wanted(c: u32, white: bool) -> bool
     requires { ⌜ c ≤ 127 ⌝ }
     ensures { λ r. ⌜ r ≡ pick white whiteSpace isFamilyChar c ⌝ }
 {
-    if white { is_ascii_whitespace(c) } else { is_ascii_family_char(c) }
+    if white {
+        is_ascii_whitespace(c)
+    } else {
+        is_ascii_family_char(c)
+    }
 }
 
 // How many bytes the character at `at` takes, 0 where none of the wanted ones stands there. The flag is spelled out for
@@ -166,10 +175,14 @@ fn width(s: &[u8], at: usize, white: bool) -> usize
     if a <= 0x7f {
         return width_if(is_ascii_wanted(a, white), 1);
     }
-    if white { wide_width(s, at, true) } else { wide_width(s, at, false) }
+    if white {
+        wide_width(s, at, true)
+    } else {
+        wide_width(s, at, false)
+    }
 }
 
-// The same for white space alone.
+// How many bytes the white space character at `at` takes, 0 where none stands there.
 pub fn whitespace_width(s: &[u8], at: usize) -> usize
     ensures { λ r. ⌜ r ≡ widthIf whiteSpace (drop at (now (s .entry))) ⌝ }
 {
@@ -203,12 +216,12 @@ pub fn has_curly_prime(s: &[u8], at: usize) -> bool
     are_curly_prime(s[at], s[at + 1], s[at + 2])
 }
 
-// Whether eight bytes stand from `at` on, all of them ASCII. They are joined and tested once, so that no test stands between
-// the reads.
+// Whether eight bytes stand from `at` on, all of them ASCII. They are joined and tested once, so that no test stands
+// between the reads.
 fn all_ascii(s: &[u8], at: usize) -> bool
     requires { ⌜ at ≤ length (now s) ⌝ }
     ensures { λ r. ⌜ (r ≡ true → (at + 8 ≤ length (now (s .entry))) ×
-            (utf8 (drop (at + 8) (now (s .entry))) ≡ utf8 (drop at (now (s .entry))))) ⌝ }
+        (utf8 (drop (at + 8) (now (s .entry))) ≡ utf8 (drop at (now (s .entry))))) ⌝ }
 {
     if s.len() - at < 8 {
         return false;
@@ -262,7 +275,7 @@ pub fn family_end(s: &[u8], at: usize) -> usize
     run_end(s, at, false)
 }
 
-// The same for white space.
+// Where the run of white space that begins at `at` ends.
 pub fn whitespace_end(s: &[u8], at: usize) -> usize
     requires { ⌜ at ≤ length (now s) ⌝ }
     ensures { λ r. ⌜ r ≡ at + run whiteSpace (drop at (now (s .entry))) ⌝ }

@@ -13,7 +13,7 @@ use Rattle.laws.specs.Packed.{Packed}
 use Rattle.laws.specs.Unrolled.{firstRefusal}
 use Rattle.notation.specs.Counts.{cap, count}
 
--- how many steps a tree counts, held: refusals 1, 2, 6
+-- how many steps a tree counts, capped: refusals 1, 2, 6
 abbrev pub checkedSteps : List ℕ → List ℕ → Outcome ℕ
 checkedSteps text tree = do
   t ← checked text tree

@@ -18,7 +18,7 @@ use Rattle.notation.specs.declared.common.BinaryGroupKind.the-variants.{Commuta
 use Rattle.laws.proofs.Counting.{cap-times, cap-binary}
 use Rattle.counts.specs.Groups.{contents, groupCount}
 
--- held once or twice, the product is the same
+-- capped once or twice, the product is the same
 capped-product : (n c : ℕ) → cap (n * cap (cap c)) ≡ cap (n * c)
 capped-product n c = cap-times n (cap c) ∙ cap-times n c
 

@@ -1,4 +1,5 @@
--- The count of a group from those of its lists, by the number of its kind. `group-stored` and `binary-stored` (proofs/Held.antt) say that it is what the group's record stores.
+-- The count of a group from those of its lists, by the number of its kind. `group-stored` and `binary-stored`
+-- (proofs/Capped.antt) say that it is what the group's record stores.
 use Prim.Native.Nat.{ℕ, _*_}
 use lib.Dec.{eqb}
 use lib.IntN.{ℤ, natAbs}

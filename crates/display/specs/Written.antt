@@ -4,7 +4,7 @@ use mathlib.Core.Path.{_≡_}
 use mathlib.Core.List.{List, [], _++_}
 use lib.ListN.{length, take, drop}
 
--- Positions are held here. No slice reaches it, and with a slice's length added it still fits 64 bits.
+-- Positions are capped here. No slice reaches it, and with a slice's length added it still fits 64 bits.
 abbrev pub MOST : ℕ
 MOST = 9223372036854775808
 

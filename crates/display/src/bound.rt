@@ -23,9 +23,9 @@ fn extra(test: bool, size: usize) -> usize
     if test { size } else { 0 }
 }
 
-// A bound on what the first record prints by itself, the space after its node included: 4 bytes are a space, `@` or `~`, one digit
-// and `'`, or a scramble move with its space; a group has 3 more, a number past 9 has 9 more digits, layers are up to two numbers and
-// a hyphen, a pair up to two numbers with sign.
+// A bound on what the first record prints by itself, the space after its node included: 4 bytes are a space, `@` or `~`,
+// one digit and `'`, or a scramble move with its space; a group has 3 more, a number past 9 has 9 more digits, layers
+// are up to two numbers and a hyphen, a pair up to two numbers with sign.
 fn allowance(t: &[u8]) -> usize
     requires { ⌜ recordSize ≤ length (now t) ⌝ }
     ensures { λ r. ⌜ r ≡ allowed (cut widths (take recordSize (now (t .entry)))) ⌝ }
@@ -33,15 +33,16 @@ fn allowance(t: &[u8]) -> usize
     let kind = fields::kind(t);
     let n = magnitude(fields::number(t));
     let parts = fields::family(t).size as usize + fields::constraints(t).size as usize;
-    4 + parts
+    4
+        + parts
         + extra(kind < kinds::ROTATION, 3)
         + extra(9 < n, 9)
         + extra(kind == kinds::PAIR, 23)
         + extra(fields::layer_form(t) != 0, 11)
 }
 
-// Whether the tree's text surely fits into so many bytes. A layer set may print longer than it is written (`1-2` as `1..2`): then it
-// is not sure.
+// Whether the tree's text surely fits into so many bytes. A layer set may print longer than it is written (`1-2` as
+// `1..2`): then it is not sure.
 pub fn fits(tree: &[u8], room: usize) -> bool
     requires { ⌜ Packed (now tree) ⌝ }
     ensures { λ r. ⌜ (r ≡ true → (text : List ℕ) → wellFormed.treeOk text (unpack (now (tree .entry))) ≡ true →

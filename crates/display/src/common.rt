@@ -17,7 +17,7 @@ use numbers::signed::is_negative;
 use numbers::signed::magnitude;
 use record::kinds;
 
-// A multiplier's magnitude, which is not printed where it is 1.
+// Prints a multiplier's magnitude, which is left out where it is 1.
 fn put_magnitude(out: &mut [u8], at: usize, n: u32) -> usize
     requires { ⌜ at ≤ most ⌝ }
     ensures { λ r. ⌜ Wrote (now (out .entry)) (now (out .exit)) at r (λ rest. pick (eqb n 1) rest (show n rest)) ⌝ }
@@ -44,7 +44,7 @@ pub(crate) fn put_multiplier(out: &mut [u8], at: usize, bits: u32) -> usize
 pub(crate) fn put_opening(out: &mut [u8], at: usize, kind: u8) -> usize
     requires { ⌜ at ≤ most ⌝ }
     ensures { λ r. ⌜ ((k : GroupKind) → kind ≡ groupNumber k → Wrote (now (out .entry)) (now (out .exit)) at r
-            (λ rest. putPrefix k (40 ∷ rest))) ⌝ }
+        (λ rest. putPrefix k (40 ∷ rest))) ⌝ }
 {
     match kind {
         kinds::SIMPLE => put(out, at, b'('),
@@ -67,7 +67,7 @@ fn put_two(out: &mut [u8], at: usize, a: u8, b: u8) -> usize
 pub(crate) fn put_separator(out: &mut [u8], at: usize, kind: u8) -> usize
     requires { ⌜ at ≤ most ⌝ }
     ensures { λ r. ⌜ ((k : BinaryGroupKind) → kind ≡ binaryNumber k → Wrote (now (out .entry)) (now (out .exit)) at r
-            (putSeparator k)) ⌝ }
+        (putSeparator k)) ⌝ }
 {
     match kind {
         kinds::COMMUTATOR => put_two(out, at, b',', b' '),
@@ -78,7 +78,8 @@ pub(crate) fn put_separator(out: &mut [u8], at: usize, kind: u8) -> usize
 // What stands after the last list of a group.
 pub(crate) fn put_closing(out: &mut [u8], at: usize, bracket: u8, multiplier: u32) -> usize
     requires { ⌜ at ≤ most ⌝ }
-    ensures { λ r. ⌜ Wrote (now (out .entry)) (now (out .exit)) at r (λ rest. bracket ∷ putMultiplier (fromBits 32 multiplier) rest) ⌝ }
+    ensures { λ r. ⌜ Wrote (now (out .entry)) (now (out .exit)) at r
+        (λ rest. bracket ∷ putMultiplier (fromBits 32 multiplier) rest) ⌝ }
 {
     let next = put(out, at, bracket);
     put_multiplier(out, next, multiplier)
@@ -88,7 +89,7 @@ pub(crate) fn put_closing(out: &mut [u8], at: usize, bracket: u8, multiplier: u3
 pub(crate) fn put_megaminx(out: &mut [u8], at: usize, kind: u8) -> usize
     requires { ⌜ at ≤ most ⌝ }
     ensures { λ r. ⌜ ((k : MegaminxScrambleMove) → kind ≡ megaminxNumber k → Wrote (now (out .entry)) (now (out .exit)) at r
-            (putMegaminx k)) ⌝ }
+        (putMegaminx k)) ⌝ }
 {
     let letter = if kind < kinds::D_PLUS { b'R' } else { b'D' };
     let sign = if kind % 2 == 1 { b'+' } else { b'-' };

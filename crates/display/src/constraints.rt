@@ -13,7 +13,7 @@ pub(crate) fn put_squeezed(out: &mut [u8], at: usize, text: &[u8], from: usize, 
     requires { ⌜ from ≤ to ⌝ }
     requires { ⌜ to ≤ length (now text) ⌝ }
     ensures { λ r. ⌜ Wrote (now (out .entry)) (now (out .exit)) at r
-            (λ rest. squeezed (take (to - from) (drop from (now (text .entry)))) ++ rest) ⌝ }
+        (λ rest. squeezed (take (to - from) (drop from (now (text .entry)))) ++ rest) ⌝ }
 {
     let part = &text[from..to];
     let mut i = 0;

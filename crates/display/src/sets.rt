@@ -1,5 +1,5 @@
-// Layer sets, printed from the part of the text that says them, element by element: an element is put as it is read, and white space
-// is left out.
+// Layer sets, printed from the part of the text that says them, element by element: an element is put as it is read, and
+// white space is left out.
 ghost use mathlib.Core.Path.{_≡_};
 ghost use mathlib.Core.Bool.{true};
 ghost use mathlib.Core.List.{List};
@@ -28,6 +28,7 @@ pub enum ElementAnswer {
     Nothing,
 }
 
+// Prints an element of a layer set.
 fn put_layer_set_element(out: &mut [u8], at: usize, e: LayerSetElement) -> usize
     requires { ⌜ at ≤ most ⌝ }
     ensures { λ r. ⌜ Wrote (now (out .entry)) (now (out .exit)) at r (print.putElement (means.layerSetElementOf e)) ⌝ }
@@ -60,7 +61,7 @@ fn put_more(out: &mut [u8], at: usize, part: &[u8], from: usize) -> usize
     requires { ⌜ at ≤ most ⌝ }
     requires { ⌜ from ≤ length (now part) ⌝ }
     ensures { λ r. ⌜ ((l : List layers.LayerSetElement) → Following (layerSetElement true) (now (part .entry)) from l → Wrote
-            (now (out .entry)) (now (out .exit)) at r (print.putMore print.putElement l)) ⌝ }
+        (now (out .entry)) (now (out .exit)) at r (print.putMore print.putElement l)) ⌝ }
 {
     let mut end = from;
     let mut next = at;
@@ -85,7 +86,7 @@ pub(crate) fn put_layer_set(out: &mut [u8], at: usize, part: &[u8]) -> usize
     requires { ⌜ at ≤ most ⌝ }
     requires { ⌜ isSome (layerSetIn (now part)) ≡ true ⌝ }
     ensures { λ r. ⌜ Wrote (now (out .entry)) (now (out .exit)) at r
-            (print.putBraces print.putElement (orEmpty (layerSetIn (now (part .entry))))) ⌝ }
+        (print.putBraces print.putElement (orEmpty (layerSetIn (now (part .entry))))) ⌝ }
 {
     let first = whitespace_end(part, 1);
     let open = put(out, at, b'{');
@@ -96,6 +97,7 @@ pub(crate) fn put_layer_set(out: &mut [u8], at: usize, part: &[u8]) -> usize
     put(out, close, b'}')
 }
 
+// Whether a comma stands at `at`.
 fn is_comma(part: &[u8], at: usize) -> bool
     ensures { λ r. ⌜ r ≡ eqb (byteAt (now (part .entry)) at) 44 ⌝ }
 {

@@ -35,11 +35,12 @@ use record::kinds;
 use record::spanned::LayerPrefixContents;
 use record::spanned::Span;
 
-// A part of the text, as it stands there.
+// Prints a part of the text as it stands there.
 fn put_part(out: &mut [u8], at: usize, text: &[u8], p: Span) -> usize
     requires { ⌜ at ≤ most ⌝ }
     requires { ⌜ wellFormed.inside (now text) (means.span p) ≡ true ⌝ }
-    ensures { λ r. ⌜ Wrote (now (out .entry)) (now (out .exit)) at r (λ rest. tree.partOf (now (text .entry)) (means.span p) ++ rest) ⌝ }
+    ensures { λ r. ⌜ Wrote (now (out .entry)) (now (out .exit)) at r
+        (λ rest. tree.partOf (now (text .entry)) (means.span p) ++ rest) ⌝ }
 {
     let from = p.offset as usize;
     let to = from + (p.size as usize);
@@ -63,7 +64,7 @@ fn put_constraints(out: &mut [u8], at: usize, text: &[u8], t: &[u8]) -> usize
     requires { ⌜ recordSize ≤ length (now t) ⌝ }
     requires { ⌜ wellFormed.constraintsOk (now text) (means.constraintsAt (now t)) ≡ true ⌝ }
     ensures { λ r. ⌜ Wrote (now (out .entry)) (now (out .exit)) at r
-            (print.putConstraints (meaning.constraintMeaning (now (text .entry)) (means.constraintsAt (now (t .entry))))) ⌝ }
+        (print.putConstraints (meaning.constraintMeaning (now (text .entry)) (means.constraintsAt (now (t .entry))))) ⌝ }
 {
     if fields::constraints_present(t) {
         let p = fields::constraints(t);
@@ -79,7 +80,7 @@ fn put_layers(out: &mut [u8], at: usize, text: &[u8], layers: LayerPrefixContent
     requires { ⌜ at ≤ most ⌝ }
     requires { ⌜ wellFormed.layersOk (now text) (means.layers layers) ≡ true ⌝ }
     ensures { λ r. ⌜ Wrote (now (out .entry)) (now (out .exit)) at r
-            (print.putLayers (meaning.layerMeaning (now (text .entry)) (means.layers layers))) ⌝ }
+        (print.putLayers (meaning.layerMeaning (now (text .entry)) (means.layers layers))) ⌝ }
 {
     match layers {
         LayerPrefixContents::None => at,
@@ -125,7 +126,7 @@ fn put_transform(out: &mut [u8], at: usize, text: &[u8], t: &[u8]) -> usize
     put_multiplier(out, next, fields::number(t))
 }
 
-// A pair, each number given by its 32 bits.
+// Prints a pair, each number given by its 32 bits.
 fn put_pair(out: &mut [u8], at: usize, u: u32, d: u32) -> usize
     requires { ⌜ at ≤ most ⌝ }
     ensures { λ r. ⌜ Wrote (now (out .entry)) (now (out .exit)) at r (print.putStep (tree.pair (fromBits 32 u) (fromBits 32 d))) ⌝ }
@@ -138,8 +139,8 @@ fn put_pair(out: &mut [u8], at: usize, u: u32, d: u32) -> usize
     put(out, close, b')')
 }
 
-// Prints the tree into `out` from its start and returns the length of the text, held at 2^63. Where the text does not fit, `out` is
-// only measured against: what stands in it is left open.
+// Prints the tree into `out` from its start and returns the length of the text, capped at 2^63. Where the text does not
+// fit, `out` is only measured against: what stands in it is left open.
 pub fn display(text: &[u8], tree: &[u8], out: &mut [u8]) -> usize
     requires { ⌜ Packed (now tree) ⌝ }
     requires { ⌜ wellFormed.treeOk (now text) (unpack (now tree)) ≡ true ⌝ }
@@ -157,7 +158,7 @@ pub fn node_list(out: &mut [u8], at: usize, text: &[u8], tree: &[u8]) -> usize
     requires { ⌜ Packed (now tree) ⌝ }
     requires { ⌜ wellFormed.treeOk (now text) (unpack (now tree)) ≡ true ⌝ }
     ensures { λ r. ⌜ Wrote (now (out .entry)) (now (out .exit)) at r
-            (print.putNodes (meaning.unspanned (now (text .entry)) (unpack (now (tree .entry))))) ⌝ }
+        (print.putNodes (meaning.unspanned (now (text .entry)) (unpack (now (tree .entry))))) ⌝ }
 {
     let mut t = tree;
     let mut next = at;
@@ -182,7 +183,7 @@ fn leaf(out: &mut [u8], at: usize, text: &[u8], t: &[u8]) -> usize
     requires { ⌜ at ≤ most ⌝ }
     requires { ⌜ GoodLeaf (now text) (now t) ⌝ }
     ensures { λ r. ⌜ ((x : tree.Leaf) → headAt (now (t .entry)) ≡ leafHead x → Wrote (now (out .entry)) (now (out .exit)) at r
-            (print.putStep (meaning.stepOf (now (text .entry)) x))) ⌝ }
+        (print.putStep (meaning.stepOf (now (text .entry)) x))) ⌝ }
 {
     match fields::kind(t) {
         kinds::ROTATION | kinds::MOVE => put_transform(out, at, text, t),
@@ -193,13 +194,13 @@ fn leaf(out: &mut [u8], at: usize, text: &[u8], t: &[u8]) -> usize
     }
 }
 
-// A group, given its bytes.
+// Prints a group, given its bytes.
 fn group(out: &mut [u8], at: usize, text: &[u8], bytes: &[u8]) -> usize
     requires { ⌜ at ≤ most ⌝ }
     requires { ⌜ GoodNode (now text) (now bytes) ⌝ }
     requires { ⌜ means.kindAt (now bytes) ≤ 5 ⌝ }
     ensures { λ r. ⌜ Wrote (now (out .entry)) (now (out .exit)) at r
-            (print.putNodes (meaning.unspanned (now (text .entry)) (unpack (now (bytes .entry))))) ⌝ }
+        (print.putNodes (meaning.unspanned (now (text .entry)) (unpack (now (bytes .entry))))) ⌝ }
 {
     let multiplier = fields::number(bytes);
     let kind = fields::kind(bytes);

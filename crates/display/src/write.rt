@@ -1,5 +1,5 @@
-// Bytes and numbers, written where they fit. Each function takes the place to write at and hands back the place after, so that a
-// run over a part that is too short still measures the text.
+// Bytes and numbers, written where they fit. Each function takes the place to write at and hands back the place after,
+// so that a run over a part that is too short still measures the text.
 ghost use mathlib.Core.Path.{_≡_};
 ghost use mathlib.Core.List.{_∷_, _++_};
 ghost use Prim.Native.Nat.{_-_, _≤_, _%_, min};
@@ -9,22 +9,24 @@ ghost use Rattle.display.specs.Written.{MOST as most, Wrote};
 use numbers::signed::is_negative;
 use numbers::signed::magnitude;
 
-// Places are held here, past the end of every slice, so that no sum wraps.
+// Positions are capped here, past the end of every slice, so that no sum wraps.
 const MOST: usize = 0x8000_0000_0000_0000;
 
+// Caps a position, so that one past every buffer stays there.
 fn cap_position(n: usize) -> usize
     ensures { λ r. ⌜ r ≡ min n most ⌝ }
 {
     if n < MOST { n } else { MOST }
 }
 
-// The bytes of `bytes` from `from` to `to`. They are named by their ends, since a slice that is made for the call is slower to read.
+// The bytes of `bytes` from `from` to `to`. They are named by their ends, since a slice that is made for the call is
+// slower to read.
 pub fn put_between(out: &mut [u8], at: usize, bytes: &[u8], from: usize, to: usize) -> usize
     requires { ⌜ at ≤ most ⌝ }
     requires { ⌜ from ≤ to ⌝ }
     requires { ⌜ to ≤ length (now bytes) ⌝ }
     ensures { λ r. ⌜ Wrote (now (out .entry)) (now (out .exit)) at r
-            (λ rest. take (to - from) (drop from (now (bytes .entry))) ++ rest) ⌝ }
+        (λ rest. take (to - from) (drop from (now (bytes .entry))) ++ rest) ⌝ }
 {
     let end = cap_position(at + (to - from));
     if out.len() < end {
@@ -48,6 +50,7 @@ pub fn put_bytes(out: &mut [u8], at: usize, bytes: &[u8]) -> usize
     put_between(out, at, bytes, 0, bytes.len())
 }
 
+// Puts a byte where it fits, and counts it where it does not.
 pub fn put(out: &mut [u8], at: usize, byte: u8) -> usize
     requires { ⌜ at ≤ most ⌝ }
     ensures { λ r. ⌜ Wrote (now (out .entry)) (now (out .exit)) at r (λ rest. byte ∷ rest) ⌝ }
@@ -59,7 +62,7 @@ pub fn put(out: &mut [u8], at: usize, byte: u8) -> usize
     cap_position(at + 1)
 }
 
-// A number in decimal. Most have one digit.
+// Puts a number in decimal. Most have one digit.
 pub fn put_number(out: &mut [u8], at: usize, n: u32) -> usize
     requires { ⌜ at ≤ most ⌝ }
     ensures { λ r. ⌜ Wrote (now (out .entry)) (now (out .exit)) at r (show n) ⌝ }
@@ -87,6 +90,7 @@ fn put_long_number(out: &mut [u8], at: usize, n: u32) -> usize
     put_between(out, at, &digits, i, 10)
 }
 
+// The byte of a decimal digit.
 fn digit(n: u32) -> u8
     ensures { λ r. ⌜ r ≡ n % 10 ⌝ }
 {

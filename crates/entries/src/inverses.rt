@@ -6,9 +6,9 @@ ghost use lib.ListN.{length};
 ghost use Rattle.laws.specs.Packed.{Packed};
 ghost use Rattle.invert.specs.Nodes.{over};
 ghost use Rattle.entries.specs.Inverses.{refusing, written, ruled};
+use checked::check;
 use notation::answer::Answer;
 use notation::refusals::NO_ROOM;
-use checked::check;
 
 // The inverse whose groups are kept as they are: refusals 1, 2, 6, 8, 5.
 pub fn inv(text: &[u8], tree: &[u8], out: &mut [u8]) -> Answer
@@ -24,6 +24,7 @@ pub fn inv_deep(text: &[u8], tree: &[u8], out: &mut [u8]) -> Answer
     invert(text, tree, true, out)
 }
 
+// Both inverses, by whether groups are entered.
 fn invert(text: &[u8], tree: &[u8], deep: bool, out: &mut [u8]) -> Answer
     ensures { λ r. ⌜ rule.lent r (now (out .exit))
         ≡ rule.lend (ruled deep (now (text .entry)) (now (tree .entry))) (now (out .entry)) ⌝ }
@@ -44,7 +45,7 @@ fn invert(text: &[u8], tree: &[u8], deep: bool, out: &mut [u8]) -> Answer
     Answer::Value(size as u64)
 }
 
-// 0, or the first refusal that the inverse meets.
+// The first refusal that the inverse meets, or 0.
 fn refusal(tree: &[u8], deep: bool) -> u8
     requires { ⌜ Packed (now tree) ⌝ }
     ensures { λ r. ⌜ r ≡ over (refusing deep (unpack (now (tree .entry)))) 0 ⌝ }
@@ -55,6 +56,7 @@ fn refusal(tree: &[u8], deep: bool) -> u8
     invert::inv_refusal(tree)
 }
 
+// Writes the inverse of a tree that has one.
 fn write(tree: &[u8], deep: bool, out: &mut [u8])
     requires { ⌜ Packed (now tree) ⌝ }
     requires { ⌜ length (now out) ≡ length (now tree) ⌝ }

@@ -1,5 +1,5 @@
-// The entries that take a tree: each asks `checked::check` first, and its answer and the final bytes of its buffer are those of its rule in
-// notation/specs/Entries.
+// The entries that take a tree: each asks `checked::check` first, and its answer and the final bytes of its buffer are
+// those of its rule in notation/specs/Entries.
 
 pub mod inverses;
 pub mod parts;

@@ -7,6 +7,7 @@ ghost use Rattle.notation.specs.Entries as rule;
 ghost use Rattle.notation.specs.WellFormed.{inside};
 ghost use Rattle.record.specs.Meaning as means;
 ghost use Rattle.entries.specs.Parts.{partOutcome, Inside, Fits};
+use checked::check;
 use notation::answer::Answer;
 use notation::limits;
 use notation::refusals::NO_SUCH_LAYER_COUNT;
@@ -17,7 +18,6 @@ use record::decode::layers;
 use record::fields;
 use record::kinds;
 use record::spanned::Span;
-use checked::check;
 
 const MAX_LAYER: u32 = limits::MAX_LAYER as u32;
 
@@ -27,8 +27,9 @@ pub enum PartAnswer {
     Refused(u8),
 }
 
-// The layers that the move at a record turns, on an axis of `max_layer` layers, with a tilde those that its prefix without it does not give: the
-// number of ranges, each written as low and high, 16 bits big-endian. Refusals 1, 2, 6, 11, 12, 5.
+// The layers that the move at a record turns, on an axis of `max_layer` layers, with a tilde those that its prefix
+// without it does not give: the number of ranges, each written as low and high, 16 bits big-endian. Refusals 1, 2, 6,
+// 11, 12, 5.
 pub fn simplify(
     text: &[u8],
     tree: &[u8],
@@ -60,10 +61,17 @@ pub fn simplify(
     }
     let inverted = fields::tilde(found);
     let layers = layers(found);
-    simplify::simplify(text, inverted, layers, max_layer as u16, allow_negatives, out)
+    simplify::simplify(
+        text,
+        inverted,
+        layers,
+        max_layer as u16,
+        allow_negatives,
+        out,
+    )
 }
 
-// A refusal that `check` answers, as the refusal of a part.
+// Turns a refusal that `check` answers into the refusal of a part.
 fn no_part(answer: Answer) -> PartAnswer
     ensures { λ r. ⌜ ((n : ℕ) → rule.outcome answer ≡ refusal n → r ≡ PartAnswer.Refused n) ⌝ }
 {

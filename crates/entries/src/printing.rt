@@ -1,9 +1,9 @@
 // A tree as text.
 ghost use mathlib.Core.Path.{_≡_};
 ghost use Rattle.notation.specs.Entries as rule;
+use checked::check;
 use notation::answer::Answer;
 use notation::refusals::NO_ROOM;
-use checked::check;
 
 // Refusals 1, 2, 6, 5. Where the buffer may be too short, a first run has no room and only measures.
 pub fn display(text: &[u8], tree: &[u8], out: &mut [u8]) -> Answer

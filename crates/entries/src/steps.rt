@@ -4,6 +4,7 @@ ghost use Prim.Native.Nat.{ℕ};
 ghost use Rattle.notation.specs.Refusals.{result};
 ghost use Rattle.notation.specs.Entries as rule;
 ghost use Rattle.checked.specs.Checked.{Counted};
+use checked::check;
 use expand::visit::visit;
 use notation::answer::Answer;
 use notation::limits::MAX_STEPS;
@@ -11,7 +12,6 @@ use notation::refusals::NO_ROOM;
 use notation::refusals::NO_SUCH_PLACE;
 use notation::refusals::TOO_MANY_STEPS;
 use record::RECORD;
-use checked::check;
 
 // How many steps a tree unrolls into: refusals 1, 2, 6, 7 or 8, 9.
 pub fn count_steps(text: &[u8], tree: &[u8]) -> Answer

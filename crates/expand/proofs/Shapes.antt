@@ -121,7 +121,7 @@ binary-body {k} {m} {n} s h low = go n s
     go (block (group g a) m) (isGroup l q) = absurd (omega arith)
     go (block (binaryGroup g a b) m) (isBinary l l′ q) = rw q
 
--- The record stores the count of the node, held.
+-- The record stores the count of the node, capped.
 pub first-stored : {bs : List ℕ} {e : ℕ} (f : FirstNode bs e) → field COUNT bs ≡ stored (f .node)
 first-stored {bs} {e} f = sym (front-field bs e (f .least) 11) ∙ fields-of (f .isNode) 11 ∙ head-stored (f .node)
 

@@ -37,7 +37,8 @@ pub data All (P : Leaf → Type 0) : List Leaf → Type 0 where
   none : All P []
   one : {x : Leaf} {l : List Leaf} → P x → All P l → All P (x ∷ l)
 
--- the steps whose records bytes are, with the numbers that the records have: what the bytes unroll into, since a list of steps unrolls into itself
+-- the steps whose records bytes are, with the numbers that the records have: what the bytes unroll into, since a list of steps
+-- unrolls into itself
 abbrev pub asSteps : List ℕ → List Leaf
 asSteps bs = flat undo false (unpack bs)
 

@@ -10,6 +10,7 @@ use record::RECORD;
 use record::fields;
 use record::kinds;
 
+// Adds up how many steps the nodes of a list have.
 pub fn count(list: &[u8]) -> u64
     requires { ⌜ Packed (now list) ⌝ }
     requires { ⌜ rule.count (unpack (now list)) ≤ MAX-STEPS ⌝ }

@@ -1,4 +1,5 @@
-// Unrolling a tree into a buffer, forward only: what stands inverted is written forward, turned round where it lies and undone.
+// Unrolling a tree into a buffer, forward only: what stands inverted is written forward, turned round where it lies and
+// undone.
 ghost use mathlib.Core.Path.{_≡_};
 ghost use mathlib.Core.Bool.{false};
 ghost use mathlib.Core.List.{_++_};
@@ -15,7 +16,8 @@ ghost use Rattle.laws.specs.Packed.{Packed};
 ghost use Rattle.laws.specs.Unrolled.{backwards, flat};
 ghost use Rattle.notation.specs.Counts.{count};
 ghost use Rattle.nodes.specs.Nodes.{part};
-ghost use Rattle.expand.specs.Steps.{asSteps, AreSteps, WroteSteps, IsGroup, completed, repeats, BothLists, Room, lastOf, undoneRecord};
+ghost use Rattle.expand.specs.Steps.{asSteps, AreSteps, BothLists, IsGroup, Room, WroteSteps};
+ghost use Rattle.expand.specs.Steps.{completed, lastOf, repeats, undoneRecord};
 use nodes::first_end;
 use nodes::node_end;
 use numbers::signed::is_negative;
@@ -53,7 +55,7 @@ pub fn flatten(tree: &[u8], out: &mut [u8]) -> usize
     at
 }
 
-// The same of a group, given its bytes, that has steps.
+// Writes the steps of a group, given its bytes, that has some, and answers their size in bytes.
 fn flatten_node(node: &[u8], out: &mut [u8]) -> usize
     requires { ⌜ IsGroup (now node) ⌝ }
     requires { ⌜ 0 < count (unpack (now node)) ⌝ }
@@ -72,11 +74,11 @@ fn flatten_node(node: &[u8], out: &mut [u8]) -> usize
     repeat_block(out, size, multiplier)
 }
 
-// A and B stand at the front: writes A' and, of a commutator, B' behind them.
+// Completes a binary group whose lists A and B stand at the front: writes A' and, of a commutator, B' behind them.
 fn complete_binary(out: &mut [u8], commutator: bool, a: usize, b: usize) -> usize
     requires { ⌜ BothLists (now out) commutator a b ⌝ }
     ensures { λ r. ⌜ WroteSteps (now (out .entry)) (now (out .exit))
-            (completed commutator (asSteps (take a (now (out .entry)))) (asSteps (take b (drop a (now (out .entry)))))) r ⌝ }
+        (completed commutator (asSteps (take a (now (out .entry)))) (asSteps (take b (drop a (now (out .entry)))))) r ⌝ }
 {
     let size = a + b;
     let third = size + a;
@@ -92,11 +94,12 @@ fn complete_binary(out: &mut [u8], commutator: bool, a: usize, b: usize) -> usiz
     third
 }
 
-// The contents of a group stand in the first `size` bytes: turns them round if the multiplier is negative, and repeats them.
+// The contents of a group stand in the first `size` bytes: turns them round if the multiplier is negative, and repeats
+// them.
 fn repeat_block(out: &mut [u8], size: usize, multiplier: u32) -> usize
     requires { ⌜ Room (now out) size (natAbs (fromBits 32 multiplier)) ⌝ }
     ensures { λ r. ⌜ WroteSteps (now (out .entry)) (now (out .exit))
-            (repeats (fromBits 32 multiplier) (asSteps (take size (now (out .entry))))) r ⌝ }
+        (repeats (fromBits 32 multiplier) (asSteps (take size (now (out .entry))))) r ⌝ }
 {
     let total = size * (magnitude(multiplier) as usize);
     if is_negative(multiplier) {
@@ -112,7 +115,7 @@ fn repeat_block(out: &mut [u8], size: usize, multiplier: u32) -> usize
 fn repeat(out: &mut [u8], size: usize, total: usize)
     requires { ⌜ (size ≤ total) × (total ≤ length (now out)) ⌝ }
     ensures { λ _. ⌜ ((n : ℕ) → total ≤ n * size → now (out .exit) ≡ take total (copies n (take size (now (out .entry)))) ++
-            drop total (now (out .entry))) ⌝ }
+        drop total (now (out .entry))) ⌝ }
 {
     let mut i = size;
     while i < total {
@@ -139,13 +142,14 @@ fn turn(steps: &mut [u8])
     }
 }
 
-// The first and the last of two records or more change places, each undone. Both are held apart, since a slice is not read while a part of it is written.
+// The first and the last of two records or more change places, each undone. Both are copied first, since a slice is not
+// read while a part of it is written.
 fn exchange_ends(steps: &mut [u8])
     requires { ⌜ recordSize + recordSize ≤ length (now steps) ⌝ }
     requires { ⌜ StartsRecord (now steps) × StartsRecord (lastOf (now steps)) ⌝ }
     ensures { λ _. ⌜ now (steps .exit)
         ≡ undoneRecord (lastOf (now (steps .entry))) ++
-                (part recordSize (length (now (steps .entry)) - recordSize) (now (steps .entry)) ++ undoneRecord (now (steps .entry))) ⌝ }
+        (part recordSize (length (now (steps .entry)) - recordSize) (now (steps .entry)) ++ undoneRecord (now (steps .entry))) ⌝ }
 {
     let to = steps.len() - RECORD;
     let mut first = [0; RECORD];

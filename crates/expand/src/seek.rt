@@ -1,5 +1,6 @@
-// The step at a place of the unrolled list, found in one loop: nodes before the place are passed by the counts that they store, and of a group that has
-// the place a list is entered. The time depends neither on the number of steps nor on what stands inside a group that is passed.
+// The step at a place of the unrolled list, found in one loop: nodes before the place are passed by the counts that they
+// store, and of a group that has the place a list is entered. The time depends neither on the number of steps nor on
+// what stands inside a group that is passed.
 ghost use mathlib.Core.Path.{_≡_};
 ghost use mathlib.Core.List.{_++_};
 ghost use mathlib.Core.Option.{Option};
@@ -69,7 +70,8 @@ fn enter(group: &[u8], steps: u64, place: &mut u64, inverted: &mut bool) -> bool
     requires { ⌜ IsGroup (now group) × Has (now group) (now place) ⌝ }
     requires { ⌜ steps ≡ count (unpack (now group)) ⌝ }
     ensures { λ r. ⌜ ((sought : Option Leaf) (middle : ℕ) → Lists (now (group .entry)) middle →
-        Sought sought (now (group .entry)) (now (place .entry)) (now (inverted .entry)) → Sought sought (listOf r middle (now (group .entry))) (now (place .exit)) (now (inverted .exit))) ⌝ }
+        Sought sought (now (group .entry)) (now (place .entry)) (now (inverted .entry)) →
+        Sought sought (listOf r middle (now (group .entry))) (now (place .exit)) (now (inverted .exit))) ⌝ }
 {
     let kind = fields::kind(group);
     let multiplier = fields::number(group);
@@ -108,7 +110,7 @@ fn write_step(from: &[u8], inverted: bool, step: &mut [u8])
     requires { ⌜ ((x : Leaf) × (Undoable x × (now from ≡ leafRecord x))) ⌝ }
     requires { ⌜ (length (now from) ≡ recordSize) × (recordSize ≤ length (now step)) ⌝ }
     ensures { λ _. ⌜ ((x : Leaf) → Undoable x → now (from .entry) ≡ leafRecord x → now (step .exit) ≡ leafRecord
-            (pick inverted (undo x) x) ++ drop recordSize (now (step .entry))) ⌝ }
+        (pick inverted (undo x) x) ++ drop recordSize (now (step .entry))) ⌝ }
 {
     copy_record(from, step);
     if inverted {

@@ -32,7 +32,7 @@ const NONE: Refusals = Refusals {
     backward: 0,
 };
 
-// Of a tree.
+// The first refusals of a tree.
 pub fn visit(tree: &[u8]) -> Refusals
     requires { ⌜ Packed (now tree) ⌝ }
     ensures { λ r. ⌜ refuses r ≡ (λ (d : Bool). unrolling.firstRefusal d (unpack (now (tree .entry)))) ⌝ }
@@ -54,7 +54,8 @@ pub fn visit(tree: &[u8]) -> Refusals
     met
 }
 
-// Of a group, given its bytes. A NISS group is refused even at multiplier 0; what is repeated 0 times is never reached.
+// The first refusals of a group, given its bytes. A NISS group is refused even at multiplier 0; what is repeated 0 times is
+// never reached.
 fn visit_node(node: &[u8]) -> Refusals
     requires { ⌜ IsGroup (now node) ⌝ }
     ensures { λ r. ⌜ refuses r ≡ (λ (d : Bool). unrolling.firstRefusal d (unpack (now (node .entry)))) ⌝ }
@@ -79,6 +80,7 @@ fn visit_node(node: &[u8]) -> Refusals
     turned(multiplier, of_binary(kind == kinds::COMMUTATOR, a, b))
 }
 
+// The refusals of a leaf: only one that overflows causes any, and only where it is to be undone.
 fn of_leaf(overflows: bool) -> Refusals
     ensures { λ r. ⌜ refuses r ≡ leafRefuses overflows ⌝ }
 {
@@ -89,13 +91,14 @@ fn of_leaf(overflows: bool) -> Refusals
     }
 }
 
+// The first of two refusals, where 0 is none.
 fn first(a: u8, b: u8) -> u8
     ensures { λ r. ⌜ refusalOf r ≡ unrolling.first (refusalOf a) (refusalOf b) ⌝ }
 {
     if a == 0 { b } else { a }
 }
 
-// Of one list after another.
+// The refusals of one list after another: backward, the second comes first.
 fn join(a: Refusals, b: Refusals) -> Refusals
     ensures { λ r. ⌜ refuses r ≡ (λ (d : Bool). unrolling.firstInOrder d (refuses a d) (refuses b d)) ⌝ }
 {
@@ -105,7 +108,7 @@ fn join(a: Refusals, b: Refusals) -> Refusals
     }
 }
 
-// Of a commutator or a conjugate, by its two lists.
+// The refusals of a commutator or a conjugate, by those of its two lists.
 fn of_binary(commutator: bool, a: Refusals, b: Refusals) -> Refusals
     ensures { λ r. ⌜ refuses r ≡ (λ (d : Bool). unrolling.refusalBinary (binaryKind commutator) d (refuses a) (refuses b)) ⌝ }
 {
@@ -121,7 +124,7 @@ fn of_binary(commutator: bool, a: Refusals, b: Refusals) -> Refusals
     }
 }
 
-// Of contents that a negative multiplier turns round.
+// The refusals of a group's contents, which a negative multiplier turns round.
 fn turned(multiplier: u32, inside: Refusals) -> Refusals
     ensures { λ r. ⌜ refuses r ≡ (λ (d : Bool). refuses inside (turnedBy (fromBits 32 multiplier) d)) ⌝ }
 {

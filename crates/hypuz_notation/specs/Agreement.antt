@@ -17,7 +17,8 @@ use Rattle.notation.specs.declared.features.Features.{Features}
 use Rattle.notation.specs.declared.answer.Answer.{Answer}
 use Rattle.hypuz_notation.specs.declared.agreement.Agreement.{Agreement}
 
--- The bytes of the buffers lent: for the text's tree, the inverse, that as text, that text's tree, the step at the place and the one undone.
+-- The bytes of the buffers lent: for the text's tree, the inverse, that as text, that text's tree, the step at the place and the
+-- one undone.
 pub record Buffers : Type 0 where
   pub tree : List ℕ
   pub inverse : List ℕ
@@ -42,8 +43,8 @@ pub record Run (f : Features) (text : List ℕ) (k : ℕ) (r : Agreement) (befor
   pub undoes : lent (r .undone) (after .undone) ≡
       seekStep (front (r .printed) (after .printed)) (front (r .back) (after .back)) (value (outcome (r .count)) - suc k) (before .undone)
 
--- What demand 3 assumes: a text that is accepted and unrolls into a countable list of steps that can be undone, whose inverse as text is not
--- too long, and buffers that suffice for trees and texts.
+-- What demand 3 assumes: a text that is accepted and unrolls into a countable list of steps that can be undone, whose inverse as
+-- text is not too long, and buffers that suffice for trees and texts.
 pub record Assumed (f : Features) (text tree : List ℕ) (list : List Leaf) (before : Buffers) : Type 0 where
   pub unrollable : Unrollable f text tree list
   pub notLong : AtMost MAX-TEXT (printedInverse text tree)
@@ -57,8 +58,9 @@ abbrev pub Found : Leaf → Answer → List ℕ → List ℕ → Type 0
 Found x a before after =
     RECORD ≤ length before → lent a after ≡ record { answer = result RECORD; buffer = leafRecord x ++ drop RECORD before }
 
--- What it demands: no entry refuses to read, invert, print, read back or count; both texts count n; seeking k finds entry k of the unrolled list;
--- seeking n − 1 − k in the inverse read back finds that entry of its own unrolled list, the same step as entry k undone.
+-- What it demands: no entry refuses to read, invert, print, read back or count; both texts count n; seeking k finds entry k of
+-- the unrolled list; seeking n − 1 − k in the inverse read back finds that entry of its own unrolled list, the same step as
+-- entry k undone.
 pub record Demanded (text : List ℕ) (list : List Leaf) (k : ℕ) (r : Agreement) (before after : Buffers) : Type 0 where
   pub read : (n : ℕ) × (outcome (r .read) ≡ result n)
   pub inverted : (n : ℕ) × (outcome (r .inverse) ≡ result n)

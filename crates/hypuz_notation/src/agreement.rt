@@ -54,8 +54,9 @@ fn from_end(count: Answer, place: u64) -> u64
     n - 1 - place
 }
 
-// Reads a text, inverts it, prints the inverse and reads that back under the same setting, counts both, and seeks the step at a place and
-// the one at the same place from the end of the inverse. No entry is left out when one before it refuses: it then has an empty tree or text.
+// Reads a text, inverts it, prints the inverse and reads that back under the same setting, counts both, and seeks the
+// step at a place and the one at the same place from the end of the inverse. No entry is left out when one before it
+// refuses: it then has an empty tree or text.
 pub fn agree(
     text: &[u8],
     features: Features,
@@ -69,12 +70,20 @@ pub fn agree(
 ) -> Agreement
     ensures { λ r. ⌜ Agreed features (now (text .entry)) place r
         (record {
-          tree = now (tree .entry); inverse = now (inverse .entry); printed = now (printed .entry);
-          back = now (back .entry); step = now (step .entry); undone = now (undone .entry)
+          tree = now (tree .entry);
+          inverse = now (inverse .entry);
+          printed = now (printed .entry);
+          back = now (back .entry);
+          step = now (step .entry);
+          undone = now (undone .entry);
         })
         (record {
-          tree = now (tree .exit); inverse = now (inverse .exit); printed = now (printed .exit);
-          back = now (back .exit); step = now (step .exit); undone = now (undone .exit)
+          tree = now (tree .exit);
+          inverse = now (inverse .exit);
+          printed = now (printed .exit);
+          back = now (back .exit);
+          step = now (step .exit);
+          undone = now (undone .exit);
         }) ⌝ }
 {
     let read = parse_notation(text, features, tree);

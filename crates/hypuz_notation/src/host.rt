@@ -1,5 +1,6 @@
-// The entries for a host that calls from C (include/hypuz_notation.h): byte slices and numbers only. Each answers one number, the refusal's
-// number times 2^56 plus the value modulo 2^56, which no value reaches (specs/Host of `notation`: `Lossless`).
+// The entries for a host that calls from C (include/hypuz_notation.h): byte slices and numbers only. Each answers one
+// number, the refusal's number times 2^56 plus the value modulo 2^56, which no value reaches (specs/Host of `notation`:
+// `Lossless`).
 ghost use mathlib.Core.Path.{_≡_};
 ghost use mathlib.Core.Bool.{not};
 ghost use lib.Dec.{eqb};
@@ -25,6 +26,7 @@ const VALUES: u64 = 72057594037927936;
 // 2^24
 const PART: u64 = 16777216;
 
+// An answer as one number.
 fn code(answer: Answer) -> u64
     ensures { λ r. ⌜ r ≡ coded (rule.outcome answer) ⌝ }
 {
@@ -37,7 +39,8 @@ fn code(answer: Answer) -> u64
 // Bytes used. Bits 0 to 7 of features are the flags in the order of the header; higher bits are ignored.
 #[no_mangle]
 pub extern "C" fn hypuz_parse_notation(text: &[u8], features: u32, tree: &mut [u8]) -> u64
-    ensures { λ r. ⌜ Hands r (now (tree .exit)) (rule.parseNotation (flags.ofBits features) (now (text .entry)) (now (tree .entry))) ⌝ }
+    ensures { λ r. ⌜ Hands r (now (tree .exit))
+        (rule.parseNotation (flags.ofBits features) (now (text .entry)) (now (tree .entry))) ⌝ }
 {
     code(parse_notation(text, features::from_bits(features), tree))
 }
@@ -101,7 +104,7 @@ pub extern "C" fn hypuz_simplify(
     out: &mut [u8],
 ) -> u64
     ensures { λ r. ⌜ Hands r (now (out .exit)) (rule.simplifyBytes (now (text .entry)) (now (tree .entry)) «record» «max_layer»
-            (not (eqb «allow_negatives» 0)) (now (out .entry))) ⌝ }
+        (not (eqb «allow_negatives» 0)) (now (out .entry))) ⌝ }
 {
     let negatives = allow_negatives != 0;
     code(simplify(text, tree, record, max_layer, negatives, out))

@@ -1,5 +1,5 @@
-// The public entries by the Rust's names, and what is said of them together: that they agree about a text (demand 3), and what a host
-// that calls from C is handed.
+// The public entries by the Rust's names, and what is said of them together: that they agree about a text (demand 3),
+// and what a host that calls from C is handed.
 
 pub mod agreement;
 pub mod host;

@@ -1,5 +1,5 @@
-// Both inverses of a packed tree (invert.rs and the `Invert` impls). A packed list can only be walked forwards, so each node is
-// written at its place counted from the end.
+// Both inverses of a packed tree (invert.rs and the `Invert` impls). A packed list can only be walked forwards, so each
+// node is written at its place counted from the end.
 
 pub mod parts;
 pub mod refusal;
@@ -26,7 +26,7 @@ use record::kinds;
 use record::undo::undo_record;
 use refusal::pair_refusal;
 
-// 0, or 8 where a node of the outer list is a pair that has no inverse.
+// The refusal of the shallow inverse: 8 where a node of the outer list is a pair that has no opposite, else 0.
 pub fn inv_refusal(tree: &[u8]) -> u8
     requires { ⌜ Packed (now tree) ⌝ }
     ensures { λ r. ⌜ r ≡ over (invRefusal (unpack (now (tree .entry)))) 0 ⌝ }
@@ -41,7 +41,7 @@ pub fn inv_refusal(tree: &[u8]) -> u8
     found
 }
 
-// 0, or the first refusal that the deep inverse meets from the last node to the first.
+// The first refusal that the deep inverse meets from the last node to the first, or 0.
 pub fn inv_deep_refusal(tree: &[u8]) -> u8
     requires { ⌜ Packed (now tree) ⌝ }
     ensures { λ r. ⌜ r ≡ over (deepRefusal (unpack (now (tree .entry)))) 0 ⌝ }
@@ -49,7 +49,8 @@ pub fn inv_deep_refusal(tree: &[u8]) -> u8
     list_refusal(tree, 0)
 }
 
-// A later node's refusal replaces an earlier one, and any of them what was found before the list.
+// The refusal of a list, or what was found before it. A later node's refusal replaces an earlier one: the walk goes
+// forwards, the rule backwards.
 fn list_refusal(tree: &[u8], before: u8) -> u8
     requires { ⌜ Packed (now tree) ⌝ }
     ensures { λ r. ⌜ r ≡ over (deepRefusal (unpack (now (tree .entry)))) before ⌝ }
@@ -64,7 +65,7 @@ fn list_refusal(tree: &[u8], before: u8) -> u8
     found
 }
 
-// Of a commutator no list is entered, of a conjugate the second.
+// The refusal of a node, or what was found before it. Of a commutator no list is entered, of a conjugate the second.
 fn node_refusal(node: &[u8], before: u8) -> u8
     requires { ⌜ ((n : Node Leaf) × IsNode (now node) n) ⌝ }
     ensures { λ r. ⌜ r ≡ over (deepRefusal (unpack (now (node .entry)))) before ⌝ }
@@ -101,7 +102,7 @@ pub fn inv_deep(tree: &[u8], out: &mut [u8])
     invert(tree, out, true);
 }
 
-// Both: they differ only in what is done to a group.
+// Writes either inverse: they differ only in what is done to a group.
 fn invert(tree: &[u8], out: &mut [u8], deep: bool)
     requires { ⌜ Packed (now tree) ⌝ }
     requires { ⌜ length (now out) ≡ length (now tree) ⌝ }
@@ -126,7 +127,8 @@ fn invert(tree: &[u8], out: &mut [u8], deep: bool)
     }
 }
 
-// Of a group. Deep, its contents are inverted and its multiplier is kept; shallow, it is the other way round.
+// Writes the inverse of a group. Deep, its contents are inverted and its multiplier is kept; shallow, it is the other
+// way round.
 fn invert_group(node: &[u8], out: &mut [u8], deep: bool)
     requires { ⌜ ((n : Node Leaf) × IsNode (now node) n) ⌝ }
     requires { ⌜ kindAt (now node) ≤ 5 ⌝ }
@@ -146,7 +148,7 @@ fn invert_group(node: &[u8], out: &mut [u8], deep: bool)
     inv_node(node, out);
 }
 
-// Of a leaf, whose one record is copied as such: that is quicker than a copy of any length.
+// Writes the inverse of a leaf, whose one record is copied as such: that is quicker than a copy of any length.
 fn inv_leaf(node: &[u8], out: &mut [u8])
     requires { ⌜ ((n : Node Leaf) × IsNode (now node) n) ⌝ }
     requires { ⌜ (length (now node) ≡ recordSize) × (length (now out) ≡ length (now node)) ⌝ }
@@ -156,7 +158,7 @@ fn inv_leaf(node: &[u8], out: &mut [u8])
     undo_record(out);
 }
 
-// Of a group as a whole.
+// Writes the shallow inverse of a group, given its bytes.
 fn inv_node(node: &[u8], out: &mut [u8])
     requires { ⌜ ((n : Node Leaf) × IsNode (now node) n) ⌝ }
     requires { ⌜ length (now out) ≡ length (now node) ⌝ }
@@ -166,7 +168,7 @@ fn inv_node(node: &[u8], out: &mut [u8])
     undo_record(out);
 }
 
-// A commutator's inverse: its lists exchanged.
+// Writes the deep inverse of a commutator: its lists exchanged.
 fn exchange_lists(node: &[u8], out: &mut [u8])
     requires { ⌜ ((n : Node Leaf) × IsNode (now node) n) ⌝ }
     requires { ⌜ kindAt (now node) ≡ 4 ⌝ }

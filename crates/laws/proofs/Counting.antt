@@ -1,4 +1,4 @@
--- Counting without unrolling, by multiplication: what a record stores is the held length of what its node unrolls into. Assumes nothing.
+-- Counting without unrolling, by multiplication: what a record stores is the capped length of what its node unrolls into. Assumes nothing.
 use Prim.Native.Nat.{ℕ, zero, suc, _+_, _*_, _≤_, _<_}
 use mathlib.Core.Path.{_≡_, refl, sym, ap, ap₂, _∙_}
 use mathlib.Core.Bool.{Bool, true, false}
@@ -50,7 +50,7 @@ mutual
   count-is (cons n l) d =
       length-order d (flatNode undo d n) (flat undo d l) ∙ ap₂ (λ (a b : ℕ). a + b) (countNode-is n d) (count-is l d)
 
--- Held sums and products come to what holding the whole comes to.
+-- Capped sums and products come to what capping the whole comes to.
 pub cap-times : (n c : ℕ) → cap (n * cap c) ≡ cap (n * c)
 cap-times zero c = rw (zero-mul (cap c), zero-mul c)
 cap-times (suc k) c = go (leb c CAP) refl
@@ -69,7 +69,7 @@ pub cap-binary : (k : BinaryGroupKind) (a b : ℕ) → cap (countBinary k (cap a
 cap-binary Commutator a b = omega arith
 cap-binary Conjugate a b = omega arith
 
--- The law of the field: whichever way the node is walked, it is the held length of the plain list. Where the node unrolls that is the unrolled list;
+-- The law of the field: whichever way the node is walked, it is the capped length of the plain list. Where the node unrolls that is the unrolled list;
 -- where it does not, the list without what NISS groups hold, each step that cannot be undone still being one.
 pub stored-is : (n : Node Leaf) (d : Bool) → stored n ≡ cap (length (flatNode undo d n))
 stored-is n d = ap cap (sym (countNode-is n d))

@@ -1,4 +1,5 @@
--- Both inverses without refusals, and the first refusal of each apart: `inv-is` and `invDeep-is` (proofs/Inverses) say that the rules of specs/Invert are the two together.
+-- Both inverses without refusals, and the first refusal of each apart: `inv-is` and `invDeep-is` (proofs/Inverses) say that the
+-- rules of specs/Invert are the two together.
 use Prim.Native.Nat.{ℕ}
 use mathlib.Core.Option.{Option, none, some}
 use lib.IntN.{negℤ}

@@ -1,4 +1,5 @@
--- Unrolling without refusals, and the first refusal apart: `flatten-is` (proofs/Unrolling) says that the rule of specs/Unroll is the two together.
+-- Unrolling without refusals, and the first refusal apart: `flatten-is` (proofs/Unrolling) says that the rule of specs/Unroll is
+-- the two together.
 use Prim.Native.Nat.{ℕ, zero, suc}
 use mathlib.Core.Bool.{Bool, true, false, _&&_}
 use mathlib.Core.List.{List, [], _∷_, _++_, map, reverse}

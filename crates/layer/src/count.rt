@@ -49,7 +49,7 @@ impl AxisLayersInfo {
         }
     }
 
-    // The same, telling by which side a layer is out of range.
+    // The layer counted from the shallowest, or by which side the axis has no such layer.
     pub fn resolve_unclamped(self, layer: SignedLayer) -> UnclampedLayer
         requires { ⌜ self .«max_layer» ≤ rule.MAX-LAYER ⌝ }
         requires { ⌜ meaning.IsSignedLayer layer ⌝ }
@@ -70,7 +70,8 @@ impl AxisLayersInfo {
         }
     }
 
-    // The range between two layers as far as the axis has it; none where both ends lie beyond the same side or one is invalid.
+    // The range between two layers as far as the axis has it; none where both ends lie beyond the same side or one is
+    // invalid.
     pub fn resolve_range(self, a: SignedLayer, b: SignedLayer) -> LayerRangeOption
         requires { ⌜ meaning.IsLayer (self .«max_layer») ⌝ }
         requires { ⌜ meaning.IsSignedLayer a ⌝ }

@@ -19,7 +19,7 @@ pub enum LayerRangeOption {
 }
 
 impl LayerRange {
-    // From one layer to the other, in either order.
+    // The range from one layer to the other, in either order.
     pub fn new(a: Layer, b: Layer) -> LayerRange
         requires { ⌜ meaning.IsLayer (meaning.layer a) ⌝ }
         requires { ⌜ meaning.IsLayer (meaning.layer b) ⌝ }
@@ -50,12 +50,14 @@ impl LayerRange {
     }
 }
 
+// The shallower of two layers.
 fn shallower(a: Layer, b: Layer) -> Layer
     ensures { λ r. ⌜ meaning.layer r ≡ min (meaning.layer a) (meaning.layer b) ⌝ }
 {
     if a.0 <= b.0 { a } else { b }
 }
 
+// The deeper of two layers.
 fn deeper(a: Layer, b: Layer) -> Layer
     ensures { λ r. ⌜ meaning.layer r ≡ max (meaning.layer a) (meaning.layer b) ⌝ }
 {

@@ -36,7 +36,8 @@ impl Layer {
         }
     }
 
-    // The layer nearest to `i`. At 0 the Rust takes `NonZeroI16::MIN`, which is -32,768, against its own comment; this gives 1.
+    // The layer nearest to `i`. At 0 the Rust takes `NonZeroI16::MIN`, which is -32,768, against its own comment; this
+    // gives 1.
     pub fn new_clamped(i: u16) -> Layer
         ensures { λ r. ⌜ meaning.layer r ≡ meaning.clampLayer i ⌝ }
         ensures { λ r. ⌜ meaning.IsLayer (meaning.layer r) ⌝ }

@@ -1,4 +1,5 @@
-// The lister: reads a line that names the features and a text, and writes the text, its inverse and its steps (document 01).
+// The lister: reads a line that names the features and a text, and writes the text, its inverse and its steps (document
+// 01).
 
 use libc::STDIN_FILENO;
 use libc::STDOUT_FILENO;

@@ -19,6 +19,7 @@ ghost use Rattle.laws.specs.Unrolled.{flat};
 ghost use Rattle.checked.specs.Checked.{Counted};
 ghost use Rattle.display.specs.Written.{MOST as most, Wrote};
 ghost use Rattle.listing.specs.Listing.{MAX-TREE as maxTree};
+use checked::check;
 use display::unspanned::node_list;
 use display::write::put;
 use display::write::put_bytes;
@@ -26,13 +27,13 @@ use display::write::put_number;
 use expand::seek::seek;
 use notation::answer::Answer;
 use record::RECORD;
-use checked::check;
 
 // Bytes of a text that is listed, and of its tree, which has at most a record for each of them.
 pub const MAX_INPUT: usize = 3072;
+
 pub const MAX_TREE: usize = RECORD * MAX_INPUT;
 
-// A line whose field is a refusal.
+// Writes a line whose field is a refusal.
 pub fn refused_line(out: &mut [u8], at: usize, label: &[u8], number: u8) -> usize
     requires { ⌜ at ≤ most ⌝ }
     ensures { λ r. ⌜ Wrote (now (out .entry)) (now (out .exit)) at r (rule.line (now (label .entry)) (rule.field (refusal number))) ⌝ }
@@ -43,7 +44,7 @@ pub fn refused_line(out: &mut [u8], at: usize, label: &[u8], number: u8) -> usiz
     put(out, end, b'\n')
 }
 
-// A line whose field is a number.
+// Writes a line whose field is a number.
 pub fn number_line(out: &mut [u8], at: usize, label: &[u8], n: u32) -> usize
     requires { ⌜ at ≤ most ⌝ }
     ensures { λ r. ⌜ Wrote (now (out .entry)) (now (out .exit)) at r (rule.line (now (label .entry)) (show n [])) ⌝ }
@@ -54,11 +55,11 @@ pub fn number_line(out: &mut [u8], at: usize, label: &[u8], n: u32) -> usize
     put(out, end, b'\n')
 }
 
-// A line whose field is a tree, or the refusal of one that is not well formed.
+// Writes a line whose field is a tree, or the refusal of one that is not well formed.
 pub fn tree_line(out: &mut [u8], at: usize, label: &[u8], text: &[u8], tree: &[u8]) -> usize
     requires { ⌜ at ≤ most ⌝ }
     ensures { λ r. ⌜ Wrote (now (out .entry)) (now (out .exit)) at r
-            (rule.line (now (label .entry)) (rule.field (entries.display (now (text .entry)) (now (tree .entry))))) ⌝ }
+        (rule.line (now (label .entry)) (rule.field (entries.display (now (text .entry)) (now (tree .entry))))) ⌝ }
 {
     match check(text, tree) {
         Answer::Value(_) => {
@@ -71,12 +72,12 @@ pub fn tree_line(out: &mut [u8], at: usize, label: &[u8], text: &[u8], tree: &[u
     }
 }
 
-// The line of the shallow inverse.
+// Writes the line of the shallow inverse.
 pub fn inverse_line(out: &mut [u8], at: usize, label: &[u8], text: &[u8], tree: &[u8]) -> usize
     requires { ⌜ at ≤ most ⌝ }
     requires { ⌜ length (now tree) ≤ maxTree ⌝ }
     ensures { λ r. ⌜ Wrote (now (out .entry)) (now (out .exit)) at r
-            (rule.line (now (label .entry)) (rule.field (printedInverse (now (text .entry)) (now (tree .entry))))) ⌝ }
+        (rule.line (now (label .entry)) (rule.field (printedInverse (now (text .entry)) (now (tree .entry))))) ⌝ }
 {
     let mut inverse = [0u8; MAX_TREE];
     match entries::inv(text, tree, &mut inverse) {
@@ -88,7 +89,7 @@ pub fn inverse_line(out: &mut [u8], at: usize, label: &[u8], text: &[u8], tree: 
     }
 }
 
-// The line of the step at a place: its record is found, and printed as a list of one node.
+// Writes the line of the step at a place: its record is found, and printed as a list of one node.
 pub fn step_line(out: &mut [u8], at: usize, text: &[u8], tree: &[u8], place: u64) -> usize
     requires { ⌜ at ≤ most ⌝ }
     requires { ⌜ ((n : ℕ) × Counted (now text) (now tree) n × (place < n)) ⌝ }

@@ -34,7 +34,8 @@ const SHOWN: u64 = 1000;
 // Bytes of the first line of an input, which names the features.
 const FIRST_LINE: usize = 2;
 
-// Bytes of an input that are worth reading: one more than the longest that is listed, so that a longer one is seen to be one.
+// Bytes of an input that are worth reading: one more than the longest that is listed, so that a longer one is seen to be
+// one.
 pub const MAX_READ: usize = FIRST_LINE + MAX_INPUT + 1;
 
 // Bytes that hold every listing.
@@ -61,7 +62,7 @@ pub fn list(input: &[u8], out: &mut [u8]) -> Answer
     Answer::Value(size as u64)
 }
 
-// The first line names the features.
+// Writes the listing of an input, whose first line names the features.
 fn put_input(out: &mut [u8], input: &[u8]) -> usize
     ensures { λ r. ⌜ Wrote (now (out .entry)) (now (out .exit)) 0 r (λ rest. rule.lister (now (input .entry)) ++ rest) ⌝ }
 {
@@ -80,7 +81,7 @@ fn put_input(out: &mut [u8], input: &[u8]) -> usize
     put_bytes(out, 0, b"refused input\n")
 }
 
-// The tree of a text that is not too long always fits.
+// Writes the listing of a text. The tree of a text that is not too long always fits.
 fn put_listing(out: &mut [u8], text: &[u8], features: Features) -> usize
     ensures { λ r. ⌜ Wrote (now (out .entry)) (now (out .exit)) 0 r (λ rest. rule.listing features (now (text .entry)) ++ rest) ⌝ }
 {
@@ -97,22 +98,22 @@ fn put_listing(out: &mut [u8], text: &[u8], features: Features) -> usize
     }
 }
 
-// The lines of a text that was read.
+// Writes the lines of a text that was read.
 fn put_tree(out: &mut [u8], text: &[u8], tree: &[u8]) -> usize
     requires { ⌜ length (now tree) ≤ maxTree ⌝ }
     ensures { λ r. ⌜ Wrote (now (out .entry)) (now (out .exit)) 0 r
-            (λ rest. rule.treePart (now (text .entry)) (result (now (tree .entry))) ++ rest) ⌝ }
+        (λ rest. rule.treePart (now (text .entry)) (result (now (tree .entry))) ++ rest) ⌝ }
 {
     let inverse = tree_line(out, 0, b"text", text, tree);
     let steps = inverse_line(out, inverse, b"inverse", text, tree);
     put_steps(out, steps, text, tree)
 }
 
-// The count and the first steps.
+// Writes the count and the first steps.
 fn put_steps(out: &mut [u8], at: usize, text: &[u8], tree: &[u8]) -> usize
     requires { ⌜ at ≤ most ⌝ }
     ensures { λ r. ⌜ Wrote (now (out .entry)) (now (out .exit)) at r
-            (λ rest. rule.stepsPart (now (text .entry)) (entries.steps (now (text .entry)) (now (tree .entry))) ++ rest) ⌝ }
+        (λ rest. rule.stepsPart (now (text .entry)) (entries.steps (now (text .entry)) (now (tree .entry))) ++ rest) ⌝ }
 {
     match count_steps(text, tree) {
         Answer::Value(n) => {
@@ -128,7 +129,7 @@ fn step_lines(out: &mut [u8], at: usize, text: &[u8], tree: &[u8], n: u64) -> us
     requires { ⌜ at ≤ most ⌝ }
     requires { ⌜ Counted (now text) (now tree) n ⌝ }
     ensures { λ r. ⌜ Wrote (now (out .entry)) (now (out .exit)) at r
-            (λ rest. rule.stepLines (now (text .entry)) rule.SHOWN 0 (flat undo false (unpack (now (tree .entry)))) ++ rest) ⌝ }
+        (λ rest. rule.stepLines (now (text .entry)) rule.SHOWN 0 (flat undo false (unpack (now (tree .entry)))) ++ rest) ⌝ }
 {
     let end = least(n, SHOWN);
     let mut next = at;
@@ -140,6 +141,7 @@ fn step_lines(out: &mut [u8], at: usize, text: &[u8], tree: &[u8], n: u64) -> us
     next
 }
 
+// The smaller of two numbers.
 fn least(a: u64, b: u64) -> u64
     ensures { λ r. ⌜ r ≡ min a b ⌝ }
 {

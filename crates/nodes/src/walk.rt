@@ -25,6 +25,7 @@ pub fn first_end(node: &[u8]) -> usize
     RECORD + RECORD * wide(fields::first(node))
 }
 
+// A number of records as a length.
 fn wide(n: u32) -> usize
     ensures { λ r. ⌜ r ≡ n ⌝ }
     ensures { λ r. ⌜ r < 4294967296 ⌝ }

@@ -28,7 +28,8 @@ use Rattle.notation.specs.declared.common.BinaryGroupKind.the-variants.{
 use Rattle.notation.specs.declared.common.MegaminxScrambleMove.{MegaminxScrambleMove}
 use Rattle.notation.specs.declared.common.MegaminxScrambleMove.the-variants.{Rpp, Rmm, Dpp, Dmm}
 
--- Readers. A reader is handed an offset and the text from there on. It rejects, or hands back what it read, the next offset and the text from there.
+-- Readers. A reader is handed an offset and the text from there on. It rejects, or hands back what it read, the next offset and
+-- the text from there.
 pub data Reading (A : Type 0) : Type 0 where
   rejected : Reading A
   read : A → ℕ → List ℕ → Reading A
@@ -238,7 +239,8 @@ binaryGroupNode list = do
   just "]"
   done (λ m. block (binaryGroup k a b) m)
 
--- From here on the sign that negates is handed on, so that document 01's rule, with the apostrophe alone, has the same words (specs/Primes).
+-- From here on the sign that negates is handed on, so that document 01's rule, with the apostrophe alone, has the same words
+-- (specs/Primes).
 abbrev pub repeatableNodeBy : Reader (Unit {0}) → Features → Reader Tree → Reader (Node Leaf)
 repeatableNodeBy sign f list = do
   inner ← rotationNode f or groupNode list or binaryGroupNode list or moveNode f

@@ -32,9 +32,9 @@ pub record Hands (r : ℕ) (buffer : List ℕ) (rule : Lent ℕ) : Type 0 where
   pub number : r ≡ coded (rule .answer)
   pub bytes : buffer ≡ rule .buffer
 
--- Nothing is lost by the modulo: no value of an entry reaches 2^56, and a smaller one is told whole. The values of the inverses and of printing are
--- at most the length of the lent buffer, and no machine has one of 2^56 bytes; the others are below 2^56 whatever is lent.
--- The theorem is `lossless` in crates/value_laws/proofs/Values.antt.
+-- Nothing is lost by the modulo: no value of an entry reaches 2^56, and a smaller one is told whole. The values of the inverses
+-- and of printing are at most the length of the lent buffer, and no machine has one of 2^56 bytes; the others are below 2^56
+-- whatever is lent. The theorem is `lossless` in crates/value_laws/proofs/Values.antt.
 abbrev pub BelowValues : Outcome ℕ → Type 0
 BelowValues o = value o < VALUES
 

@@ -28,7 +28,8 @@ abbrev pub resolve : (layers : ℕ) (negatives : Bool) → ℤ → Option ℕ
 resolve layers negatives (pos i) = pick (leb i layers) (some i) none
 resolve layers negatives (negsuc i) = pick (leb (suc i) layers && negatives) (some (layers - i)) none
 
--- an end of a range in a set: one too deep becomes `max_layer`, a negative one beyond the shallowest becomes 1, a forbidden negative gives none
+-- an end of a range in a set: one too deep becomes `max_layer`, a negative one beyond the shallowest becomes 1, a forbidden
+-- negative gives none
 abbrev pub rangeEnd : (layers : ℕ) (negatives : Bool) → ℤ → Option ℕ
 rangeEnd layers negatives (pos i) = some (min i layers)
 rangeEnd layers negatives (negsuc i) = pick negatives (some (max 1 (layers - i))) none
@@ -122,6 +123,7 @@ others layers l = othersFrom 1 layers l
 abbrev pub complement : (layers : ℕ) → List Range → List Range
 complement layers l = simplified (others layers l)
 
--- document 02, request 3: with a tilde the layers that the same prefix without it does not give; simplified, `lit n true l` is `complement n l`
+-- document 02, request 3: with a tilde the layers that the same prefix without it does not give; simplified, `lit n true l` is
+-- `complement n l`
 abbrev pub lit : (layers : ℕ) (tilde : Bool) → List Range → List Range
 lit layers tilde l = pick tilde (others layers l) l

@@ -25,7 +25,8 @@ pub record Opposite (n : ℕ) (a b : List Range) : Type 0 where
 abbrev pub prefixAt : List ℕ → ℕ → Outcome (Bool × Layers Span)
 prefixAt tree k = do h ← recordAt tree k; prefixOf h
 
--- Two moves of accepted trees, over one text or two, whose prefixes mean the same but for the tilde: on every axis both are answered, and the answers are opposite.
+-- Two moves of accepted trees, over one text or two, whose prefixes mean the same but for the tilde: on every axis both are
+-- answered, and the answers are opposite.
 abbrev pub LightsOthers : Type 0
 LightsOthers =
     (text text′ tree tree′ : List ℕ) (t t′ : Tree) → checked text tree ≡ result t → checked text′ tree′ ≡ result t′ →

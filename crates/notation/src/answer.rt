@@ -1,5 +1,5 @@
-// What an entry answers: its value, or the number of a refusal from document 01's table. specs/Entries.antt gives both cases
-// the paper's numbers.
+// What an entry answers: its value, or the number of a refusal from document 01's table. specs/Entries.antt gives both
+// cases the paper's numbers.
 
 pub enum Answer {
     Value(u64),

@@ -1,4 +1,5 @@
-// The sets of characters: `CharSet` of the Rust's charsets.rs, six sets of which family names are made, and the primes. The crate `charsets` has the functions.
+// The sets of characters: `CharSet` of the Rust's charsets.rs, six sets of which family names are made, and the primes.
+// The crate `charsets` has the functions.
 
 pub enum CharSet {
     // a-z

@@ -32,6 +32,7 @@ impl LayerFeatures {
         layer_sets: false,
         hsc1_layer_ranges: false,
     };
+
     pub const HYPERCUBING: LayerFeatures = LayerFeatures {
         inverted_layers: true,
         layer_sets: true,
@@ -48,6 +49,7 @@ impl Features {
         sq1: false,
         curly_primes: false,
     };
+
     pub const WCA: Features = Features {
         layers: LayerFeatures::SIMPLE,
         generalized_rotations: false,
@@ -56,6 +58,7 @@ impl Features {
         sq1: true,
         curly_primes: false,
     };
+
     pub const MAXIMAL: Features = Features {
         layers: LayerFeatures::HYPERCUBING,
         generalized_rotations: true,
@@ -66,19 +69,22 @@ impl Features {
     };
 }
 
-// The named settings as values, each tied to its rule: an associated constant has no contract of its own.
+// The setting MINIMAL. The named settings are functions too, since an associated constant has no contract that would tie
+// it to its rule.
 pub fn minimal() -> Features
     ensures { λ r. ⌜ r ≡ rule.MINIMAL ⌝ }
 {
     Features::MINIMAL
 }
 
+// The setting WCA.
 pub fn wca() -> Features
     ensures { λ r. ⌜ r ≡ rule.WCA ⌝ }
 {
     Features::WCA
 }
 
+// The setting MAXIMAL: every feature of the Rust.
 pub fn maximal() -> Features
     ensures { λ r. ⌜ r ≡ rule.MAXIMAL ⌝ }
 {

@@ -1,4 +1,4 @@
--- Runs of decimal digits, and the numbers that they write held at a cap. Assumes nothing.
+-- Runs of decimal digits, and the numbers that they write, capped. Assumes nothing.
 use Prim.Native.Nat.{ℕ, zero, suc, _+_, _*_, _-_, _≤_, _<_, min}
 use mathlib.Core.Path.{_≡_, refl, sym, ap, _∙_}
 use mathlib.Core.Bool.{Bool, true, false, _&&_}
@@ -86,7 +86,7 @@ kept-on s at n i m k h l u e =
 pub kept-done : (s : List ℕ) (at n i : ℕ) → Kept s at n i → digitRun (drop i s) ≡ 0 → (i ≡ at + digitRun (drop at s)) × (n ≡ value s at 0)
 kept-done s at n i k e = (omega (arith, k .2), omega (arith, value-done s i n e, k .3))
 
--- The rule `uint` from what the digits gave: e is where they end, n their number held at the cap.
+-- The rule `uint` from what the digits gave: e is where they end, n their capped number.
 module _ (s : List ℕ) (low high at e n : ℕ) (ends : e ≡ at + digitRun (drop at s)) (gives : n ≡ value s at 0) (small : high < 4294967296) where
   pub no-digit : e ≡ at → uint low high at (drop at s) ≡ rejected
   unfolding uint

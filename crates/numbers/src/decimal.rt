@@ -37,7 +37,7 @@ struct DigitRun {
     end: usize,
 }
 
-// The digits from `at` on: their number, held at `CAP`, and where they end.
+// The digits from `at` on: their number, capped at `CAP`, and where they end.
 fn digits(s: &[u8], at: usize) -> DigitRun
     requires { ⌜ at ≤ length (now s) ⌝ }
     ensures { λ r. ⌜ (r .end ≡ at + digitRun (drop at (now (s .entry))))

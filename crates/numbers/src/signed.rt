@@ -22,11 +22,7 @@ pub fn is_negative(bits: u32) -> bool
 pub fn magnitude(bits: u32) -> u32
     ensures { λ r. ⌜ r ≡ natAbs (fromBits 32 bits) ⌝ }
 {
-    if bits < MIN {
-        bits
-    } else {
-        negate(bits)
-    }
+    if bits < MIN { bits } else { negate(bits) }
 }
 
 // The opposite number. −2147483648, whose opposite does not fit, stays as it is.

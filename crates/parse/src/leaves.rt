@@ -1,5 +1,6 @@
-// The rules of the Rust's parse.rs that hold no list of nodes. Each function is handed the text and an offset, and hands back
-// what stands there and the offset after it, or nothing. No byte is read again where a choice can be told from those before.
+// The rules of the Rust's parse.rs that hold no list of nodes. Each function is handed the text and an offset, and hands
+// back what stands there and the offset after it, or nothing. No byte is read again where a choice can be told from
+// those before.
 use crate::look::family_span;
 use crate::look::has;
 use crate::look::span_between;
@@ -215,7 +216,7 @@ pub fn group_kind(text: &[u8], at: usize) -> Group
     }
 }
 
-// A rotation, whose `@` was seen.
+// Reads a rotation, whose `@` was seen.
 fn rotation(text: &[u8], at: usize, features: Features) -> LeafAnswer
     requires { ⌜ (at < length (now text)) × (length (now text) ≤ MAX-TEXT) ⌝ }
     requires { ⌜ eqb (byteAt (now text) at) 64 ≡ true ⌝ }
@@ -241,7 +242,7 @@ fn rotation(text: &[u8], at: usize, features: Features) -> LeafAnswer
     LeafAnswer::Nothing
 }
 
-// A move: layers, a family of at least one character, constraints and a multiplier.
+// Reads a move: layers, a family of at least one character, constraints and a multiplier.
 fn move_(text: &[u8], at: usize, features: Features) -> LeafAnswer
     requires { ⌜ (at ≤ length (now text)) × (length (now text) ≤ MAX-TEXT) ⌝ }
     ensures { λ r. ⌜ means.recordReading (now (text .entry)) r
@@ -271,7 +272,7 @@ fn move_(text: &[u8], at: usize, features: Features) -> LeafAnswer
     )
 }
 
-// A scramble move, or else a move.
+// Reads a scramble move, or else a move.
 fn scramble_or_move(text: &[u8], at: usize, features: Features) -> LeafAnswer
     requires { ⌜ (at < length (now text)) × (length (now text) ≤ MAX-TEXT) ⌝ }
     ensures { λ r. ⌜ means.recordReading (now (text .entry)) r ≡ means.scrambleOrMove features at (drop at (now (text .entry))) ⌝ }
@@ -283,10 +284,12 @@ fn scramble_or_move(text: &[u8], at: usize, features: Features) -> LeafAnswer
     }
 }
 
-// A node that is no group. Its first byte tells which one it can be.
+// Reads a leaf, a node that is no group. Its first byte tells which one it can be.
 pub fn leaf(text: &[u8], at: usize, features: Features) -> LeafAnswer
     requires { ⌜ (at ≤ length (now text)) × (length (now text) ≤ MAX-TEXT) ⌝ }
-    ensures means { λ r. ⌜ means.recordReading (now (text .entry)) r ≡ rule.andThen (rule.node features rule.fail at (drop at (now (text .entry)))) (λ n. rule.done (means.nodeFields n)) ⌝ }
+    ensures means { λ r. ⌜ means.recordReading (now (text .entry)) r
+        ≡ rule.andThen (rule.node features rule.fail at (drop at (now (text .entry))))
+        (λ n. rule.done (means.nodeFields n)) ⌝ }
     ensures within { λ r. ⌜ means.Within at (length (now (text .entry))) r ⌝ }
 {
     if at < text.len() {

@@ -47,7 +47,7 @@ pub fn span_between(from: usize, to: usize) -> Span
     }
 }
 
-// The same for a family: an empty one stands nowhere.
+// The part of the text from one offset to another, for a family: an empty one stands nowhere.
 pub fn family_span(from: usize, to: usize) -> Span
     requires { ⌜ (from ≤ to) × (to ≤ MAX-TEXT) ⌝ }
     ensures { λ r. ⌜ span r ≡ familyAt from (to - from) ⌝ }

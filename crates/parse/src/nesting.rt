@@ -12,7 +12,7 @@ use notation::limits::MAX_NESTING;
 // So many bytes are counted at once.
 const BLOCK: usize = 32;
 
-// 1 where b is one of the two.
+// Counts one byte: 1 where it is one of the two.
 fn one_of(b: u8, round: u8, square: u8) -> usize
     ensures { λ r. ⌜ (r ≡ bit (eqb b round || eqb b square)) × (r ≤ 1) ⌝ }
 {
@@ -25,7 +25,7 @@ fn one_of(b: u8, round: u8, square: u8) -> usize
     0
 }
 
-// How many bytes are one of the two.
+// Counts the bytes that are one of the two.
 fn count(bytes: &[u8], round: u8, square: u8) -> usize
     requires { ⌜ length (now bytes) ≤ rule.MAX-TEXT ⌝ }
     ensures { λ r. ⌜ (r ≡ nesting.among round square (now (bytes .entry))) × (r ≤ length (now (bytes .entry))) ⌝ }
@@ -39,8 +39,9 @@ fn count(bytes: &[u8], round: u8, square: u8) -> usize
     n
 }
 
-// Whether no starting part of the text has over 64 more of `(` `[` than of `)` `]`. Brackets are counted by blocks, in which the machine
-// need not guess; only where a block opens so many that 64 could be passed is the text asked at each byte.
+// Whether no starting part of the text has over 64 more of `(` `[` than of `)` `]`. Brackets are counted by blocks, in
+// which the machine need not guess; only where a block opens so many that 64 could be passed is the text asked at each
+// byte.
 pub fn nesting_ok(text: &[u8]) -> bool
     requires { ⌜ length (now text) ≤ rule.MAX-TEXT ⌝ }
     ensures { λ r. ⌜ r ≡ rule.nestingOk 0 0 (now (text .entry)) ⌝ }
@@ -63,7 +64,7 @@ pub fn nesting_ok(text: &[u8]) -> bool
     true
 }
 
-// The same, found byte by byte.
+// Whether the nesting is within the limit, found byte by byte.
 fn scan_ok(text: &[u8]) -> bool
     requires { ⌜ length (now text) ≤ rule.MAX-TEXT ⌝ }
     ensures { λ r. ⌜ r ≡ rule.nestingOk 0 0 (now (text .entry)) ⌝ }

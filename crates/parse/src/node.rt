@@ -1,6 +1,7 @@
-// Lists and nodes, which enter each other: `node_list` and `node` of the Rust's parse.rs. A slot is a place for a record, counted
-// from the start of the tree. A record is written only where the buffer has its slot: over an empty buffer a run only measures. In the field of
-// the step count it gets the tally of its list, by which the count is filled in once all records stand (crate `tally`).
+// Lists and nodes, which enter each other: `node_list` and `node` of the Rust's parse.rs. A slot is a place for a
+// record, counted from the start of the tree. A record is written only where the buffer has its slot: over an empty
+// buffer a run only measures. In the field of the step count it gets the tally of its list, by which the count is filled
+// in once all records stand (crate `tally`).
 ghost use mathlib.Core.Path.{_≡_};
 ghost use Prim.Native.Nat.{_+_, _*_, _%_, _≤_, _<_};
 ghost use lib.ListN.{length, drop, getD, set};
@@ -9,10 +10,10 @@ ghost use Rattle.notation.specs.Grammar as rule;
 ghost use Rattle.notation.specs.Packed as packed;
 ghost use Rattle.record.specs.Meaning.{listed};
 ghost use Rattle.parse.specs.Nodes as nodes;
-use crate::look::has;
 use crate::leaves::group_kind;
 use crate::leaves::leaf;
 use crate::leaves::multiplier;
+use crate::look::has;
 use crate::parts::LeafAnswer;
 use charsets::whitespace_end;
 use notation::common::BinaryGroupKind;
@@ -48,7 +49,7 @@ enum BinaryKind {
     Nothing,
 }
 
-// A closing bracket and the multiplier after it.
+// Reads a closing bracket and the multiplier after it.
 fn close(text: &[u8], at: usize, features: Features, bracket: u8) -> Closing
     requires { ⌜ at ≤ length (now text) ⌝ }
     ensures { λ r. ⌜ nodes.Closed features (now (text .entry)) at bracket r ⌝ }
@@ -61,6 +62,7 @@ fn close(text: &[u8], at: usize, features: Features, bracket: u8) -> Closing
     }
 }
 
+// Reads the sign between the two lists of a binary group.
 fn binary_group_kind(text: &[u8], at: usize) -> BinaryKind
     ensures { λ r. ⌜ nodes.binaryKind (now (text .entry)) at r ≡ rule.binaryGroupKind at (drop at (now (text .entry))) ⌝ }
 {
@@ -73,7 +75,8 @@ fn binary_group_kind(text: &[u8], at: usize) -> BinaryKind
     BinaryKind::Nothing
 }
 
-// A group's record, with the number of its list's tally where the count will stand. The number is below 256; said here, it spares three stores.
+// Writes a group's record, with the number of its list's tally where the count will stand. The number is below 256; said
+// here, it spares three stores.
 fn put_group(tree: &mut [u8], slot: usize, f: Fields, tally: u64)
     requires { ⌜ slot ≤ MAX-TEXT ⌝ }
     ensures { λ _. ⌜ now (tree .exit)
@@ -88,7 +91,8 @@ fn put_group(tree: &mut [u8], slot: usize, f: Fields, tally: u64)
     }
 }
 
-// The same of a leaf. It has a function of its own since that has one caller, into which the compiler puts it: a leaf's fields then never go through memory.
+// Writes a leaf's record, as `put_group` does a group's. It is a function of its own since that has one caller, into
+// which the compiler puts it: a leaf's fields then never go through memory.
 fn put_leaf(tree: &mut [u8], slot: usize, f: Fields, tally: u64)
     requires { ⌜ slot ≤ MAX-TEXT ⌝ }
     ensures { λ _. ⌜ now (tree .exit)
@@ -103,7 +107,7 @@ fn put_leaf(tree: &mut [u8], slot: usize, f: Fields, tally: u64)
     }
 }
 
-// A node that is no group.
+// Reads a node that is no group, and writes its record.
 fn leaf_node(
     text: &[u8],
     at: usize,
@@ -114,7 +118,7 @@ fn leaf_node(
 ) -> NodeAnswer
     requires { ⌜ nodes.Within (now text) at slot tally ⌝ }
     ensures { λ r. ⌜ nodes.NodeAnswered (λ _. rule.node features rule.fail) (now (text .entry)) at slot tally (now (tree .entry))
-            (now (tree .exit)) r ⌝ }
+        (now (tree .exit)) r ⌝ }
 {
     let LeafAnswer::Took(f, next) = leaf(text, at, features) else {
         return NodeAnswer::Nothing;
@@ -123,7 +127,7 @@ fn leaf_node(
     NodeAnswer::Took(next, slot + 1)
 }
 
-// Nodes with white space between them. A list ends where no node follows, and takes the white space before that.
+// Reads nodes with white space between them. A list ends where no node follows, and takes the white space before that.
 pub fn node_list(
     text: &[u8],
     at: usize,
@@ -134,7 +138,7 @@ pub fn node_list(
 ) -> Listed
     requires { ⌜ nodes.Within (now text) at slot tally ⌝ }
     ensures { λ r. ⌜ nodes.ListRead features (now (text .entry)) at slot tally (now (tree .entry)) (now (tree .exit)) (r .next)
-            (r .slot) ⌝ }
+        (r .slot) ⌝ }
 {
     let mut next = whitespace_end(text, at);
     let mut end = slot;
@@ -150,11 +154,19 @@ pub fn node_list(
     }
 }
 
-// A leaf is tried first: where one stands, no group does, so the rule's order does not matter, and most nodes are leaves.
-fn node(text: &[u8], at: usize, features: Features, tree: &mut [u8], slot: usize, tally: u64) -> NodeAnswer
+// Reads a node. A leaf is tried first: where one stands, no group does, so the rule's order does not matter, and most
+// nodes are leaves.
+fn node(
+    text: &[u8],
+    at: usize,
+    features: Features,
+    tree: &mut [u8],
+    slot: usize,
+    tally: u64,
+) -> NodeAnswer
     requires { ⌜ nodes.Within (now text) at slot tally ⌝ }
     ensures { λ r. ⌜ nodes.NodeAnswered (λ k. rule.node features (rule.nodeList features k)) (now (text .entry)) at slot tally
-            (now (tree .entry)) (now (tree .exit)) r ⌝ }
+        (now (tree .entry)) (now (tree .exit)) r ⌝ }
 {
     let NodeAnswer::Took(next, end) = leaf_node(text, at, features, tree, slot, tally) else {
         return any_group(text, at, features, tree, slot, tally);
@@ -162,7 +174,7 @@ fn node(text: &[u8], at: usize, features: Features, tree: &mut [u8], slot: usize
     NodeAnswer::Took(next, end)
 }
 
-// A group of either sort. The first byte tells which one it can be.
+// Reads a group of either sort. The first byte tells which one it can be.
 fn any_group(
     text: &[u8],
     at: usize,
@@ -173,7 +185,7 @@ fn any_group(
 ) -> NodeAnswer
     requires { ⌜ nodes.Within (now text) at slot tally ⌝ }
     ensures { λ r. ⌜ nodes.NodeAnswered (λ k. nodes.repeated features (nodes.nested (rule.nodeList features k))) (now (text .entry))
-            at slot tally (now (tree .entry)) (now (tree .exit)) r ⌝ }
+        at slot tally (now (tree .entry)) (now (tree .exit)) r ⌝ }
 {
     if text.len() <= at {
         return NodeAnswer::Nothing;
@@ -185,7 +197,7 @@ fn any_group(
     }
 }
 
-// A group's record is written after its contents, which tell how many records it holds.
+// Reads a group. Its record is written after its contents, which tell how many records it holds.
 fn group(
     text: &[u8],
     at: usize,
@@ -196,7 +208,7 @@ fn group(
 ) -> NodeAnswer
     requires { ⌜ nodes.Within (now text) at slot tally × (at < length (now text)) ⌝ }
     ensures { λ r. ⌜ nodes.NodeAnswered (λ k. nodes.repeated features (rule.groupNode (rule.nodeList features k))) (now (text .entry))
-            at slot tally (now (tree .entry)) (now (tree .exit)) r ⌝ }
+        at slot tally (now (tree .entry)) (now (tree .exit)) r ⌝ }
 {
     let start = group_kind(text, at);
     let kind = start.kind;
@@ -214,7 +226,7 @@ fn group(
     }
 }
 
-// A commutator or a conjugate.
+// Reads a commutator or a conjugate.
 fn binary_group(
     text: &[u8],
     at: usize,
@@ -225,7 +237,7 @@ fn binary_group(
 ) -> NodeAnswer
     requires { ⌜ nodes.Within (now text) at slot tally × (at < length (now text)) × (getD (now text) at 0 ≡ 91) ⌝ }
     ensures { λ r. ⌜ nodes.NodeAnswered (λ k. nodes.repeated features (rule.binaryGroupNode (rule.nodeList features k)))
-            (now (text .entry)) at slot tally (now (tree .entry)) (now (tree .exit)) r ⌝ }
+        (now (text .entry)) at slot tally (now (tree .entry)) (now (tree .exit)) r ⌝ }
 {
     let a = node_list(text, at + 1, features, tree, slot + 1, tally + OF_FIRST);
     let BinaryKind::Is(kind) = binary_group_kind(text, a.next) else {
@@ -237,6 +249,11 @@ fn binary_group(
     };
     let first = (a.slot - (slot + 1)) as u32;
     let second = (b.slot - a.slot) as u32;
-    put_group(tree, slot, binary_group_fields(kind, first, second, bits, 0), tally);
+    put_group(
+        tree,
+        slot,
+        binary_group_fields(kind, first, second, bits, 0),
+        tally,
+    );
     NodeAnswer::Took(next, b.slot)
 }

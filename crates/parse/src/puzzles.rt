@@ -33,8 +33,8 @@ fn either(a: bool, b: bool) -> bool
     if a { true } else { b }
 }
 
-// Whether a scramble move stands at `at`: R or D, then ++ or --. The tests are all made first and put together after, so that the
-// machine need not guess between them.
+// Whether a scramble move stands at `at`: R or D, then ++ or --. The tests are all made first and put together after, so
+// that the machine need not guess between them.
 pub fn is_scramble(text: &[u8], at: usize) -> bool
     requires { ⌜ at < length (now text) ⌝ }
     ensures { λ r. ⌜ r ≡ means.scrambleAt (now (text .entry)) at ⌝ }
@@ -63,7 +63,7 @@ fn scramble_kind(right: bool, plus: bool) -> MegaminxScrambleMove
     }
 }
 
-// A scramble move, which was seen.
+// Reads a scramble move, which was seen.
 pub fn megaminx_scramble_move(text: &[u8], at: usize) -> LeafAnswer
     requires { ⌜ (at < length (now text)) × (means.scrambleAt (now text) at ≡ true) ⌝ }
     ensures { λ r. ⌜ means.recordReading (now (text .entry)) r
@@ -73,7 +73,7 @@ pub fn megaminx_scramble_move(text: &[u8], at: usize) -> LeafAnswer
     LeafAnswer::Took(megaminx_fields(kind), at + 3)
 }
 
-// A number with white space around it.
+// Reads a number with white space around it.
 fn padded_number(text: &[u8], at: usize) -> Signed
     requires { ⌜ at ≤ length (now text) ⌝ }
     ensures { λ r. ⌜ sintReading (now (text .entry)) r ≡ rule.padded rule.i32 at (drop at (now (text .entry))) ⌝ }
@@ -105,6 +105,7 @@ fn pair(text: &[u8], at: usize) -> LeafAnswer
     LeafAnswer::Nothing
 }
 
+// Reads a slash or a pair.
 fn sq1_move(text: &[u8], at: usize) -> LeafAnswer
     requires { ⌜ at < length (now text) ⌝ }
     ensures { λ r. ⌜ means.recordReading (now (text .entry)) r ≡ means.leafRead (rule.sq1Move at (drop at (now (text .entry)))) ⌝ }
@@ -118,6 +119,7 @@ fn sq1_move(text: &[u8], at: usize) -> LeafAnswer
     LeafAnswer::Nothing
 }
 
+// Reads a slash or a pair where the setting admits it.
 pub fn admitted_sq1_move(text: &[u8], at: usize, features: Features) -> LeafAnswer
     requires { ⌜ at < length (now text) ⌝ }
     ensures { λ r. ⌜ means.recordReading (now (text .entry)) r

@@ -29,7 +29,8 @@ fn is_sign(text: &[u8], at: usize) -> bool
     has_two(text, at, b'-', b'>') || has_two(text, at, b'<', b'>')
 }
 
-// An element of a constraint set: where it ends. Where no family follows a sign, the first family is an element by itself.
+// Reads an element of a constraint set: where it ends. Where no family follows a sign, the first family is an element by
+// itself.
 fn constraint(text: &[u8], at: usize) -> Taken
     requires { ⌜ at ≤ length (now text) ⌝ }
     ensures { λ r. ⌜ means.endReading (now (text .entry)) r ≡ means.forget (rule.constraint at (drop at (now (text .entry)))) ⌝ }
@@ -88,7 +89,7 @@ fn unsigned_layer_range(text: &[u8], at: usize, bits: u32, end: usize) -> LayerS
     LayerSetElementAnswer::Took(LayerSetElement::Range(bits, other), next)
 }
 
-// An element of a layer set: `i..j`, under HSC1 also `i-j`, or one layer.
+// Reads an element of a layer set: `i..j`, under HSC1 also `i-j`, or one layer.
 pub fn layer_set_element(text: &[u8], at: usize, hsc1: bool) -> LayerSetElementAnswer
     requires { ⌜ at ≤ length (now text) ⌝ }
     ensures { λ r. ⌜ means.elementReading (now (text .entry)) r ≡ rule.layerSetElement hsc1 at (drop at (now (text .entry))) ⌝ }
@@ -133,7 +134,7 @@ fn closing(text: &[u8], at: usize) -> Taken
     }
 }
 
-// A set in braces, with commas between its elements.
+// Reads a set in braces, with commas between its elements: where it ends.
 fn braces(text: &[u8], at: usize, element: Element) -> Taken
     requires { ⌜ at ≤ length (now text) ⌝ }
     ensures { λ r. ⌜ means.endReading (now (text .entry)) r
@@ -145,8 +146,9 @@ fn braces(text: &[u8], at: usize, element: Element) -> Taken
     Taken::Nothing
 }
 
-// The same where a brace is known to stand. Apart, because most nodes have none: the test alone is small enough to stand in its callers.
-// After a comma only an element can follow. One loop for the first element and the others, so that `element_end` has one caller.
+// The same where a brace is known to stand. Apart, because most nodes have none: the test alone is small enough to stand
+// in its callers. After a comma only an element can follow. One loop for the first element and the others, so that
+// `element_end` has one caller.
 fn in_braces(text: &[u8], at: usize, element: Element) -> Taken
     requires { ⌜ (at ≤ length (now text)) × (byteAt (now text) at ≡ 123) ⌝ }
     ensures { λ r. ⌜ means.endReading (now (text .entry)) r
@@ -172,6 +174,7 @@ fn in_braces(text: &[u8], at: usize, element: Element) -> Taken
     }
 }
 
+// Reads a set of constraints: where it ends.
 pub fn constraint_set(text: &[u8], at: usize) -> Taken
     requires { ⌜ at ≤ length (now text) ⌝ }
     ensures { λ r. ⌜ means.endReading (now (text .entry)) r ≡ means.forget (rule.constraintSet at (drop at (now (text .entry)))) ⌝ }
@@ -179,6 +182,7 @@ pub fn constraint_set(text: &[u8], at: usize) -> Taken
     braces(text, at, Element::Constraint)
 }
 
+// Reads a layer set: where it ends.
 pub fn layer_set(text: &[u8], at: usize, hsc1: bool) -> Taken
     requires { ⌜ at ≤ length (now text) ⌝ }
     ensures { λ r. ⌜ means.endReading (now (text .entry)) r

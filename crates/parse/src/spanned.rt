@@ -7,16 +7,16 @@ use charsets::is_utf8;
 use notation::answer::Answer;
 use notation::features::Features;
 use notation::limits::MAX_TEXT;
+use notation::refusals::NO_ROOM;
 use notation::refusals::NOT_NOTATION;
 use notation::refusals::NOT_UTF8;
-use notation::refusals::NO_ROOM;
 use notation::refusals::TOO_LONG;
 use notation::refusals::TOO_NESTED;
 use record::RECORD;
 use tally::fill_counts;
 
-// The tree of a text, written to the front of `tree`; the answer is its size in bytes. A refusal leaves the buffer as it was, so
-// the text is read twice: first to measure, then to write. Step counts come last.
+// The tree of a text, written to the front of `tree`; the answer is its size in bytes. A refusal leaves the buffer as it
+// was, so the text is read twice: first to measure, then to write. Step counts come last.
 pub fn parse_notation(text: &[u8], features: Features, tree: &mut [u8]) -> Answer
     ensures { λ r. ⌜ rule.lent r (now (tree .exit)) ≡ rule.parseNotation features (now (text .entry)) (now (tree .entry)) ⌝ }
 {

@@ -1,5 +1,6 @@
-// Layer ranges into a lent run of ranges, each low and high: the Rust's `Vec<LayerRange>`. The checker covers no function that takes a
-// slice of structs, so `fill` and `simplify` are proved by a walk of their MIR, by hand, and hold as little as can be: the work is done on bytes.
+// Layer ranges into a lent run of ranges, each low and high: the Rust's `Vec<LayerRange>`. The checker covers no
+// function that takes a slice of structs, so `fill` and `simplify` are proved by a walk of their MIR, by hand, and hold
+// as little as can be: the work is done on bytes.
 ghost use mathlib.Core.Path.{_≡_};
 ghost use mathlib.Core.List.{_++_, map};
 ghost use Prim.Native.Nat.{_+_, _*_, _≤_};
@@ -53,7 +54,7 @@ fn resolve(
 ) -> Answer
     requires { ⌜ length (now bytes) ≡ 65536 ⌝ }
     ensures { λ r. ⌜ Resolved (now (text .entry)) (now (tree .entry)) «record» «max_layer» «allow_negatives» room r
-            (now (bytes .exit)) ⌝ }
+        (now (bytes .exit)) ⌝ }
 {
     let answer = entries::simplify(text, tree, record, max_layer, allow_negatives, bytes);
     let Answer::Value(n) = answer else {
@@ -75,8 +76,9 @@ fn count(answer: Answer) -> usize
     }
 }
 
-// The layers that the move at a record turns, on an axis of `max_layer` layers, with a tilde those that its prefix without it does not give: the number
-// of ranges, written over the front of `ranges`. Refusals 1, 2, 6, 11, 12, 5. What is refused writes none.
+// The layers that the move at a record turns, on an axis of `max_layer` layers, with a tilde those that its prefix
+// without it does not give: the number of ranges, written over the front of `ranges`. Refusals 1, 2, 6, 11, 12, 5. What
+// is refused writes none.
 pub fn simplify(
     text: &[u8],
     tree: &[u8],
@@ -87,11 +89,19 @@ pub fn simplify(
 ) -> Answer
     ensures { λ r. ⌜ rule.lent r (map meaning.range (now (ranges .exit)))
         ≡ rule.simplify (now (text .entry)) (now (tree .entry)) «record» «max_layer» «allow_negatives»
-                (map meaning.range (now (ranges .entry))) ⌝ }
+        (map meaning.range (now (ranges .entry))) ⌝ }
 {
     let mut bytes = [0; BYTES];
     let room = ranges.len();
-    let answer = resolve(text, tree, record, max_layer, allow_negatives, room, &mut bytes);
+    let answer = resolve(
+        text,
+        tree,
+        record,
+        max_layer,
+        allow_negatives,
+        room,
+        &mut bytes,
+    );
     let n = count(answer);
     fill(&bytes, ranges, n);
     answer

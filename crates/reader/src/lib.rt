@@ -1,5 +1,6 @@
-// A reader: a text that is borrowed, and a cursor in it. It is what the Rust's rules take as their input. Each function takes
-// the struct apart and leaves the work to a function on a slice and a number; the text stays, and the cursor moves on.
+// A reader: a text that is borrowed, and a cursor in it. It is what the Rust's rules take as their input. Each function
+// takes the struct apart and leaves the work to a function on a slice and a number; the text stays, and the cursor moves
+// on.
 
 use charsets::whitespace_end;
 use notation::features::Features;
@@ -31,7 +32,7 @@ fn after_leaf(answer: LeafAnswer, at: usize) -> usize
     }
 }
 
-// The same after a set.
+// Where the cursor goes after a set.
 fn after_set(answer: Taken, at: usize) -> usize
     ensures { λ r. ⌜ r ≡ cursor.afterSet at answer ⌝ }
 {
@@ -56,6 +57,7 @@ impl<'a> Reader<'a> {
         self.at == self.text.len()
     }
 
+    // Moves the cursor past white space.
     pub fn skip_whitespace(&mut self)
         requires { ⌜ cursor.Inside (now self) ⌝ }
         ensures { λ _. ⌜ cursor.Moves rule.whitespace (now (self .entry)) (now (self .exit)) ⌝ }
@@ -63,34 +65,34 @@ impl<'a> Reader<'a> {
         self.at = whitespace_end(self.text, self.at);
     }
 
-    // The 32 bits of a multiplier: 1 where no number is written.
+    // Reads a multiplier and answers its 32 bits: 1 where no number is written.
     pub fn multiplier(&mut self, features: Features) -> u32
         requires { ⌜ cursor.Inside (now self) ⌝ }
         ensures { λ m. ⌜ (cursor.reads (rule.done (fromBits 32 m)) (now (self .exit)) ≡ cursor.reads (rule.multiplier features)
-                (now (self .entry))) × cursor.Moves (rule.multiplier features) (now (self .entry)) (now (self .exit)) ⌝ }
+            (now (self .entry))) × cursor.Moves (rule.multiplier features) (now (self .entry)) (now (self .exit)) ⌝ }
     {
         let times = parse::multiplier(self.text, self.at, features);
         self.at = times.next;
         times.bits
     }
 
-    // A set of constraints: where it ends.
+    // Reads a set of constraints: where it ends.
     pub fn constraint_set(&mut self) -> Taken
         requires { ⌜ cursor.Inside (now self) ⌝ }
         ensures { λ r. ⌜ (means.endReading (cursor.text (now (self .entry))) r ≡ means.forget
-                (cursor.reads rule.constraintSet (now (self .entry)))) × cursor.Moves rule.constraintSet (now (self .entry)) (now
-                (self .exit)) ⌝ }
+            (cursor.reads rule.constraintSet (now (self .entry)))) × cursor.Moves rule.constraintSet (now (self .entry)) (now
+            (self .exit)) ⌝ }
     {
         let answer = parse::constraint_set(self.text, self.at);
         self.at = after_set(answer, self.at);
         answer
     }
 
-    // A node that is no group.
+    // Reads a leaf, a node that is no group.
     pub fn leaf(&mut self, features: Features) -> LeafAnswer
         requires { ⌜ cursor.Inside (now self) × (length (cursor.text (now self)) ≤ MAX-TEXT) ⌝ }
         ensures { λ r. ⌜ (means.recordReading (cursor.text (now (self .entry))) r ≡ cursor.reads (cursor.leaf features)
-                (now (self .entry))) × cursor.Moves (cursor.leaf features) (now (self .entry)) (now (self .exit)) ⌝ }
+            (now (self .entry))) × cursor.Moves (cursor.leaf features) (now (self .entry)) (now (self .exit)) ⌝ }
     {
         let answer = parse::leaf(self.text, self.at, features);
         self.at = after_leaf(answer, self.at);

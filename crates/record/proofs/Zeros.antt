@@ -31,7 +31,7 @@ module _ (head tail x y : ℕ) (e : head * 65536 + tail ≡ x * 16777216 + y) wh
   pub high-some : (head ≡ 0 → ⊥) → eqb head 0 ≡ (eqb x 0 && eqb y 0)
   high-some n = ne-eqb head 0 n ∙ sym (ne-eqb (x * 16777216 + y) 0 (λ z. n (omega arith))) ∙ zero-sum x y
 
--- a number that was read, held against another
+-- a number that was read, compared with another
 pub is-it : {x y : ℕ} (k : ℕ) → x ≡ y → x ≡ k → eqb y k ≡ true
 is-it {x} {y} k e t = eq-eqb y k (sym e ∙ t)
 

@@ -38,7 +38,7 @@ pub fn layered_move(t: &[u8]) -> Move
     }
 }
 
-// An empty family stands nowhere.
+// A family as the rules have it: an empty one stands nowhere.
 fn family_at(p: Span) -> Span
     requires { ⌜ FitsSpan (meaning.span p) ⌝ }
     ensures { λ r. ⌜ meaning.span r ≡ familyAt (p .offset) (p .size) ⌝ }
@@ -61,6 +61,7 @@ pub fn family_of(t: &[u8]) -> Span
     family_at(fields::family(t))
 }
 
+// The constraints of a move or a rotation, if it has any.
 fn constraints_of(t: &[u8]) -> SpanOption
     requires { ⌜ RECORD ≤ length (now t) ⌝ }
     ensures { λ r. ⌜ meaning.spanOption r ≡ meaning.constraintsAt (now (t .entry)) ⌝ }
@@ -72,6 +73,7 @@ fn constraints_of(t: &[u8]) -> SpanOption
     }
 }
 
+// The layers of a move.
 pub fn layers(t: &[u8]) -> LayerPrefixContents
     requires { ⌜ RECORD ≤ length (now t) ⌝ }
     ensures { λ r. ⌜ meaning.layers r ≡ meaning.layersAt (now (t .entry)) ⌝ }

@@ -79,6 +79,7 @@ pub fn same_fields(a: Fields, b: Fields) -> bool
     same_parts(a, b)
 }
 
+// Whether two records name the same parts of the text.
 fn same_parts(a: Fields, b: Fields) -> bool
     ensures { λ r. ⌜ r ≡ sameList (drop 5 (meaning.uncounted a)) (drop 5 (meaning.uncounted b)) ⌝ }
 {
@@ -100,12 +101,14 @@ fn same_parts(a: Fields, b: Fields) -> bool
     a.layer_set.size == b.layer_set.size
 }
 
+// The fields of a group.
 pub fn group_fields(kind: GroupKind, first: u32, multiplier: u32, count: u64) -> Fields
     ensures { λ f. ⌜ meaning.listed f ≡ packed.headFields (packed.groupHead kind first (fromBits 32 multiplier) count) ⌝ }
 {
     without_parts(group_number(kind), first, 0, multiplier, 0, count)
 }
 
+// The fields of a binary group.
 pub fn binary_group_fields(
     kind: BinaryGroupKind,
     first: u32,
@@ -118,24 +121,28 @@ pub fn binary_group_fields(
     without_parts(binary_number(kind), first, second, multiplier, 0, count)
 }
 
+// The fields of a pause.
 pub fn pause_fields() -> Fields
     ensures { λ f. ⌜ meaning.listed f ≡ packed.headFields (packed.leafHead tree.pause) ⌝ }
 {
     without_parts(kinds::PAUSE, 0, 0, 0, 0, LEAF)
 }
 
+// The fields of a pair.
 pub fn pair_fields(u: u32, d: u32) -> Fields
     ensures { λ f. ⌜ meaning.listed f ≡ packed.headFields (packed.leafHead (tree.pair (fromBits 32 u) (fromBits 32 d))) ⌝ }
 {
     without_parts(kinds::PAIR, 0, 0, u, d, LEAF)
 }
 
+// The fields of a slash.
 pub fn slash_fields() -> Fields
     ensures { λ f. ⌜ meaning.listed f ≡ packed.headFields (packed.leafHead tree.slash) ⌝ }
 {
     without_parts(kinds::SLASH, 0, 0, 0, 0, LEAF)
 }
 
+// The fields of a Megaminx move.
 pub fn megaminx_fields(k: MegaminxScrambleMove) -> Fields
     ensures { λ f. ⌜ meaning.listed f ≡ packed.headFields (packed.leafHead (tree.megaminx k)) ⌝ }
 {
@@ -168,6 +175,7 @@ pub fn without_parts(
     }
 }
 
+// The fields of a rotation.
 pub fn rotation_fields(x: Rotation) -> Fields
     ensures { λ f. ⌜ meaning.listed f ≡ packed.headFields (packed.leafHead (meaning.rotationLeaf x)) ⌝ }
 {
@@ -186,6 +194,7 @@ pub fn rotation_fields(x: Rotation) -> Fields
     }
 }
 
+// The fields of a move.
 pub fn move_fields(x: Move) -> Fields
     ensures { λ f. ⌜ meaning.listed f ≡ packed.headFields (packed.leafHead (meaning.moveLeaf x)) ⌝ }
 {
@@ -205,6 +214,7 @@ pub fn move_fields(x: Move) -> Fields
     }
 }
 
+// The kind of a group by number.
 fn group_number(k: GroupKind) -> u8
     ensures { λ r. ⌜ r ≡ packed.groupNumber k ⌝ }
 {
@@ -216,6 +226,7 @@ fn group_number(k: GroupKind) -> u8
     }
 }
 
+// The kind of a binary group by number.
 fn binary_number(k: BinaryGroupKind) -> u8
     ensures { λ r. ⌜ r ≡ packed.binaryNumber k ⌝ }
 {
@@ -225,6 +236,7 @@ fn binary_number(k: BinaryGroupKind) -> u8
     }
 }
 
+// The kind of a Megaminx move by number.
 fn megaminx_number(k: MegaminxScrambleMove) -> u8
     ensures { λ r. ⌜ r ≡ packed.megaminxNumber k ⌝ }
 {
@@ -236,6 +248,7 @@ fn megaminx_number(k: MegaminxScrambleMove) -> u8
     }
 }
 
+// 1 where there are constraints, else 0.
 fn present(c: SpanOption) -> u8
     ensures { λ r. ⌜ r ≡ packed.present (meaning.spanOption c) ⌝ }
 {
@@ -245,6 +258,7 @@ fn present(c: SpanOption) -> u8
     }
 }
 
+// The part that constraints have, or none.
 fn or_nowhere(c: SpanOption) -> Span
     ensures { λ r. ⌜ meaning.span r ≡ packed.orNowhere (meaning.spanOption c) ⌝ }
 {
@@ -254,6 +268,7 @@ fn or_nowhere(c: SpanOption) -> Span
     }
 }
 
+// The form of the layers: 0 none, 1 single, 2 range, 3 set.
 fn layer_form(l: LayerPrefixContents) -> u8
     ensures { λ r. ⌜ r ≡ packed.layerForm (meaning.layers l) ⌝ }
 {
@@ -265,7 +280,7 @@ fn layer_form(l: LayerPrefixContents) -> u8
     }
 }
 
-// A single layer is its own low and high.
+// The low and the high layer as one number. A single layer is its own low and high.
 pub fn low_and_high(l: LayerPrefixContents) -> u32
     ensures { λ r. ⌜ r ≡ packed.lowAndHigh (meaning.layers l) ⌝ }
 {
@@ -277,6 +292,7 @@ pub fn low_and_high(l: LayerPrefixContents) -> u32
     }
 }
 
+// The part that a layer set has, or none.
 fn set_part(l: LayerPrefixContents) -> Span
     ensures { λ r. ⌜ meaning.span r ≡ packed.setPart (meaning.layers l) ⌝ }
 {

@@ -9,7 +9,9 @@ ghost use Rattle.notation.specs.Numbers.{bigEndian, fromBigEndian};
 ghost use Rattle.notation.specs.Tree as tree;
 ghost use Rattle.notation.specs.Packed.{RECORD};
 ghost use Rattle.record.specs.Range.{FitsSpan};
-ghost use Rattle.record.specs.Meaning.{field, bothZero, placeWidth, spanAt, span, withField, withLists, withSpan, kindAt, tildeAt, formAt, presentAt, SMALL, FIRST, SECOND, NUMBER, OTHER, FAMILY, CONSTRAINTS, LAYER-SET, COUNT};
+ghost use Rattle.record.specs.Meaning.{field, bothZero, placeWidth, spanAt, span, withField, withLists, withSpan};
+ghost use Rattle.record.specs.Meaning.{kindAt, tildeAt, formAt, presentAt};
+ghost use Rattle.record.specs.Meaning.{SMALL, FIRST, SECOND, NUMBER, OTHER, FAMILY, CONSTRAINTS, LAYER-SET, COUNT};
 use crate::kinds;
 use crate::layout;
 use crate::spanned::Span;
@@ -116,7 +118,7 @@ fn span_at(t: &[u8], at: usize) -> Span
     requires { ⌜ at + (placeWidth + placeWidth) ≤ length (now t) ⌝ }
     ensures { λ r. ⌜ span r
         ≡ tree.span (fromBigEndian (take placeWidth (drop at (now (t .entry)))))
-                (fromBigEndian (take placeWidth (drop (at + placeWidth) (now (t .entry))))) ⌝ }
+        (fromBigEndian (take placeWidth (drop (at + placeWidth) (now (t .entry))))) ⌝ }
     ensures { λ r. ⌜ FitsSpan (span r) ⌝ }
 {
     let head = read_u32(t, at);
@@ -127,6 +129,7 @@ fn span_at(t: &[u8], at: usize) -> Span
     }
 }
 
+// The part of the text that is the family.
 pub fn family(t: &[u8]) -> Span
     requires { ⌜ RECORD ≤ length (now t) ⌝ }
     ensures { λ r. ⌜ span r ≡ spanAt FAMILY (now (t .entry)) ⌝ }
@@ -135,7 +138,7 @@ pub fn family(t: &[u8]) -> Span
     span_at(t, layout::FAMILY)
 }
 
-// Meant only where constraints are present.
+// The part of the text that the constraints have. It is meant only where they are present.
 pub fn constraints(t: &[u8]) -> Span
     requires { ⌜ RECORD ≤ length (now t) ⌝ }
     ensures { λ r. ⌜ span r ≡ spanAt CONSTRAINTS (now (t .entry)) ⌝ }
@@ -144,7 +147,7 @@ pub fn constraints(t: &[u8]) -> Span
     span_at(t, layout::CONSTRAINTS)
 }
 
-// Meant only where the layer form is a set.
+// The part of the text that the layer set has. It is meant only where the form is a set.
 pub fn layer_set(t: &[u8]) -> Span
     requires { ⌜ RECORD ≤ length (now t) ⌝ }
     ensures { λ r. ⌜ span r ≡ spanAt LAYER-SET (now (t .entry)) ⌝ }
@@ -161,7 +164,8 @@ pub fn count(t: &[u8]) -> u64
     read_u40(t, layout::COUNT)
 }
 
-// Whether it is 1, as a leaf's is: told by two parts of the field, which is quicker than to put five bytes together.
+// Whether the step count is 1, as a leaf's is. Two parts of the field tell it, which is quicker than to put five bytes
+// together.
 pub fn counts_one(t: &[u8]) -> bool
     requires { ⌜ RECORD ≤ length (now t) ⌝ }
     ensures { λ r. ⌜ r ≡ eqb (field COUNT (now (t .entry))) 1 ⌝ }
@@ -174,11 +178,12 @@ fn both_zero(t: &[u8], at: usize) -> bool
     requires { ⌜ at + (placeWidth + placeWidth) ≤ length (now t) ⌝ }
     ensures { λ r. ⌜ r
         ≡ (eqb (fromBigEndian (take placeWidth (drop at (now (t .entry))))) 0 && eqb
-                (fromBigEndian (take placeWidth (drop (at + placeWidth) (now (t .entry))))) 0) ⌝ }
+        (fromBigEndian (take placeWidth (drop (at + placeWidth) (now (t .entry))))) 0) ⌝ }
 {
     read_u32(t, at) == 0 && read_u16(t, at + 4) == 0
 }
 
+// Whether both lists have no records.
 pub fn no_lists(t: &[u8]) -> bool
     requires { ⌜ RECORD ≤ length (now t) ⌝ }
     ensures { λ r. ⌜ r ≡ bothZero FIRST (now (t .entry)) ⌝ }
@@ -186,6 +191,7 @@ pub fn no_lists(t: &[u8]) -> bool
     both_zero(t, layout::FIRST)
 }
 
+// Whether the family is nowhere.
 pub fn no_family(t: &[u8]) -> bool
     requires { ⌜ RECORD ≤ length (now t) ⌝ }
     ensures { λ r. ⌜ r ≡ bothZero FAMILY (now (t .entry)) ⌝ }
@@ -193,6 +199,7 @@ pub fn no_family(t: &[u8]) -> bool
     both_zero(t, layout::FAMILY)
 }
 
+// Whether the constraints are nowhere.
 pub fn no_constraints(t: &[u8]) -> bool
     requires { ⌜ RECORD ≤ length (now t) ⌝ }
     ensures { λ r. ⌜ r ≡ bothZero CONSTRAINTS (now (t .entry)) ⌝ }
@@ -200,6 +207,7 @@ pub fn no_constraints(t: &[u8]) -> bool
     both_zero(t, layout::CONSTRAINTS)
 }
 
+// Whether the layer set is nowhere.
 pub fn no_layer_set(t: &[u8]) -> bool
     requires { ⌜ RECORD ≤ length (now t) ⌝ }
     ensures { λ r. ⌜ r ≡ bothZero LAYER-SET (now (t .entry)) ⌝ }
@@ -207,6 +215,7 @@ pub fn no_layer_set(t: &[u8]) -> bool
     both_zero(t, layout::LAYER_SET)
 }
 
+// Writes the kind with what a move adds to it.
 pub fn set_small(out: &mut [u8], n: u8)
     requires { ⌜ RECORD ≤ length (now out) ⌝ }
     ensures { λ _. ⌜ now (out .exit) ≡ withField SMALL n (now (out .entry)) ⌝ }
@@ -214,7 +223,7 @@ pub fn set_small(out: &mut [u8], n: u8)
     write_u8(out, layout::SMALL, n);
 }
 
-// How many records each list has.
+// Writes how many records each list has.
 pub fn set_lists(out: &mut [u8], first: u32, second: u32)
     requires { ⌜ RECORD ≤ length (now out) ⌝ }
     ensures { λ _. ⌜ now (out .exit) ≡ withLists first second (now (out .entry)) ⌝ }
@@ -223,6 +232,7 @@ pub fn set_lists(out: &mut [u8], first: u32, second: u32)
     write_u24(out, layout::SECOND, second);
 }
 
+// Writes the multiplier, or u of a pair.
 pub fn set_number(out: &mut [u8], n: u32)
     requires { ⌜ RECORD ≤ length (now out) ⌝ }
     ensures { λ _. ⌜ now (out .exit) ≡ withField NUMBER n (now (out .entry)) ⌝ }
@@ -230,6 +240,7 @@ pub fn set_number(out: &mut [u8], n: u32)
     write_u32(out, layout::NUMBER, n);
 }
 
+// Writes d of a pair, or low and high layer.
 pub fn set_other(out: &mut [u8], n: u32)
     requires { ⌜ RECORD ≤ length (now out) ⌝ }
     ensures { λ _. ⌜ now (out .exit) ≡ withField OTHER n (now (out .entry)) ⌝ }
@@ -237,6 +248,7 @@ pub fn set_other(out: &mut [u8], n: u32)
     write_u32(out, layout::OTHER, n);
 }
 
+// Writes a span from `at` on.
 fn set_span(out: &mut [u8], at: usize, p: Span)
     requires { ⌜ at + (placeWidth + placeWidth) ≤ length (now out) ⌝ }
     ensures { λ _. ⌜ now (out .exit)
@@ -246,6 +258,7 @@ fn set_span(out: &mut [u8], at: usize, p: Span)
     write_u24(out, at + layout::PLACE_BYTES, p.size);
 }
 
+// Writes the family.
 pub fn set_family(out: &mut [u8], p: Span)
     requires { ⌜ RECORD ≤ length (now out) ⌝ }
     ensures { λ _. ⌜ now (out .exit) ≡ withSpan FAMILY p (now (out .entry)) ⌝ }
@@ -253,6 +266,7 @@ pub fn set_family(out: &mut [u8], p: Span)
     set_span(out, layout::FAMILY, p);
 }
 
+// Writes the constraints.
 pub fn set_constraints(out: &mut [u8], p: Span)
     requires { ⌜ RECORD ≤ length (now out) ⌝ }
     ensures { λ _. ⌜ now (out .exit) ≡ withSpan CONSTRAINTS p (now (out .entry)) ⌝ }
@@ -260,6 +274,7 @@ pub fn set_constraints(out: &mut [u8], p: Span)
     set_span(out, layout::CONSTRAINTS, p);
 }
 
+// Writes the layer set.
 pub fn set_layer_set(out: &mut [u8], p: Span)
     requires { ⌜ RECORD ≤ length (now out) ⌝ }
     ensures { λ _. ⌜ now (out .exit) ≡ withSpan LAYER-SET p (now (out .entry)) ⌝ }
@@ -267,6 +282,7 @@ pub fn set_layer_set(out: &mut [u8], p: Span)
     set_span(out, layout::LAYER_SET, p);
 }
 
+// Writes the step count.
 pub fn set_count(out: &mut [u8], n: u64)
     requires { ⌜ RECORD ≤ length (now out) ⌝ }
     ensures { λ _. ⌜ now (out .exit) ≡ withField COUNT n (now (out .entry)) ⌝ }

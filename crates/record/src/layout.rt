@@ -1,7 +1,8 @@
-// The layout of a record: where each field starts, right after the one before. The list is that of `widths` in the definitions: each
-// reader and writer of fields.rt promises its field by number, and so holds at no other offset.
+// The layout of a record: where each field starts, right after the one before. The list is that of `widths` in the
+// definitions: each reader and writer of fields.rt promises its field by number, and so holds at no other offset.
 
-// The widths in bytes of the number of records in a list, of a number, of an offset or a size in the text, and of a step count.
+// The widths in bytes of the number of records in a list, of a number, of an offset or a size in the text, and of a step
+// count.
 const LIST_BYTES: usize = 3;
 
 const NUMBER_BYTES: usize = 4;

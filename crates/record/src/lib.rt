@@ -1,4 +1,5 @@
-// The packed record: one node of a tree in 38 bytes. Its fields are read and written one by one, read by its kind, or taken all at once as `Fields`.
+// The packed record: one node of a tree in 38 bytes. Its fields are read and written one by one, read by its kind, or
+// taken all at once as `Fields`.
 
 pub mod copy;
 pub mod decode;

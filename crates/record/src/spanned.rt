@@ -1,4 +1,5 @@
-// The nodes of the Rust's spanned.rs that name parts of the text, by offset and size. A multiplier is 32 bits of two's complement.
+// The nodes of the Rust's spanned.rs that name parts of the text, by offset and size. A multiplier is 32 bits of two's
+// complement.
 
 // A part of the text. Both numbers have 24 bits: whoever makes a span promises so.
 pub struct Span {

@@ -50,7 +50,8 @@ pub record Gathered (n : ℕ) (l : List Range) (reach : List ℕ) : Type 0 where
   pub size : length reach ≡ n + 1
   pub runs : runsFrom reach 0 ≡ simplified l
 
--- The table turned over: each layer that no range has is a range of its own. Its first entry is that of layer i, and the ranges that begin before reach to `far`.
+-- The table turned over: each layer that no range has is a range of its own. Its first entry is that of layer i, and the ranges
+-- that begin before reach to `far`.
 unfoldable pub turnedOver : (far i : ℕ) → List ℕ → List ℕ
 turnedOver far i [] = []
 turnedOver far i (high ∷ reach) = pick (leb i (max far high)) 0 i ∷ turnedOver (max far high) (suc i) reach

@@ -1,4 +1,5 @@
-// The layers that one range leaves over, those before it and those after it: what a tilde makes of a prefix that is no set. It needs no table.
+// The layers that one range leaves over, those before it and those after it: what a tilde makes of a prefix that is no
+// set. It needs no table.
 ghost use mathlib.Core.Path.{_≡_};
 ghost use mathlib.Core.List.{[]};
 ghost use Prim.Native.Nat.{_+_, _*_, _≤_};
@@ -37,8 +38,8 @@ pub fn simplify_around(low: u16, high: u16, max_layer: u16, out: &mut [u8]) -> A
     requires { ⌜ meaning.IsRange (table.rangeFrom low high) ⌝ }
     requires { ⌜ meaning.IsLayer «max_layer» ⌝ }
     ensures { λ r. ⌜ elements.GivesRanges
-            (rule.others «max_layer» (rule.keep (rule.clampToLayerCount «max_layer» (table.rangeFrom low high)) [])) r
-            (now (out .exit)) (now (out .entry)) ⌝ }
+        (rule.others «max_layer» (rule.keep (rule.clampToLayerCount «max_layer» (table.rangeFrom low high)) [])) r
+        (now (out .exit)) (now (out .entry)) ⌝ }
 {
     let before = if low <= max_layer { low - 1 } else { max_layer };
     let ranges = count_some(1, before) + count_some(high + 1, max_layer);

@@ -1,4 +1,5 @@
-// Layer ranges of a move: `LayerPrefixContents::to_ranges` and `simplify` of the Rust's unspanned.rs, and their complement behind a tilde.
+// Layer ranges of a move: `LayerPrefixContents::to_ranges` and `simplify` of the Rust's unspanned.rs, and their
+// complement behind a tilde.
 
 pub mod around;
 pub mod reach;

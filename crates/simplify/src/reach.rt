@@ -1,5 +1,5 @@
-// The table that the ranges of a layer set are gathered in: entry i is how far the ranges reach that begin at layer i, 0 where none
-// does. The index sorts the ranges, and of those that begin at one layer only the longest counts.
+// The table that the ranges of a layer set are gathered in: entry i is how far the ranges reach that begin at layer i, 0
+// where none does. The index sorts the ranges, and of those that begin at one layer only the longest counts.
 ghost use mathlib.Core.Path.{_≡_};
 ghost use mathlib.Core.List.{_++_};
 ghost use Prim.Native.Nat.{_+_, _*_, _≤_, _<_};
@@ -109,7 +109,7 @@ pub fn write_runs(reach: &[u16], out: &mut [u8])
     requires { ⌜ 4 * length (table.runsFrom (now reach) 0) ≤ length (now out) ⌝ }
     ensures { λ _. ⌜ now (out .exit)
         ≡ rangeBytes (table.runsFrom (now (reach .entry)) 0) ++ drop (4 * length (table.runsFrom (now (reach .entry)) 0))
-                (now (out .entry)) ⌝ }
+        (now (out .entry)) ⌝ }
 {
     let mut at: usize = 0;
     let mut low = next_start(reach, 0);

@@ -1,5 +1,5 @@
-// The layers that a move turns, as ranges: `LayerPrefixContents::to_ranges` and `simplify` of the Rust's unspanned.rs, and behind a tilde the other
-// layers of the axis, as the Rust's `LayerPrefix::to_layer_mask` inverts its mask.
+// The layers that a move turns, as ranges: `LayerPrefixContents::to_ranges` and `simplify` of the Rust's unspanned.rs,
+// and behind a tilde the other layers of the axis, as the Rust's `LayerPrefix::to_layer_mask` inverts its mask.
 ghost use mathlib.Core.Path.{_≡_};
 ghost use mathlib.Core.Bool.{true};
 ghost use mathlib.Core.List.{[]};
@@ -111,7 +111,7 @@ fn mark_set(part: &[u8], axis: AxisLayersInfo, reach: &mut [u16])
     requires { ⌜ isSome (layerSetIn (now part)) ≡ true ⌝ }
     ensures { λ _. ⌜ now (reach .exit)
         ≡ elements.markedSet (axis .«max_layer») (axis .«allow_negatives») (orEmpty (layerSetIn (now (part .entry))))
-                (now (reach .entry)) ⌝ }
+        (now (reach .entry)) ⌝ }
 {
     let mut at = whitespace_end(part, 1);
     loop {
@@ -132,7 +132,7 @@ fn gather_set(part: &[u8], axis: AxisLayersInfo, inverted: bool, reach: &mut [u1
     requires { ⌜ now reach ≡ replicate (axis .«max_layer» + 1) 0 ⌝ }
     requires { ⌜ isSome (layerSetIn (now part)) ≡ true ⌝ }
     ensures { λ _. ⌜ table.Gathered (axis .«max_layer»)
-            (elements.litSet (axis .«max_layer») (axis .«allow_negatives») inverted (now (part .entry))) (now (reach .exit)) ⌝ }
+        (elements.litSet (axis .«max_layer») (axis .«allow_negatives») inverted (now (part .entry))) (now (reach .exit)) ⌝ }
 {
     mark_set(part, axis, reach);
     if inverted {
@@ -141,13 +141,19 @@ fn gather_set(part: &[u8], axis: AxisLayersInfo, inverted: bool, reach: &mut [u1
 }
 
 // The ranges of a layer set, or with a tilde of the other layers, over an empty table of the axis.
-fn simplify_set(part: &[u8], axis: AxisLayersInfo, inverted: bool, reach: &mut [u16], out: &mut [u8]) -> Answer
+fn simplify_set(
+    part: &[u8],
+    axis: AxisLayersInfo,
+    inverted: bool,
+    reach: &mut [u16],
+    out: &mut [u8],
+) -> Answer
     requires { ⌜ meaning.IsLayer (axis .«max_layer») ⌝ }
     requires { ⌜ now reach ≡ replicate (axis .«max_layer» + 1) 0 ⌝ }
     requires { ⌜ isSome (layerSetIn (now part)) ≡ true ⌝ }
     ensures { λ r. ⌜ elements.GivesRanges
-            (elements.litSet (axis .«max_layer») (axis .«allow_negatives») inverted (now (part .entry))) r (now (out .exit))
-            (now (out .entry)) ⌝ }
+        (elements.litSet (axis .«max_layer») (axis .«allow_negatives») inverted (now (part .entry))) r (now (out .exit))
+        (now (out .entry)) ⌝ }
 {
     gather_set(part, axis, inverted, reach);
     let runs = count_runs(reach);
@@ -158,26 +164,27 @@ fn simplify_set(part: &[u8], axis: AxisLayersInfo, inverted: bool, reach: &mut [
     Answer::Value(runs as u64)
 }
 
-// On an axis with few layers. The large table is in a function of its own, so that this one's stack stays small.
+// Simplifies a layer set on an axis with few layers. The large table is in a function of its own, so that this one's
+// stack stays small.
 fn simplify_set_of_few(part: &[u8], axis: AxisLayersInfo, inverted: bool, out: &mut [u8]) -> Answer
     requires { ⌜ (1 ≤ axis .«max_layer») × (axis .«max_layer» < 128) ⌝ }
     requires { ⌜ isSome (layerSetIn (now part)) ≡ true ⌝ }
     ensures { λ r. ⌜ elements.GivesRanges
-            (elements.litSet (axis .«max_layer») (axis .«allow_negatives») inverted (now (part .entry))) r (now (out .exit))
-            (now (out .entry)) ⌝ }
+        (elements.litSet (axis .«max_layer») (axis .«allow_negatives») inverted (now (part .entry))) r (now (out .exit))
+        (now (out .entry)) ⌝ }
 {
     let mut reach = [0u16; 128];
     let layers = axis.max_layer as usize + 1;
     simplify_set(part, axis, inverted, &mut reach[..layers], out)
 }
 
-// On an axis with any number of layers.
+// Simplifies a layer set on an axis with any number of layers.
 fn simplify_set_of_many(part: &[u8], axis: AxisLayersInfo, inverted: bool, out: &mut [u8]) -> Answer
     requires { ⌜ meaning.IsLayer (axis .«max_layer») ⌝ }
     requires { ⌜ isSome (layerSetIn (now part)) ≡ true ⌝ }
     ensures { λ r. ⌜ elements.GivesRanges
-            (elements.litSet (axis .«max_layer») (axis .«allow_negatives») inverted (now (part .entry))) r (now (out .exit))
-            (now (out .entry)) ⌝ }
+        (elements.litSet (axis .«max_layer») (axis .«allow_negatives») inverted (now (part .entry))) r (now (out .exit))
+        (now (out .entry)) ⌝ }
 {
     let mut reach = [0u16; 32768];
     let layers = axis.max_layer as usize + 1;
@@ -188,7 +195,7 @@ fn simplify_set_of_many(part: &[u8], axis: AxisLayersInfo, inverted: bool, out: 
 fn simplify_range(low: u16, high: u16, max_layer: u16, out: &mut [u8]) -> Answer
     requires { ⌜ meaning.IsRange (table.rangeFrom low high) ⌝ }
     ensures { λ r. ⌜ elements.GivesRanges (rule.keep (rule.clampToLayerCount «max_layer» (table.rangeFrom low high)) []) r
-            (now (out .exit)) (now (out .entry)) ⌝ }
+        (now (out .exit)) (now (out .entry)) ⌝ }
 {
     let range = LayerRange {
         min: Layer(low),
@@ -204,13 +211,13 @@ fn simplify_range(low: u16, high: u16, max_layer: u16, out: &mut [u8]) -> Answer
     Answer::Value(1)
 }
 
-// The same with a tilde before it, or without one.
+// Simplifies a prefix that is no set, with a tilde before it or without one.
 fn simplify_no_set(low: u16, high: u16, inverted: bool, max_layer: u16, out: &mut [u8]) -> Answer
     requires { ⌜ meaning.IsRange (table.rangeFrom low high) ⌝ }
     requires { ⌜ meaning.IsLayer «max_layer» ⌝ }
     ensures { λ r. ⌜ elements.GivesRanges
-            (rule.lit «max_layer» inverted (rule.keep (rule.clampToLayerCount «max_layer» (table.rangeFrom low high)) [])) r
-            (now (out .exit)) (now (out .entry)) ⌝ }
+        (rule.lit «max_layer» inverted (rule.keep (rule.clampToLayerCount «max_layer» (table.rangeFrom low high)) [])) r
+        (now (out .exit)) (now (out .entry)) ⌝ }
 {
     if inverted {
         simplify_around(low, high, max_layer, out)
@@ -219,8 +226,8 @@ fn simplify_no_set(low: u16, high: u16, inverted: bool, max_layer: u16, out: &mu
     }
 }
 
-// The layers that a move turns on an axis with `max_layer` layers: ranges that neither overlap nor touch, by depth. With a tilde (`inverted`)
-// these are the layers that the same prefix without it does not give.
+// The layers that a move turns on an axis with `max_layer` layers: ranges that neither overlap nor touch, by depth. With
+// a tilde (`inverted`) these are the layers that the same prefix without it does not give.
 pub fn simplify(
     text: &[u8],
     inverted: bool,
@@ -233,8 +240,8 @@ pub fn simplify(
     requires { ⌜ length (now text) ≤ MAX-TEXT ⌝ }
     requires { ⌜ layersOk (now text) (record′.layers layers) ≡ true ⌝ }
     ensures { λ r. ⌜ elements.GivesRanges
-            (rule.lit «max_layer» inverted (rangesIn (now (text .entry)) «max_layer» «allow_negatives» (record′.layers layers))) r
-            (now (out .exit)) (now (out .entry)) ⌝ }
+        (rule.lit «max_layer» inverted (rangesIn (now (text .entry)) «max_layer» «allow_negatives» (record′.layers layers))) r
+        (now (out .exit)) (now (out .entry)) ⌝ }
 {
     match layers {
         LayerPrefixContents::None => simplify_no_set(1, 1, inverted, max_layer, out),

@@ -18,7 +18,8 @@ use Rattle.counts.specs.Groups.{groupCount}
 abbrev pub tallyRecord : ℕ → Head → List ℕ
 tallyRecord h x = layOut widths (set (headFields x) 11 (h % 256))
 
--- The lists that are open at one record have different tallies: of a group in a list with tally h the first list has h + 2, the second h + 1.
+-- The lists that are open at one record have different tallies: of a group in a list with tally h the first list has h + 2, the
+-- second h + 1.
 unfoldable mutual
   pub tallyNode : ℕ → Node Leaf → List ℕ
   tallyNode h (leaf x) = tallyRecord h (leafHead x)

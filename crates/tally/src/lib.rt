@@ -1,6 +1,7 @@
-// Step counts filled in by one pass from the end of a tree. Going backwards, the records of a list are met before the group that it belongs to, so each list has a
-// running sum, its tally, until its group takes it. Lists that are open at one time have tallies of different numbers, and until a record's count is filled in, the
-// field holds the number of its list's tally: in `[R: U] F` the conjugate and F have 0, R has 2 and U has 1.
+// Step counts filled in by one pass from the end of a tree. Going backwards, the records of a list are met before the
+// group that it belongs to, so each list has a running sum, its tally, until its group takes it. Lists that are open at
+// one time have tallies of different numbers, and until a record's count is filled in, the field holds the number of its
+// list's tally: in `[R: U] F` the conjugate and F have 0, R has 2 and U has 1.
 ghost use mathlib.Core.Path.{_≡_};
 ghost use Prim.Native.Nat.{_+_, _/_, _≤_, _<_};
 ghost use lib.ListN.{length, getD, set};
@@ -18,8 +19,8 @@ use record::encode::LEAF;
 use record::fields;
 use record::kinds;
 
-// The tallies of a group's lists, counted from that of the list in which the group stands. The second list is met first, and its sum waits while the first is added
-// up.
+// The tallies of a group's lists, counted from that of the list in which the group stands. The second list is met first,
+// and its sum waits while the first is added up.
 pub const OF_FIRST: u64 = 2;
 
 pub const OF_SECOND: u64 = 1;
@@ -40,7 +41,8 @@ pub fn fill_counts(tree: &mut [u8])
     }
 }
 
-// Fills in one record, the sums being those of what lies behind it, and adds its count to its list's tally. A tally's number is held by the last byte of the field.
+// Fills in one record, the sums being those of what lies behind it, and adds its count to its list's tally. A tally's
+// number is the last byte of the field.
 fn fill_count(t: &mut [u8], sums: &mut [u64; TALLIES])
     requires { ⌜ tallies.Open (now t) × tallies.Capped (now sums) ⌝ }
     ensures { λ _. ⌜ now (t .exit) ≡ withField COUNT (tallies.ownCount (now (t .entry)) (now (sums .entry))) (now (t .entry)) ⌝ }
@@ -57,19 +59,25 @@ fn fill_count(t: &mut [u8], sums: &mut [u64; TALLIES])
     }
 }
 
-// The count of a group by the tallies of its lists, which are complete here and are free again for the lists of other groups.
+// The count of a group by the tallies of its lists, which are complete here and are free again for the lists of other
+// groups.
 fn group_count(t: &[u8], tally: usize, sums: &mut [u64; TALLIES]) -> u64
     requires { ⌜ recordSize ≤ length (now t) ⌝ }
     requires { ⌜ tally + 2 < tallies.TALLIES ⌝ }
     requires { ⌜ tallies.Capped (now sums) ⌝ }
     ensures { λ r. ⌜ r
         ≡ groupCount (kindAt (now (t .entry))) (fromBits 32 (field NUMBER (now (t .entry)))) (getD (now (sums .entry)) (tally + 2) 0)
-                (getD (now (sums .entry)) (tally + 1) 0) ⌝ }
+        (getD (now (sums .entry)) (tally + 1) 0) ⌝ }
     ensures { λ _. ⌜ now (sums .exit) ≡ set (set (now (sums .entry)) (tally + 2) 0) (tally + 1) 0 ⌝ }
 {
     let first = tally + OF_FIRST as usize;
     let second = tally + OF_SECOND as usize;
-    let count = of_group(fields::kind(t), fields::number(t), sums[first], sums[second]);
+    let count = of_group(
+        fields::kind(t),
+        fields::number(t),
+        sums[first],
+        sums[second],
+    );
     sums[first] = 0;
     sums[second] = 0;
     count

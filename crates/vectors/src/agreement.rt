@@ -1,5 +1,5 @@
-// The cases of `hypuz_notation::agree`: features (2 digits), length of each of the four buffers for trees and texts (6 digits), place (16 digits), length
-// of each of the two for a step (2 digits), then the text's segments.
+// The cases of `hypuz_notation::agree`: features (2 digits), length of each of the four buffers for trees and texts (6
+// digits), place (16 digits), length of each of the two for a step (2 digits), then the text's segments.
 ghost use Prim.Native.Nat.{_+_, _≤_};
 ghost use mathlib.Core.Path.{_≡_};
 ghost use lib.ListN.{length};
@@ -20,6 +20,7 @@ use record::RECORD;
 const HEAD: usize = 26;
 // Bytes of the longest buffers that a case may lend: 120 records for each tree and text, and two for each step.
 const MOST: usize = RECORD * 120;
+
 const MOST_STEP: usize = RECORD * 2;
 
 // What is asked beside the text.
@@ -51,7 +52,7 @@ pub fn case(given: &[u8], text: &mut [u8], line: &mut [u8]) -> Decoded
     asked(bits as u32, &given[2..HEAD], &text[0..size], line)
 }
 
-// The same with the features and the text at hand. `given` is what stands between them.
+// Puts the answer into `line`, the features and the text being at hand. `given` is what stands between them.
 fn asked(bits: u32, given: &[u8], text: &[u8], line: &mut [u8]) -> Decoded
     requires { ⌜ (length (now given) ≡ 24) × (length (now line) ≡ LINE) ⌝ }
     ensures { λ r. ⌜ AtMost LINE r ⌝ }
@@ -122,7 +123,17 @@ fn agreed(
     ensures { λ r. ⌜ r ≤ LINE ⌝ }
 {
     let features = features::from_bits(call.bits);
-    let found = agree(text, features, call.place, tree, inverse, printed, back, step, undone);
+    let found = agree(
+        text,
+        features,
+        call.place,
+        tree,
+        inverse,
+        printed,
+        back,
+        step,
+        undone,
+    );
     let at = put_answers(line, found);
     let sums = put_steps(line, at, step, undone);
     put_sums(line, sums, tree, inverse, printed, back)
@@ -176,7 +187,8 @@ fn put_number(line: &mut [u8], at: usize, n: u64) -> usize
 
 // Puts the whole of both buffers for a step, so that a byte that was written without need shows.
 fn put_steps(line: &mut [u8], at: usize, step: &[u8], undone: &[u8]) -> usize
-    requires { ⌜ (at ≤ 176) × (length (now step) ≤ MOST-STEP) × (length (now undone) ≤ MOST-STEP) × (length (now line) ≡ LINE) ⌝ }
+    requires { ⌜ (at ≤ 176) × (length (now step) ≤ MOST-STEP) × (length (now undone) ≤ MOST-STEP)
+        × (length (now line) ≡ LINE) ⌝ }
     ensures { λ r. ⌜ r ≤ 481 ⌝ }
 {
     let end = hex::put_bytes(line, at, step);
@@ -185,7 +197,14 @@ fn put_steps(line: &mut [u8], at: usize, step: &[u8], undone: &[u8]) -> usize
 }
 
 // Puts a checksum of the whole of each other buffer, and ends the line.
-fn put_sums(line: &mut [u8], at: usize, tree: &[u8], inverse: &[u8], printed: &[u8], back: &[u8]) -> usize
+fn put_sums(
+    line: &mut [u8],
+    at: usize,
+    tree: &[u8],
+    inverse: &[u8],
+    printed: &[u8],
+    back: &[u8],
+) -> usize
     requires { ⌜ (at ≤ 481) × (length (now line) ≡ LINE) ⌝ }
     ensures { λ r. ⌜ r ≤ LINE ⌝ }
 {

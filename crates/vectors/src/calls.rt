@@ -1,5 +1,6 @@
-// The cases of the entries that take a tree, and of the listing, which takes none: a letter for the entry, length of the lent buffer (6 digits), place or record (16 digits),
-// `max_layer` (8 digits), whether negatives are allowed (0 or 1), the text's segments, `|`, and the tree's segments.
+// The cases of the entries that take a tree, and of the listing, which takes none: a letter for the entry, length of the
+// lent buffer (6 digits), place or record (16 digits), `max_layer` (8 digits), whether negatives are allowed (0 or 1),
+// the text's segments, `|`, and the tree's segments.
 ghost use Prim.Native.Nat.{_≤_};
 ghost use mathlib.Core.Path.{_≡_};
 ghost use lib.ListN.{length};
@@ -25,10 +26,13 @@ use record::RECORD;
 const HEAD: usize = 32;
 // Bytes of a tree of the Rust's sample: no text of it has over 1,000 records.
 const SAMPLED: usize = RECORD * 1000;
+
 const MAX_U32: usize = 0xffffffff;
 // What an answer counts: bytes of the lent buffer, layer ranges in it, or steps, which take no bytes.
 const BYTES: usize = 1;
+
 const RANGES: usize = RANGE;
+
 const STEPS: usize = 0;
 
 // What is asked beside the text and the tree. Entries pass over what they do not take.
@@ -41,7 +45,13 @@ struct Call {
 }
 
 // Puts the answer of the case `given` into `line`, and answers its length.
-pub fn case(given: &[u8], text: &mut [u8], tree: &mut [u8], out: &mut [u8], line: &mut [u8]) -> Decoded
+pub fn case(
+    given: &[u8],
+    text: &mut [u8],
+    tree: &mut [u8],
+    out: &mut [u8],
+    line: &mut [u8],
+) -> Decoded
     requires { ⌜ length (now line) ≡ LINE ⌝ }
     ensures { λ r. ⌜ AtMost LINE r ⌝ }
 {
@@ -62,10 +72,16 @@ pub fn case(given: &[u8], text: &mut [u8], tree: &mut [u8], out: &mut [u8], line
         return Decoded::Damaged;
     };
     let room = report::least(lent, out.len());
-    asked(given, &text[0..size], &tree[0..records], &mut out[0..room], line)
+    asked(
+        given,
+        &text[0..size],
+        &tree[0..records],
+        &mut out[0..room],
+        line,
+    )
 }
 
-// The same with the text and the tree at hand. `out` is what is lent.
+// Puts the answer into `line`, the text and the tree being at hand. `out` is what is lent.
 fn asked(given: &[u8], text: &[u8], tree: &[u8], out: &mut [u8], line: &mut [u8]) -> Decoded
     requires { ⌜ (32 ≤ length (now given)) × (length (now line) ≡ LINE) ⌝ }
     ensures { λ r. ⌜ AtMost LINE r ⌝ }
@@ -89,6 +105,7 @@ fn asked(given: &[u8], text: &[u8], tree: &[u8], out: &mut [u8], line: &mut [u8]
     Decoded::Value(called(call, text, tree, out, line))
 }
 
+// Calls the entry of a case and puts its answer into `line`.
 fn called(call: Call, text: &[u8], tree: &[u8], out: &mut [u8], line: &mut [u8]) -> usize
     requires { ⌜ length (now line) ≡ LINE ⌝ }
     ensures { λ r. ⌜ r ≤ LINE ⌝ }
@@ -129,6 +146,7 @@ fn deep_shown(text: &[u8], tree: &[u8], out: &mut [u8]) -> Answer {
     display(text, &inverse[0..n], out)
 }
 
+// What the answer of an entry counts.
 fn unit(entry: u8) -> usize {
     match entry {
         b'c' => STEPS,
@@ -137,7 +155,7 @@ fn unit(entry: u8) -> usize {
     }
 }
 
-// A family is a part of the text. Beside a refusal it is empty: bytes of it show as touched.
+// Puts a family into `line`, a part of the text. Beside a refusal it is empty: bytes of it show as touched.
 fn named(record: u64, text: &[u8], tree: &[u8], line: &mut [u8]) -> usize
     requires { ⌜ length (now line) ≡ LINE ⌝ }
     ensures { λ r. ⌜ r ≤ LINE ⌝ }

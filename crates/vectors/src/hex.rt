@@ -21,6 +21,7 @@ fn digit(byte: u8) -> usize
     }
 }
 
+// The byte of a hexadecimal digit.
 fn glyph(value: u8) -> u8
     requires { ⌜ value < 16 ⌝ }
 {

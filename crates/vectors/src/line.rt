@@ -19,7 +19,7 @@ pub fn put(line: &mut [u8], at: usize, piece: &[u8]) -> usize
     at + i
 }
 
-// The same for a number in decimal.
+// Puts a number in decimal into the line.
 pub fn put_decimal(line: &mut [u8], at: usize, n: u64) -> usize
     requires { ⌜ at + 20 ≤ length (now line) ⌝ }
     ensures { λ r. ⌜ r ≤ at + 20 ⌝ }
@@ -29,7 +29,7 @@ pub fn put_decimal(line: &mut [u8], at: usize, n: u64) -> usize
     put(line, at, &digits[..k])
 }
 
-// The same for a number in six hexadecimal digits.
+// Puts a number in six hexadecimal digits into the line.
 pub fn put_hex(line: &mut [u8], at: usize, n: u64) -> usize
     requires { ⌜ at + 16 ≤ length (now line) ⌝ }
     ensures { λ r. ⌜ r ≤ at + 16 ⌝ }

@@ -1,5 +1,6 @@
-// Runs stored cases: each line of standard input is one case, and its answer is one line of standard output, which the gate
-// compares with the file stdout. tests/reference/vectors.py makes both files. A line's first byte tells which entry it is for.
+// Runs stored cases: each line of standard input is one case, and its answer is one line of standard output, which the
+// gate compares with the file stdout. tests/reference/vectors.py makes both files. A line's first byte tells which entry
+// it is for.
 mod agreement;
 mod calls;
 mod hex;
@@ -32,7 +33,13 @@ fn case(given: &[u8], text: &mut [u8], tree: &mut [u8], out: &mut [u8]) {
 }
 
 // Puts the answer of the case `given` into `line`, and answers its length.
-fn answer(given: &[u8], text: &mut [u8], tree: &mut [u8], out: &mut [u8], line: &mut [u8]) -> Decoded
+fn answer(
+    given: &[u8],
+    text: &mut [u8],
+    tree: &mut [u8],
+    out: &mut [u8],
+    line: &mut [u8],
+) -> Decoded
     requires { ⌜ length (now line) ≡ LINE ⌝ }
     ensures { λ r. ⌜ AtMost LINE r ⌝ }
 {
@@ -56,7 +63,8 @@ fn run_cases(input: &[u8], text: &mut [u8], tree: &mut [u8], out: &mut [u8]) {
     }
 }
 
-// The input is read in pieces: what is kept of one is the start of the line that the next one goes on with. A last line may lack its newline.
+// The input is read in pieces: what is kept of one is the start of the line that the next one goes on with. A last line
+// may lack its newline.
 fn run(input: &mut [u8], text: &mut [u8], tree: &mut [u8], out: &mut [u8]) {
     let mut kept = 0;
     let mut n = 0;
@@ -67,7 +75,8 @@ fn run(input: &mut [u8], text: &mut [u8], tree: &mut [u8], out: &mut [u8]) {
     run_cases(&input[0..kept], text, tree, out);
 }
 
-// Reads on behind what is kept, runs the cases of the lines that are whole, moves the start of the next one to the front, and answers its length.
+// Reads on behind what is kept, runs the cases of the lines that are whole, moves the start of the next one to the
+// front, and answers its length.
 fn piece(input: &mut [u8], kept: usize, text: &mut [u8], tree: &mut [u8], out: &mut [u8]) -> usize
     requires { ⌜ kept ≤ length (now input) ⌝ }
     ensures { λ r. ⌜ r ≤ length (now (input .entry)) ⌝ }
@@ -82,12 +91,15 @@ fn piece(input: &mut [u8], kept: usize, text: &mut [u8], tree: &mut [u8], out: &
 
 // An input has at most so many pieces of the size of its buffer: 16 MiB.
 const MAX_PIECES: usize = 64;
+
 const PIECE: usize = 262144;
-// Texts of over 65,536 bytes and trees of over 65,536 records: past what 16 bits hold. The stack has no room for the longest texts;
-// those are run from C (tests/host).
+// Texts of over 65,536 bytes and trees of over 65,536 records: past what 16 bits hold. The stack has no room for the
+// longest texts; those are run from C (tests/host).
 const TEXT: usize = 144000;
+
 const TREE: usize = RECORD * 72000;
 
+// Runs the cases of standard input.
 fn main() {
     let mut input = [0u8; PIECE];
     let mut text = [0u8; TEXT];

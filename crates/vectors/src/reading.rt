@@ -1,4 +1,5 @@
-// The cases of `parse::parse_notation`: features (2 digits), length of the lent buffer (6 digits), then the text's segments.
+// The cases of `parse::parse_notation`: features (2 digits), length of the lent buffer (6 digits), then the text's
+// segments.
 ghost use Prim.Native.Nat.{_≤_};
 ghost use mathlib.Core.Path.{_≡_};
 ghost use lib.ListN.{length};

@@ -1,4 +1,5 @@
-// What a line says of an answer: its number, the bytes that were written, and whether a byte was written that should not be.
+// What a line says of an answer: its number, the bytes that were written, and whether a byte was written that should not
+// be.
 ghost use Rattle.vectors.specs.Bounds.{LINE};
 ghost use Prim.Native.Nat.{_≤_};
 ghost use mathlib.Core.Path.{_≡_};
@@ -12,7 +13,7 @@ pub const UNTOUCHED: u8 = 0xaa;
 // Longer results are shown by their checksum.
 const SHOWN: usize = 500;
 
-// An answer whose value counts things of `unit` bytes that were written to the front of `buffer`.
+// Puts an answer whose value counts things of `unit` bytes that were written to the front of `buffer`.
 pub fn answered(answer: Answer, unit: usize, buffer: &[u8], line: &mut [u8]) -> usize
     requires { ⌜ length (now line) ≡ LINE ⌝ }
     ensures { λ r. ⌜ r ≤ LINE ⌝ }
@@ -33,6 +34,7 @@ fn bytes_used(value: u64, unit: usize, room: usize) -> usize
     least(value as usize, room / unit) * unit
 }
 
+// Puts a refusal.
 pub fn refused(number: u8, buffer: &[u8], line: &mut [u8]) -> usize
     requires { ⌜ length (now line) ≡ LINE ⌝ }
     ensures { λ r. ⌜ r ≤ LINE ⌝ }
@@ -42,7 +44,7 @@ pub fn refused(number: u8, buffer: &[u8], line: &mut [u8]) -> usize
     closed(buffer, line, end)
 }
 
-// A value, and the first `used` bytes of the buffer.
+// Puts a value, and the first `used` bytes of the buffer.
 pub fn read(value: u64, used: usize, buffer: &[u8], line: &mut [u8]) -> usize
     requires { ⌜ (length (now line) ≡ LINE) × (used ≤ length (now buffer)) ⌝ }
     ensures { λ r. ⌜ r ≤ LINE ⌝ }
@@ -78,6 +80,7 @@ fn closed(rest: &[u8], line: &mut [u8], at: usize) -> usize
     }
 }
 
+// Fills a buffer with the byte that stands for untouched.
 pub fn fill(buffer: &mut [u8]) {
     let mut i = 0;
     while i < buffer.len() {
@@ -86,6 +89,7 @@ pub fn fill(buffer: &mut [u8]) {
     }
 }
 
+// Whether no byte of the buffer was written.
 fn is_untouched(buffer: &[u8]) -> bool {
     let mut i = 0;
     while i < buffer.len() {
@@ -97,6 +101,7 @@ fn is_untouched(buffer: &[u8]) -> bool {
     true
 }
 
+// A checksum of bytes, of 24 bits.
 pub fn checksum(bytes: &[u8]) -> u64 {
     let mut total: u64 = 0;
     let mut i = 0;
@@ -107,6 +112,7 @@ pub fn checksum(bytes: &[u8]) -> u64 {
     total
 }
 
+// The smaller of two numbers.
 pub fn least(a: usize, b: usize) -> usize
     ensures { λ r. ⌜ (r ≤ a) × (r ≤ b) ⌝ }
 {

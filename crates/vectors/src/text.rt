@@ -1,5 +1,5 @@
-// A case's text, which the input spells as segments `count:bytes;`: the bytes in hexadecimal, repeated `count` times, so that a long
-// text fits a short line.
+// A case's text, which the input spells as segments `count:bytes;`: the bytes in hexadecimal, repeated `count` times, so
+// that a long text fits a short line.
 ghost use Prim.Native.Nat.{_≤_};
 ghost use lib.ListN.{length};
 ghost use Rattle.vectors.specs.Bounds.{AtMost};
@@ -41,7 +41,7 @@ pub fn spell(given: &[u8], text: &mut [u8]) -> Decoded
     Decoded::Value(size)
 }
 
-// The same for one segment, without its `;`.
+// Spells one segment, without its `;`.
 fn segment(given: &[u8], text: &mut [u8]) -> Decoded
     ensures { λ r. ⌜ AtMost (length (now (text .entry))) r ⌝ }
 {

@@ -56,7 +56,7 @@ secondIn bs = unpack (secondBytes (headAt bs) bs)
 abbrev firstNode : List ℕ → Node Leaf
 firstNode bs = nodeOf (headAt bs) (firstIn bs) (secondIn bs)
 
--- if these bytes are well formed, so many steps and theirs, held
+-- if these bytes are well formed, so many steps and theirs, capped
 abbrev countFrom : List ℕ → ℕ → ℕ → List ℕ → Option ℕ
 countFrom text d n bs = pick (formed text d bs) (some (cap (n + count (unpack bs)))) none
 
@@ -125,7 +125,7 @@ module _ (text : List ℕ) (d : ℕ) (bs : List ℕ) (below : Below 256 bs) (som
               rest = formed-fact text d (restBytes h bs) r;
             }))
 
--- What a turn leaves: the steps that are counted, n of them, and the bytes that are left decide. A step that is not held took a byte or more.
+-- What a turn leaves: the steps that are counted, n of them, and the bytes that are left decide. A step that is not capped took a byte or more.
 pub record Left (text : List ℕ) (d : ℕ) (list bs : List ℕ) (n : ℕ) : Type 0 where
   pub below : Below 256 bs
   pub within : length bs ≤ length list
@@ -153,7 +153,7 @@ rest-is bs end = take-all (length bs - end) (drop end bs) (omega (arith, length-
 pub shorter : (bs : List ℕ) (end : ℕ) → 0 < end → end ≤ length bs → length (take (length bs - end) (drop end bs)) < length bs
 shorter bs end p l = omega (arith, ap length (rest-is bs end), length-drop end bs)
 
--- the first node's steps, c of them as it stores them, are added to n and give n′, held or not; with those of the rest
+-- the first node's steps, c of them as it stores them, are added to n and give n′, capped or not; with those of the rest
 count-on : (bs : List ℕ) (n c n′ : ℕ) → 0 < length bs → c ≡ stored (firstNode bs) → cap n′ ≡ cap (n + c) → cap (n′ + count (unpack (restBytes (headAt bs) bs))) ≡ cap (n + count (unpack bs))
 unfolding count
 count-on bs n c n′ p e s =

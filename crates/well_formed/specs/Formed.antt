@@ -16,7 +16,7 @@ formed text d bs =
     let t = unpack bs in
     sameList (pack t) bs && treeOk text t && leb (depth t) d
 
--- how many steps it has, held, if it is well formed; and a whole tree
+-- how many steps it has, capped, if it is well formed; and a whole tree
 abbrev pub formedCount : List ℕ → ℕ → List ℕ → Option ℕ
 formedCount text d bs = pick (formed text d bs) (some (cap (count (unpack bs)))) none
 

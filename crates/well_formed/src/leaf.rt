@@ -60,7 +60,7 @@ fn to_end(part: &[u8], taken: Taken) -> bool
 fn set_end(part: &[u8], layers: bool) -> Taken
     ensures { λ r. ⌜ endReading (now (part .entry)) r
         ≡ pick layers (forget (grammar.layerSetElements true 0 (now (part .entry))))
-                (forget (grammar.constraintSet 0 (now (part .entry)))) ⌝ }
+        (forget (grammar.constraintSet 0 (now (part .entry)))) ⌝ }
 {
     if layers {
         layer_set(part, 0, true)
@@ -73,7 +73,7 @@ fn set_end(part: &[u8], layers: bool) -> Taken
 fn set_ok(text: &[u8], p: Span, layers: bool) -> bool
     ensures { λ r. ⌜ r
         ≡ pick layers (rule.layersOk (now (text .entry)) (tree.layerSet (span p)))
-                (rule.constraintsOk (now (text .entry)) (some (span p))) ⌝ }
+        (rule.constraintsOk (now (text .entry)) (some (span p))) ⌝ }
 {
     let from = p.offset as usize;
     let to = from + p.size as usize;
@@ -84,6 +84,7 @@ fn set_ok(text: &[u8], p: Span, layers: bool) -> bool
     to_end(part, set_end(part, layers))
 }
 
+// Whether constraints, where there are any, are such a set.
 fn constraints_ok(text: &[u8], constraints: SpanOption) -> bool
     ensures { λ r. ⌜ r ≡ rule.constraintsOk (now (text .entry)) (spanOption constraints) ⌝ }
 {
@@ -93,12 +94,14 @@ fn constraints_ok(text: &[u8], constraints: SpanOption) -> bool
     }
 }
 
+// Whether two layers are in bounds and in order.
 fn range_ok(low: u16, high: u16) -> bool
     ensures { λ r. ⌜ r ≡ rule.layersOk [] (tree.layerRange low high) ⌝ }
 {
     1 <= low && low <= high && high <= MAX_LAYER
 }
 
+// Whether the layers of a move are in bounds.
 fn layers_ok(text: &[u8], l: LayerPrefixContents) -> bool
     ensures { λ r. ⌜ r ≡ rule.layersOk (now (text .entry)) (layers l) ⌝ }
 {
@@ -110,6 +113,7 @@ fn layers_ok(text: &[u8], l: LayerPrefixContents) -> bool
     }
 }
 
+// Whether what a rotation names is in bounds.
 pub fn rotation_ok(text: &[u8], x: Rotation) -> bool
     ensures { λ r. ⌜ r ≡ rule.leafOk (now (text .entry)) (rotationLeaf x) ⌝ }
 {
@@ -118,6 +122,7 @@ pub fn rotation_ok(text: &[u8], x: Rotation) -> bool
     family_ok(text, family, 0) && constraints_ok(text, constraints) && multiplier_ok(x.multiplier)
 }
 
+// Whether what a move names is in bounds.
 pub fn move_ok(text: &[u8], x: Move) -> bool
     ensures { λ r. ⌜ r ≡ rule.leafOk (now (text .entry)) (moveLeaf x) ⌝ }
 {

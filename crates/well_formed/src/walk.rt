@@ -1,5 +1,5 @@
-// Refusal 6: a tree is well formed if its bytes are what packing writes of its nodes, each node is in bounds, and groups are
-// nested at most 64 deep. The same visit adds up the step counts that packing writes.
+// Refusal 6: a tree is well formed if its bytes are what packing writes of its nodes, each node is in bounds, and groups
+// are nested at most 64 deep. The same visit adds up the step counts that packing writes.
 use crate::leaf::move_ok;
 use crate::leaf::multiplier_ok;
 use crate::leaf::rotation_ok;
@@ -36,19 +36,21 @@ pub enum StepCount {
     Nothing,
 }
 
-// Of a whole tree.
+// How many steps a well-formed tree has, capped.
 pub fn steps(text: &[u8], tree: &[u8]) -> StepCount
     ensures { λ r. ⌜ stepCount r ≡ wellFormedSteps (now (text .entry)) (now (tree .entry)) ⌝ }
 {
     list_count(text, tree, MAX_NESTING)
 }
 
-// Whether these records are a list of nodes in which groups are nested at most `depth` deep, and if so how many steps they are.
+// Whether these records are a list of nodes in which groups are nested at most `depth` deep, and if so how many steps
+// they are.
 fn list_count(text: &[u8], list: &[u8], depth: usize) -> StepCount
     ensures { λ r. ⌜ stepCount r ≡ formedCount (now (text .entry)) depth (now (list .entry)) ⌝ }
 {
     let mut t = list;
-    // Leaves, which most nodes are, are added without holding: a list has fewer bytes than 2^63, so that ones cannot bring the sum past 64 bits.
+    // Leaves, which most nodes are, are added without capping: a list has fewer bytes than 2^63, so that ones cannot
+    // bring the sum past 64 bits.
     let mut count = 0;
     while 0 < t.len() {
         if t.len() < RECORD {
@@ -77,7 +79,8 @@ fn list_count(text: &[u8], list: &[u8], depth: usize) -> StepCount
     StepCount::Steps(cap(count))
 }
 
-// Whether the first node, a group, is in bounds, its lists with one level less are well formed, and it stores the step count that they come to.
+// Whether the first node, a group, is in bounds, its lists with one level less are well formed, and it stores the step
+// count that they come to.
 fn group_ok(text: &[u8], t: &[u8], depth: usize) -> bool
     requires { ⌜ RECORD + RECORD * (field FIRST (now t) + field SECOND (now t)) ≤ length (now t) ⌝ }
     requires { ⌜ kindAt (now t) < 6 ⌝ }
@@ -109,14 +112,14 @@ fn group_ok(text: &[u8], t: &[u8], depth: usize) -> bool
     }
 }
 
-// Whether the first record, that of a group, is what packing writes of a group with that step count, and its multiplier is in bounds. Whether the
-// count is right, only its lists tell.
+// Whether the first record, that of a group, is what packing writes of a group with that step count, and its multiplier
+// is in bounds. Whether the count is right, only its lists tell.
 fn group_record_ok(t: &[u8]) -> bool
     requires { ⌜ RECORD ≤ length (now t) ⌝ }
     requires { ⌜ kindAt (now t) < 6 ⌝ }
     ensures { λ r. ⌜ r
         ≡ (sameList (headRecord (headAt (now (t .entry)))) (take RECORD (now (t .entry))) && multiplierOk
-                (fromBits 32 (field NUMBER (now (t .entry))))) ⌝ }
+        (fromBits 32 (field NUMBER (now (t .entry))))) ⌝ }
 {
     let kind = fields::kind(t);
     let second = fields::second(t);

@@ -1,4 +1,4 @@
--- `inside` meets its contract. Assumes nothing.
+-- `contents` meets its contract. Assumes nothing.
 use Prim.Native.Nat.{ℕ, _+_, _*_}
 use mathlib.Core.Path.{ap, ap₂, _∙_}
 use native.Mathlib.Omega.{arith}

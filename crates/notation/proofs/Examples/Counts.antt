@@ -37,7 +37,7 @@ nothing : map countsIn ("^(R U)" ∷ "^(R U)2" ∷ "(F ^(R (U)3))2" ∷ "[^(R), 
 unfolding opened
 nothing = refl
 
--- 4,294,967,295 is stored as it is and 4,294,967,296 stands for itself and all above, by addition and by multiplication; 0 times a held one is 0
+-- 4,294,967,295 is stored as it is and 4,294,967,296 stands for itself and all above, by addition and by multiplication; 0 times a capped one is 0
 limits : map countsIn
     ("((R)2147483647 (R)2147483647 R)" ∷ "((R)2147483647 (R)2147483647 R R)" ∷ "((R)2147483647 (R)2147483647 R R R)" ∷ "((R)2147483647)2" ∷ "((R)2147483647)3" ∷ "((R)2147483647)2147483647" ∷ "(((R)2147483647)3)0" ∷ "[((R)2147483647)3:]" ∷ [])
     ≡ (4294967295 ∷ 2147483647 ∷ 1 ∷ 2147483647 ∷ 1 ∷ 1 ∷ []) ∷ (4294967296 ∷ 2147483647 ∷ 1 ∷ 2147483647 ∷ 1 ∷ 1 ∷ 1 ∷ []) ∷ (4294967296 ∷ 2147483647 ∷ 1 ∷ 2147483647 ∷ 1 ∷ 1 ∷ 1 ∷ 1 ∷ [])

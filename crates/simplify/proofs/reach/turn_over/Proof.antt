@@ -1,4 +1,4 @@
--- `invert` meets its contract. The invariant: the entries before i are turned over, and those from i on would be, `far` being how far the ranges before reach. Assumes nothing.
+-- `turn_over` meets its contract. The invariant: the entries before i are turned over, and those from i on would be, `far` being how far the ranges before reach. Assumes nothing.
 use Prim.Native.Nat.{_≤_, _<_, _-_, max}
 use mathlib.Core.Path.{_≡_, refl, sym, _∙_}
 use mathlib.Core.Logic.{⊎-elim}
