@@ -1,5 +1,5 @@
 #!/usr/bin/env bash
-# Everything that is run beside the gate, on the archive of this checkout: some ten minutes, of which proving the crates takes half if they are not proved yet.
+# Everything that is run beside the gate, on the archive of this checkout: some fifteen minutes, and five more where the crates are not proved yet.
 #   tests/run.sh [SRC]      SRC: the folder that holds the published Rust, crates/hypuz_notation/src, to compare with it too
 # Each run says what it did. The last line is 'N passed, M failed, K skipped', and the exit status is 0 where none failed.
 set -u
@@ -67,13 +67,15 @@ fuzz() {
 shown=1
 run archive rt staticlib hypuz_notation
 run lister-program rt check lister
+run layout tests/layout.sh --check
 shown=12
 if has python3; then
     run vectors vectors
     run lister lister
     run lister-worst lister_worst
+    run wrong python3 tests/wrong.py tests/wrong
 else
-    for name in vectors lister lister-worst; do skip $name "needs python3 (package python3)"; done
+    for name in vectors lister lister-worst wrong; do skip $name "needs python3 (package python3)"; done
 fi
 if has cc; then
     run host tests/host/run.sh

@@ -8,7 +8,8 @@ An edit is a file NAME.edit in crates/CRATE/must-fail or tests/wrong/CRATE, in t
 specs/ alone is passed over. A program may run for S seconds, 10 if not said. A run checks no index: a program that goes out of bounds may go on by chance,
 and then differ from run to run.
 
-The exit status is 1 if an edit could not be applied or compiled, or if the sources as they stand differ from the stored answers; otherwise 0."""
+The exit status is 1 if an edit could not be applied or compiled, if one of tests/wrong is told by none, or if the sources as they stand differ from the stored answers;
+otherwise 0."""
 import argparse
 import collections
 import os
@@ -41,6 +42,8 @@ esac
 printf 'target triple = "x86_64-unknown-linux-gnu"\ndefine i32 @main() {{ ret i32 0 }}\n' >module.bc
 exec {clang} "$@"
 """
+
+TOLD = ("told", "stops", "endless")  # the kinds of verdict by which the cases tell a wrong program
 
 Edit = collections.namedtuple("Edit", "name crate pairs")
 Verdict = collections.namedtuple("Verdict", "kind text")
@@ -220,7 +223,7 @@ class Trial:
 def totals(names):
     """Prints how many edits were told, and the names of those that were not, given the names of each kind."""
     n = collections.Counter({kind: len(of) for kind, of in names.items()})
-    print(f"{sum(n.values())} edits: {n['told'] + n['stops'] + n['endless']} told ({n['told']} by their answers, {n['stops']} stop on the way, {n['endless']} do not end), "
+    print(f"{sum(n.values())} edits: {sum(n[kind] for kind in TOLD)} told ({n['told']} by their answers, {n['stops']} stop on the way, {n['endless']} do not end), "
           f"{n['none'] + n['same']} told by none ({n['same']} of them leave the program the same), {n['passed over']} passed over, "
           f"{n['not applied']} cannot be applied, {n['not compiled']} do not compile")
     print("told by none, in a program that is not the same:", ", ".join(names["none"]) or "-")
@@ -249,15 +252,17 @@ def main():
         sys.exit(f"the sources as they stand do not compile: {why}")
     if stands.kind != "none":
         sys.exit(f"the sources as they stand: {stands.text}")
-    names = collections.defaultdict(list)
+    names, untold = collections.defaultdict(list), []
     for path, crate in found(folders):
         edit = read(path, crate)
         said = trial.edit(edit)
         names[said.kind].append(edit.name)
+        if said.kind not in TOLD and not os.path.dirname(path).endswith("must-fail"):
+            untold.append(edit.name)
         print(f"{edit.name}: {said.text}", flush=True)
     totals(names)
     print(f"{time.monotonic() - began:.0f} seconds")
-    return 1 if names["not applied"] or names["not compiled"] else 0
+    return 1 if names["not applied"] or names["not compiled"] or untold else 0
 
 
 if __name__ == "__main__":

@@ -7,6 +7,7 @@ use lib.IntN.{natAbs}
 use lib.ListN.{getD}
 use Rattle.notation.specs.Basics.{pick}
 use Rattle.notation.specs.Numbers.{fromBits}
+use Rattle.notation.specs.Clauses.{kind, number, family, constraints, form}
 
 -- by the kind, the magnitude of the number, the sizes of family and constraints, and the layer form
 abbrev pub allowedFor : (kind n family constraints form : ℕ) → ℕ
@@ -15,4 +16,4 @@ allowedFor kind n family constraints form =
 
 -- by the fields of the record
 abbrev pub allowed : List ℕ → ℕ
-allowed fs = allowedFor (getD fs 0 0 / 16) (natAbs (fromBits 32 (getD fs 3 0))) (getD fs 6 0) (getD fs 8 0) (getD fs 0 0 / 2 % 4)
+allowed fs = allowedFor (kind fs) (natAbs (fromBits 32 (number fs))) (family fs .size) (constraints fs .size) (form fs)

@@ -14,7 +14,7 @@ use Rattle.notation.specs.Packed.{
 use Rattle.notation.specs.Counts.{countNode, stored}
 use Rattle.notation.specs.declared.common.GroupKind.{GroupKind}
 use Rattle.notation.specs.declared.common.BinaryGroupKind.{BinaryGroupKind}
-use Rattle.record.specs.Meaning.{field, FIRST, SECOND}
+use Rattle.record.specs.Meaning.{field, FIRST, SECOND, COUNT}
 use Rattle.record.specs.Range.{FitsHead}
 use Rattle.record.proofs.RoundTrip.{length-headRecord, headAt-headRecord, cut-headRecord}
 use Rattle.laws.specs.Packed.{FitsNode, FitsBody, FitsTree}
@@ -48,7 +48,7 @@ node-head-fits (leaf x) f = f
 node-head-fits (block b m) f = f .0
 
 -- the two counts of a record, both 0 in a leaf, give the end of its node
-leaf-counts : (x : Leaf) → getD (headFields (leafHead x)) 1 0 + getD (headFields (leafHead x)) 2 0 ≡ 0
+leaf-counts : (x : Leaf) → getD (headFields (leafHead x)) FIRST 0 + getD (headFields (leafHead x)) SECOND 0 ≡ 0
 leaf-counts (rotation f c m) = refl
 leaf-counts (move t l f c m) = refl
 leaf-counts pause = refl
@@ -56,14 +56,14 @@ leaf-counts (pair u d) = refl
 leaf-counts slash = refl
 leaf-counts (megaminx k) = refl
 
-node-counts : (n : Node Leaf) → 1 + (getD (headFields (nodeHead n)) 1 0 + getD (headFields (nodeHead n)) 2 0) ≡ nodeSize n
+node-counts : (n : Node Leaf) → 1 + (getD (headFields (nodeHead n)) FIRST 0 + getD (headFields (nodeHead n)) SECOND 0) ≡ nodeSize n
 unfolding nodeSize bodySize
 node-counts (leaf x) = ap (λ (k : ℕ). 1 + k) (leaf-counts x)
 node-counts (block (group k a) m) = omega arith
 node-counts (block (binaryGroup k a b) m) = refl
 
 -- the record of a node stores its step count, that of a leaf 1
-pub leaf-stored : (x : Leaf) → getD (headFields (leafHead x)) 11 0 ≡ 1
+pub leaf-stored : (x : Leaf) → getD (headFields (leafHead x)) COUNT 0 ≡ 1
 leaf-stored (rotation f c m) = refl
 leaf-stored (move t l f c m) = refl
 leaf-stored pause = refl
@@ -71,7 +71,7 @@ leaf-stored (pair u d) = refl
 leaf-stored slash = refl
 leaf-stored (megaminx k) = refl
 
-pub head-stored : (n : Node Leaf) → getD (headFields (nodeHead n)) 11 0 ≡ stored n
+pub head-stored : (n : Node Leaf) → getD (headFields (nodeHead n)) COUNT 0 ≡ stored n
 unfolding countNode
 head-stored (leaf x) = leaf-stored x
 head-stored (block (group g a) m) = refl

@@ -6,6 +6,7 @@ use mathlib.Core.List.{List, _++_}
 use native.Mathlib.Omega.{arith}
 use lib.Dec.{eqb}
 use lib.ListN.{length, drop, set}
+use Rattle.record.specs.Meaning.{COUNT}
 use Rattle.notation.specs.Utf8.{byteAt}
 use Rattle.notation.specs.Numbers.{fromBits}
 use Rattle.notation.specs.Tree.{block, group, binaryGroup}
@@ -26,8 +27,8 @@ inner-kept : (slot : ℕ) (xs old mid : List ℕ) → WroteRecords (RECORD * (sl
 inner-kept slot xs old mid w = kept-less (RECORD * slot) (RECORD * (slot + 1)) old mid (omega arith) (w .kept)
 
 -- a group's record, written by its fields, before those of its lists
-outer : (slot tally : ℕ) (fs : List ℕ) (h : Head) → set fs 11 (tally % 256) ≡ set (headFields h) 11 (tally % 256) → (xs old mid : List ℕ) → WroteRecords (RECORD * (slot + 1)) xs old mid →
-    WroteRecords (RECORD * slot) (tallyRecord tally h ++ xs) old (put (RECORD * slot) (layOut widths (set fs 11 (tally % 256))) mid)
+outer : (slot tally : ℕ) (fs : List ℕ) (h : Head) → set fs COUNT (tally % 256) ≡ set (headFields h) COUNT (tally % 256) → (xs old mid : List ℕ) → WroteRecords (RECORD * (slot + 1)) xs old mid →
+    WroteRecords (RECORD * slot) (tallyRecord tally h ++ xs) old (put (RECORD * slot) (layOut widths (set fs COUNT (tally % 256))) mid)
 outer slot tally fs h e xs old mid w =
     rw e (header (RECORD * slot) (RECORD * (slot + 1)) (tallyRecord tally h) xs old mid (omega (arith, length-tallyRecord tally h)) w)
 
@@ -54,7 +55,7 @@ module _ (f : Features) (text : List ℕ) (at slot tally : ℕ) (old : List ℕ)
 
       pub closed-group : (bits next : ℕ) (fs : List ℕ) → fs ≡ headFields (groupHead kind (end - (slot + 1)) (fromBits 32 bits) 0) →
           CloseRead f text close 41 bits next →
-          NodeRead (λ k. repeated f (groupNode (nodeList f k))) text at slot tally old (put (RECORD * slot) (layOut widths (set fs 11 (tally % 256))) mid) next end
+          NodeRead (λ k. repeated f (groupNode (nodeList f k))) text at slot tally old (put (RECORD * slot) (layOut widths (set fs COUNT (tally % 256))) mid) next end
       unfolding nodeSize bodySize tallyNode tallyBody
       closed-group bits next fs laid closes =
           let m = fromBits 32 bits in
@@ -66,7 +67,7 @@ module _ (f : Features) (text : List ℕ) (at slot tally : ℕ) (old : List ℕ)
             slots = omega (arith, list .slots);
             advances = omega (arith, list .advances, closes .advances);
             inside = closes .inside;
-            wrote = outer slot tally fs (bodyHead (group kind (list .tree)) m) (ap (λ (l : List ℕ). set l 11 (tally % 256)) (rw records at laid)) (tallyList (tally + 2) (list .tree)) old mid (list .wrote);
+            wrote = outer slot tally fs (bodyHead (group kind (list .tree)) m) (ap (λ (l : List ℕ). set l COUNT (tally % 256)) (rw records at laid)) (tallyList (tally + 2) (list .tree)) old mid (list .wrote);
           }
 
   module _ (opens : eqb (byteAt text at) 91 ≡ true) (mid : List ℕ) (sign middle : ℕ)
@@ -100,7 +101,7 @@ module _ (f : Features) (text : List ℕ) (at slot tally : ℕ) (old : List ℕ)
 
       pub closed-binary : (bits next : ℕ) (fs : List ℕ) → fs ≡ headFields (binaryHead kind (middle - (slot + 1)) (end - middle) (fromBits 32 bits) 0) →
           CloseRead f text close 93 bits next →
-          NodeRead (λ k. repeated f (binaryGroupNode (nodeList f k))) text at slot tally old (put (RECORD * slot) (layOut widths (set fs 11 (tally % 256))) last) next end
+          NodeRead (λ k. repeated f (binaryGroupNode (nodeList f k))) text at slot tally old (put (RECORD * slot) (layOut widths (set fs COUNT (tally % 256))) last) next end
       unfolding nodeSize bodySize tallyNode tallyBody
       closed-binary bits next fs laid closes =
           let m = fromBits 32 bits in
@@ -113,5 +114,5 @@ module _ (f : Features) (text : List ℕ) (at slot tally : ℕ) (old : List ℕ)
             slots = omega (arith, a .slots, b .slots);
             advances = omega (arith, a .advances, b .advances, closes .advances);
             inside = closes .inside;
-            wrote = outer slot tally fs (bodyHead (binaryGroup kind (a .tree) (b .tree)) m) (ap (λ (l : List ℕ). set l 11 (tally % 256)) (rw (left, right) at laid)) (tallyList (tally + 2) (a .tree) ++ tallyList (tally + 1) (b .tree)) old last both;
+            wrote = outer slot tally fs (bodyHead (binaryGroup kind (a .tree) (b .tree)) m) (ap (λ (l : List ℕ). set l COUNT (tally % 256)) (rw (left, right) at laid)) (tallyList (tally + 2) (a .tree) ++ tallyList (tally + 1) (b .tree)) old last both;
           }

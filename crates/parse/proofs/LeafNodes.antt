@@ -6,6 +6,7 @@ use mathlib.Core.List.{List}
 use native.Mathlib.Omega.{arith}
 use lib.IntN.{ℤ}
 use lib.ListN.{length, drop, set}
+use Rattle.record.specs.Meaning.{COUNT}
 use Rattle.notation.specs.Tree.{Leaf, megaminx, Node, leaf, block}
 use Rattle.notation.specs.Packed.{RECORD, widths, layOut, leafFields, nodeSize}
 use Rattle.notation.specs.Grammar.{Reading, rejected, read, Reader, done, fail, andThen, orElse, when, multiplier, just, constraints, tilde, family, layerPrefixContents, rotationNode, moveNode, groupKind, groupNode, binaryGroupNode, megaminxScrambleMove, sq1Move, node, nodeBy}
@@ -94,11 +95,11 @@ module _ (f : Features) (text : List ℕ) (at slot : ℕ) (old : List ℕ) where
 
   pub leaf-read : (tally : ℕ) (fs : List ℕ) (next : ℕ) → read fs next (drop next text) ≡ andThen (node f fail at (drop at text)) (λ n. done (nodeFields n)) →
       at < next → next ≤ length text →
-      NodeRead (λ _. node f fail) text at slot tally old (put (RECORD * slot) (layOut widths (set fs 11 (tally % 256))) old) next (slot + 1)
+      NodeRead (λ _. node f fail) text at slot tally old (put (RECORD * slot) (layOut widths (set fs COUNT (tally % 256))) old) next (slot + 1)
   unfolding nodeSize tallyNode
   leaf-read tally fs next e l i = go (leaf-of (node f fail at (drop at text)) fs next (drop next text) (node-leaf f at (drop at text)) e) where
     go : (x : Leaf) × (node f fail at (drop at text) ≡ read (leaf x) next (drop next text)) × (leafFields x ≡ fs) →
-        NodeRead (λ _. node f fail) text at slot tally old (put (RECORD * slot) (layOut widths (set fs 11 (tally % 256))) old) next (slot + 1)
+        NodeRead (λ _. node f fail) text at slot tally old (put (RECORD * slot) (layOut widths (set fs COUNT (tally % 256))) old) next (slot + 1)
     go (x, r, is) =
         record {
           node = leaf x;
@@ -106,5 +107,5 @@ module _ (f : Features) (text : List ℕ) (at slot : ℕ) (old : List ℕ) where
           slots = refl;
           advances = omega arith;
           inside = i;
-          wrote = rw is (put-wrote (RECORD * slot) (layOut widths (set fs 11 (tally % 256))) old);
+          wrote = rw is (put-wrote (RECORD * slot) (layOut widths (set fs COUNT (tally % 256))) old);
         }

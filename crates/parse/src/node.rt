@@ -8,7 +8,7 @@ ghost use lib.ListN.{length, drop, getD, set};
 ghost use Rattle.notation.specs.Entries.{MAX-TEXT};
 ghost use Rattle.notation.specs.Grammar as rule;
 ghost use Rattle.notation.specs.Packed as packed;
-ghost use Rattle.record.specs.Meaning.{listed};
+ghost use Rattle.record.specs.Meaning.{listed, COUNT};
 ghost use Rattle.parse.specs.Nodes as nodes;
 use crate::leaves::group_kind;
 use crate::leaves::leaf;
@@ -80,7 +80,7 @@ fn binary_group_kind(text: &[u8], at: usize) -> BinaryKind
 fn put_group(tree: &mut [u8], slot: usize, f: Fields, tally: u64)
     requires { ⌜ slot ≤ MAX-TEXT ⌝ }
     ensures { λ _. ⌜ now (tree .exit)
-        ≡ nodes.put (packed.RECORD * slot) (packed.layOut packed.widths (set (listed f) 11 (tally % 256))) (now (tree .entry)) ⌝ }
+        ≡ nodes.put (packed.RECORD * slot) (packed.layOut packed.widths (set (listed f) COUNT (tally % 256))) (now (tree .entry)) ⌝ }
 {
     let at = RECORD * slot;
     let end = at + RECORD;
@@ -96,7 +96,7 @@ fn put_group(tree: &mut [u8], slot: usize, f: Fields, tally: u64)
 fn put_leaf(tree: &mut [u8], slot: usize, f: Fields, tally: u64)
     requires { ⌜ slot ≤ MAX-TEXT ⌝ }
     ensures { λ _. ⌜ now (tree .exit)
-        ≡ nodes.put (packed.RECORD * slot) (packed.layOut packed.widths (set (listed f) 11 (tally % 256))) (now (tree .entry)) ⌝ }
+        ≡ nodes.put (packed.RECORD * slot) (packed.layOut packed.widths (set (listed f) COUNT (tally % 256))) (now (tree .entry)) ⌝ }
 {
     let at = RECORD * slot;
     let end = at + RECORD;

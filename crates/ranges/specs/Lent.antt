@@ -31,5 +31,5 @@ pub record Resolved (text tree : List ℕ) (k n : ℕ) (neg : Bool) (room : ℕ)
   pub enough : rangeCount r ≤ room
   pub inside : 4 * rangeCount r ≤ length bytes
   pub same : (zs : List LayerRange) → length zs ≡ room →
-      record { answer = rule.outcome r; buffer = map meaning.range (rangesFrom bytes (rangeCount r) 0 ++ drop (rangeCount r) zs) }
+      rule.lent r (map meaning.range (rangesFrom bytes (rangeCount r) 0 ++ drop (rangeCount r) zs))
       ≡ rule.simplify text tree k n neg (map meaning.range zs)

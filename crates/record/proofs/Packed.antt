@@ -65,9 +65,9 @@ module _ (s : List ℕ) (at : ℕ) (below : Below 256 s) (room : at + 6 ≤ leng
 
 -- the step count by the first of its five bytes and by the other four
 module _ (bs : List ℕ) (long : RECORD ≤ length bs) (high low : ℕ)
-    (e : high ≡ fromBigEndian (take 1 (drop (start widths 11) bs))) (f : low ≡ fromBigEndian (take 4 (drop (start widths 11 + 1) bs))) where
+    (e : high ≡ fromBigEndian (take 1 (drop (start widths COUNT) bs))) (f : low ≡ fromBigEndian (take 4 (drop (start widths COUNT + 1) bs))) where
   count-parts : field COUNT bs ≡ high * 4294967296 + low
-  count-parts = field-at bs 11 (lit< tt) ∙ two-parts bs (start widths 11) 1 4 long ∙ rw (e, f)
+  count-parts = field-at bs COUNT (lit< tt) ∙ two-parts bs (start widths COUNT) 1 4 long ∙ rw (e, f)
 
   pub more-than-one : (high ≡ 0 → ⊥) → eqb high 0 ≡ eqb (field COUNT bs) 1
   more-than-one n = ne-eqb high 0 n ∙ sym (ne-eqb (field COUNT bs) 1 (λ z. n (omega (arith, count-parts))))

@@ -32,7 +32,7 @@ number-negated z h = ap (λ (y : ℤ). toBits 32 (negℤ y)) (fromBits-toBits 32
 
 -- The fields of a record undone, by its kind. The number is negated in each, and 0 stays where there is none.
 abbrev halfFields : Head → List ℕ
-halfFields h = set (headFields h) 3 (negated (getD (headFields h) 3 0))
+halfFields h = set (headFields h) NUMBER (negated (getD (headFields h) NUMBER 0))
 
 half-undone : (h : Head) → FitsHead h → (kindOf h ≡ 9 → ⊥) → kindOf h ≤ 10 → halfFields h ≡ headFields (undoneHead h)
 half-undone (leafHead (rotation f c m)) h n l = rw (number-negated m (h .2))
@@ -48,7 +48,7 @@ half-undone (groupHead g a m c) h n l = rw (number-negated m (h .1))
 half-undone (binaryHead g a b m c) h n l = rw (number-negated m (h .2))
 
 -- of a pair also the other number
-both-undone : (h : Head) → FitsHead h → kindOf h ≡ 9 → set (halfFields h) 4 (negated (getD (headFields h) 4 0)) ≡ headFields (undoneHead h)
+both-undone : (h : Head) → FitsHead h → kindOf h ≡ 9 → set (halfFields h) OTHER (negated (getD (headFields h) OTHER 0)) ≡ headFields (undoneHead h)
 both-undone (leafHead (rotation f c m)) h e = absurd (omega arith)
 both-undone (leafHead (move t l f c m)) h e = absurd (omega arith)
 both-undone (leafHead pause) h e = absurd (omega arith)
@@ -67,7 +67,7 @@ both-undone (binaryHead Conjugate n n′ m c) h e = absurd (omega arith)
 
 -- of a Megaminx move the kind
 move-undone : (h : Head) → 10 < kindOf h → (r : ℕ) → ((k : MegaminxScrambleMove) → kindOf h ≡ megaminxNumber k → r ≡ megaminxNumber (exchanged k))
-    → set (halfFields h) 0 (r * 16) ≡ headFields (undoneHead h)
+    → set (halfFields h) SMALL (r * 16) ≡ headFields (undoneHead h)
 move-undone (leafHead (rotation f c m)) l r e = absurd (omega arith)
 move-undone (leafHead (move t y f c m)) l r e = absurd (omega arith)
 move-undone (leafHead pause) l r e = absurd (omega arith)

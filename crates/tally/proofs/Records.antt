@@ -33,10 +33,10 @@ fits-set (and-field f fs) zero n h = and-field h fs
 fits-set (and-field f fs) (suc i) n h = and-field f (fits-set fs i n h)
 
 module _ (h : ℕ) (x : Head) (small : h < 256) (fits : FitsHead x) where
-  fields : (i : ℕ) → field i (tallyRecord h x) ≡ getD (set (headFields x) 11 (h % 256)) i 0
+  fields : (i : ℕ) → field i (tallyRecord h x) ≡ getD (set (headFields x) COUNT (h % 256)) i 0
   fields i =
       ap (λ (l : List ℕ). getD (cut widths l) i 0) (take-all RECORD (tallyRecord h x) (omega (arith, length-tallyRecord h x)) ∙ sym (append-nil (tallyRecord h x)))
-      ∙ ap (λ (l : List ℕ). getD l i 0) (cut-layOut [] (fits-set (headFields-fit x fits) 11 (h % 256) (omega arith)))
+      ∙ ap (λ (l : List ℕ). getD l i 0) (cut-layOut [] (fits-set (headFields-fit x fits) COUNT (h % 256) (omega arith)))
 
   pub tally-is : tallyAt (tallyRecord h x) ≡ h
   tally-is = ap (λ (n : ℕ). n % 256) (fields 11 ∙ getD-set-same (headFields x) 11 (h % 256) 0 (omega (arith, length-headFields x))) ∙ omega arith
@@ -44,7 +44,7 @@ module _ (h : ℕ) (x : Head) (small : h < 256) (fits : FitsHead x) where
   pub kind-is : kindAt (tallyRecord h x) ≡ kindOf x
   kind-is = ap (λ (n : ℕ). n / 16) (fields 0 ∙ getD-set-other (headFields x) 11 0 (h % 256) 0 (λ e. omega arith)) ∙ kind-field x
 
-  pub number-is : field NUMBER (tallyRecord h x) ≡ getD (headFields x) 3 0
+  pub number-is : field NUMBER (tallyRecord h x) ≡ getD (headFields x) NUMBER 0
   number-is = fields 3 ∙ getD-set-other (headFields x) 11 3 (h % 256) 0 (λ e. omega arith)
 
 -- The counts of a group's lists; one that is no binary group has one list.
@@ -72,9 +72,9 @@ unfolding headRecord
 filled h n =
     let fs = headFields (nodeHead n) in
     ap (withField COUNT (stored n)) (sym (append-nil (tallyRecord h (nodeHead n))))
-    ∙ store-field widths (set fs 11 (h % 256)) [] 11 (stored n) (lit< tt) (length-set fs 11 (h % 256) ∙ length-headFields (nodeHead n))
-    ∙ append-nil (layOut widths (set (set fs 11 (h % 256)) 11 (stored n)))
-    ∙ ap (layOut widths) (set-set fs 11 (h % 256) (stored n) ∙ ap (set fs 11) (sym (head-stored n)) ∙ set-getD fs 11 0)
+    ∙ store-field widths (set fs COUNT (h % 256)) [] COUNT (stored n) (lit< tt) (length-set fs COUNT (h % 256) ∙ length-headFields (nodeHead n))
+    ∙ append-nil (layOut widths (set (set fs COUNT (h % 256)) COUNT (stored n)))
+    ∙ ap (layOut widths) (set-set fs COUNT (h % 256) (stored n) ∙ ap (set fs COUNT) (sym (head-stored n)) ∙ set-getD fs COUNT 0)
 
 -- What the pass finds at a record: of a leaf 1,
 module _ (h : ℕ) (small : h < 256) (sums : List ℕ) where

@@ -3,6 +3,7 @@ use Prim.Native.Nat.{ℕ, _+_, _*_, _%_}
 use mathlib.Core.Path.{_≡_, refl, _∙_}
 use native.Mathlib.Omega.{arith}
 use lib.ListN.{length, set, length-append, length-set}
+use Rattle.record.specs.Meaning.{COUNT}
 use Rattle.notation.specs.Tree.{Leaf, Node, leaf, block, Body, group, binaryGroup, nil, cons, Tree}
 use Rattle.notation.specs.Packed.{RECORD, widths, Head, leafHead, headFields, bodyHead, nodeSize, bodySize, size}
 use Rattle.record.proofs.Cut.{length-layOut}
@@ -10,7 +11,7 @@ use Rattle.record.proofs.RoundTrip.{length-headFields}
 use Rattle.tally.specs.Tallies.{tallyRecord, tallyNode, tallyBody, tallyList}
 
 pub length-tallyRecord : (h : ℕ) (x : Head) → length (tallyRecord h x) ≡ RECORD
-length-tallyRecord h x = length-layOut widths (set (headFields x) 11 (h % 256)) (length-set (headFields x) 11 (h % 256) ∙ length-headFields x)
+length-tallyRecord h x = length-layOut widths (set (headFields x) COUNT (h % 256)) (length-set (headFields x) COUNT (h % 256) ∙ length-headFields x)
 
 mutual
   unfolding nodeSize bodySize size tallyNode tallyBody tallyList

@@ -16,7 +16,7 @@ use Rattle.counts.specs.Groups.{groupCount}
 
 -- A record with the number of its list's tally in place of its count: one byte, which suffices for 64 levels.
 abbrev pub tallyRecord : ℕ → Head → List ℕ
-tallyRecord h x = layOut widths (set (headFields x) 11 (h % 256))
+tallyRecord h x = layOut widths (set (headFields x) COUNT (h % 256))
 
 -- The lists that are open at one record have different tallies: of a group in a list with tally h the first list has h + 2, the
 -- second h + 1.

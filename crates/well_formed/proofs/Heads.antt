@@ -94,7 +94,7 @@ asks-nothing text bs k e =
     (λ j z l s t. refl)
 
 -- The counts that packing writes.
-first-field : (h : Head) → getD (headFields h) 1 0 ≡ first h
+first-field : (h : Head) → getD (headFields h) FIRST 0 ≡ first h
 first-field (leafHead (rotation f c m)) = refl
 first-field (leafHead (move t l f c m)) = refl
 first-field (leafHead pause) = refl
@@ -104,7 +104,7 @@ first-field (leafHead (megaminx k)) = refl
 first-field (groupHead k n m c) = refl
 first-field (binaryHead k n n′ m c) = refl
 
-second-field : (h : Head) → getD (headFields h) 2 0 ≡ second h
+second-field : (h : Head) → getD (headFields h) SECOND 0 ≡ second h
 second-field (leafHead (rotation f c m)) = refl
 second-field (leafHead (move t l f c m)) = refl
 second-field (leafHead pause) = refl
@@ -115,7 +115,7 @@ second-field (groupHead k n m c) = refl
 second-field (binaryHead k n n′ m c) = refl
 
 -- and the step count, if it is the right one
-count-field : (h : Head) (a b : Tree) → countOk h a b ≡ true → getD (headFields h) 11 0 ≡ stored (nodeOf h a b)
+count-field : (h : Head) (a b : Tree) → countOk h a b ≡ true → getD (headFields h) COUNT 0 ≡ stored (nodeOf h a b)
 unfolding countNode
 count-field (leafHead (rotation f c m)) a b e = refl
 count-field (leafHead (move t l f c m)) a b e = refl
@@ -140,10 +140,10 @@ module _ (bs : List ℕ) (below : Below 256 bs) (long : RECORD ≤ length bs) wh
   field-written e i = ap (λ (l : List ℕ). getD l i 0) (sym (same-eq (headFields (headAt bs)) (cut widths (take RECORD bs)) (by-fields ∙ e)))
 
   pub first-written : sameList (headRecord (headAt bs)) (take RECORD bs) ≡ true → field FIRST bs ≡ first (headAt bs)
-  first-written e = field-written e 1 ∙ first-field (headAt bs)
+  first-written e = field-written e FIRST ∙ first-field (headAt bs)
 
   pub second-written : sameList (headRecord (headAt bs)) (take RECORD bs) ≡ true → field SECOND bs ≡ second (headAt bs)
-  second-written e = field-written e 2 ∙ second-field (headAt bs)
+  second-written e = field-written e SECOND ∙ second-field (headAt bs)
 
   pub count-written : sameList (headRecord (headAt bs)) (take RECORD bs) ≡ true → (a b : Tree) → countOk (headAt bs) a b ≡ true → field COUNT bs ≡ stored (nodeOf (headAt bs) a b)
-  count-written e a b r = field-written e 11 ∙ count-field (headAt bs) a b r
+  count-written e a b r = field-written e COUNT ∙ count-field (headAt bs) a b r

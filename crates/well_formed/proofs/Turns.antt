@@ -234,7 +234,7 @@ pub leaf-not-one : (text bs : List ℕ) → Below 256 bs → RECORD ≤ length b
 leaf-not-one text bs below long k one e f d =
     let x = leaf-says bs (kindAt bs) refl k in
     let other : same bs ≡ false = sym (refuted (same bs) λ w.
-    eqb-false (field COUNT bs) 1 (sym e ∙ f) (field-written bs below long w 11 ∙ ap (λ (h : Head). getD (headFields h) 11 0) (sym (x .1)) ∙ leaf-stored (x .0)))
+    eqb-false (field COUNT bs) 1 (sym e ∙ f) (field-written bs below long w COUNT ∙ ap (λ (h : Head). getD (headFields h) COUNT 0) (sym (x .1)) ∙ leaf-stored (x .0)))
     in
     rw other
 
@@ -258,8 +258,8 @@ module _ {bs : List ℕ} {k : ℕ} (read : LeafRead bs k) (text : List ℕ) (s :
 
 -- A group's record, from what is read of it.
 -- the step count that was read with the other fields
-count-of : {f : Fields} {l : List ℕ} → listed f ≡ l → f .count ≡ getD l 11 0
-count-of p = ap (λ (l : List ℕ). getD l 11 0) p
+count-of : {f : Fields} {l : List ℕ} → listed f ≡ l → f .count ≡ getD l COUNT 0
+count-of p = ap (λ (l : List ℕ). getD l COUNT 0) p
 
 -- only a binary group has a second list
 second-is : (bs : List ℕ) (k n : ℕ) → GroupSays bs k (headAt bs) → n ≡ field SECOND bs → (q : Bool) → q ≡ (leb 4 k || eqb n 0) → q ≡ true → n ≡ second (headAt bs)

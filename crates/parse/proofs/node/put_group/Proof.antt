@@ -7,7 +7,7 @@ use borrow.Author.Needs.{needs}
 use borrow.Rule.Slice.PartMut.{putMid}
 use lib.ListN.{set}
 use Rattle.record.proofs.Cut.{length-layOut}
-use Rattle.record.specs.Meaning.{listed}
+use Rattle.record.specs.Meaning.{listed, COUNT}
 use Rattle.parse.proofs.Buffers.{put-part, put-full}
 use Rattle.notation.specs.Packed.{RECORD, widths, layOut}
 use Rattle.parse.proofs.node.put_group.Statement.{statement}
@@ -39,14 +39,14 @@ returns c =
     let a = c .before .before .before .before .before .before .args in
     let at = RECORD * a .slot in
     let old = a .tree .now in
-    let fs = set (listed (a .f)) 11 (a .tally % 256) in
+    let fs = set (listed (a .f)) COUNT (a .tally % 256) in
     ap (λ (l : List ℕ). putMid at (at + RECORD - at) old l) (c .before .before .put .ensures)
     ∙ put-part at (at + RECORD) RECORD (layOut widths fs) old (length-layOut widths fs refl) refl (search needs)
 
 returns-2 : tie.Need-returns-2
 returns-2 c =
     let a = c .before .before .args in
-    let fs = set (listed (a .f)) 11 (a .tally % 256) in
+    let fs = set (listed (a .f)) COUNT (a .tally % 256) in
     put-full (RECORD * a .slot) (layOut widths fs) (a .tree .now) (omega (arith, length-layOut widths fs refl, c .if1 .left))
 
 pub put-group-spec : {M : Type 1} → statement M

@@ -1,6 +1,7 @@
 use borrow.Author.Needs.{needs}
 use mathlib.Core.Path.{_∙_}
 use lib.Dec.{lit<}
+use Rattle.record.specs.Meaning.{FAMILY, FAMILY-SIZE}
 use Rattle.record.proofs.Packed.{field-at}
 use Rattle.record.proofs.fields.no_family.Statement.{statement}
 use Rattle.record.proofs.fields.no_family.Tie as tie
@@ -9,7 +10,7 @@ both-zero-requires : tie.Need-both-zero-requires
 both-zero-requires c κs = search needs
 
 returns : tie.Need-returns
-returns c = c .both-zero .ensures ∙ rw (field-at (c .before .before .args .t .now) 5 (lit< tt), field-at (c .before .before .args .t .now) 6 (lit< tt))
+returns c = c .both-zero .ensures ∙ rw (field-at (c .before .before .args .t .now) FAMILY (lit< tt), field-at (c .before .before .args .t .now) FAMILY-SIZE (lit< tt))
 
 pub no-family-spec : {M : Type 1} → statement M
 no-family-spec = tie.close (tie.spec both-zero-requires returns)

@@ -1,6 +1,7 @@
 use borrow.Author.Needs.{needs}
 use mathlib.Core.Path.{sym, _∙_}
 use lib.Dec.{lit<}
+use Rattle.record.specs.Meaning.{NUMBER}
 use Rattle.record.proofs.Packed.{field-at}
 use Rattle.record.proofs.fields.number.Statement.{statement}
 use Rattle.record.proofs.fields.number.Tie as tie
@@ -9,7 +10,7 @@ read-u32-requires : tie.Need-read-u32-requires
 read-u32-requires c κs = search needs
 
 returns : tie.Need-returns
-returns c = c .read-u32 .ensures ∙ sym (field-at (c .before .before .args .t .now) 3 (lit< tt))
+returns c = c .read-u32 .ensures ∙ sym (field-at (c .before .before .args .t .now) NUMBER (lit< tt))
 
 pub number-spec : {M : Type 1} → statement M
 number-spec = tie.close (tie.spec read-u32-requires returns)

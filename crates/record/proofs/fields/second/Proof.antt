@@ -1,6 +1,7 @@
 use borrow.Author.Needs.{needs}
 use mathlib.Core.Path.{sym, _∙_}
 use lib.Dec.{lit<}
+use Rattle.record.specs.Meaning.{SECOND}
 use Rattle.record.proofs.Packed.{field-at}
 use Rattle.record.proofs.fields.second.Statement.{statement}
 use Rattle.record.proofs.fields.second.Tie as tie
@@ -9,7 +10,7 @@ read-u24-requires : tie.Need-read-u24-requires
 read-u24-requires c κs = search needs
 
 returns : tie.Need-returns
-returns c = c .read-u24 .ensures ∙ sym (field-at (c .before .before .args .t .now) 2 (lit< tt))
+returns c = c .read-u24 .ensures ∙ sym (field-at (c .before .before .args .t .now) SECOND (lit< tt))
 
 pub second-spec : {M : Type 1} → statement M
 second-spec = tie.close (tie.spec read-u24-requires returns)
