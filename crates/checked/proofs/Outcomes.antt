@@ -16,7 +16,7 @@ use Rattle.numbers.proofs.Positional.{Below}
 use Rattle.laws.proofs.Bools.{no-refusal}
 use Rattle.laws.proofs.Packing.{well-formed-below}
 use Rattle.laws.proofs.Accepting.{checked-tree}
-use Rattle.well_formed.proofs.Bytes.{accepted}
+use Rattle.well_formed.proofs.Bytes.{accepted as well-formed-tree}
 use Rattle.checked.specs.Checked.{Accepted, checkedSteps}
 
 -- What `check` promises of its answer.
@@ -43,22 +43,22 @@ module _ (text tree : List ℕ) where
   unfolding checked
   is-checked h u w = rw (le-leb (length text) MAX-TEXT h, u, w)
 
-  pub is-sound : Below 256 tree → length text ≤ MAX-TEXT → utf8 text ≡ true → wellFormed text tree ≡ true → (n : ℕ) → n ≡ cap (count (unpack tree)) → Checks text tree (result n)
-  is-sound b h u w n e =
+  pub is-accepted : Below 256 tree → length text ≤ MAX-TEXT → utf8 text ≡ true → wellFormed text tree ≡ true → (n : ℕ) → n ≡ cap (count (unpack tree)) → Checks text tree (result n)
+  is-accepted b h u w n e =
       let is = is-checked h u w in
-      let a = accepted text tree b w in
+      let a = well-formed-tree text tree b w in
       (rw (is, e), λ k q. record { short = h; packed = a .packed; ok = a .ok; is = is })
 
-  -- a tree that the rule accepts is sound
-  pub checked-sound : (t : Tree) → checked text tree ≡ result t → Accepted text tree
-  checked-sound t e =
+  -- a tree that the rule accepts is accepted
+  pub checked-accepted : (t : Tree) → checked text tree ≡ result t → Accepted text tree
+  checked-accepted t e =
       let c = checked-tree text tree t e in
-      let a = accepted text tree (well-formed-below text tree (c .formed)) (c .formed) in
+      let a = well-formed-tree text tree (well-formed-below text tree (c .formed)) (c .formed) in
       record { short = c .short; packed = a .packed; ok = a .ok; is = is-checked (c .short) (c .isUtf8) (c .formed) }
 
 -- What an entry learns by taking that answer apart.
 pub record Known (text tree : List ℕ) (n : ℕ) : Type 0 where
-  pub sound : Accepted text tree
+  pub accepted : Accepted text tree
   pub steps : n ≡ cap (count (unpack tree))
 
 module _ {text tree : List ℕ} {o : Outcome ℕ} (c : Checks text tree o) where
@@ -66,7 +66,7 @@ module _ {text tree : List ℕ} {o : Outcome ℕ} (c : Checks text tree o) where
   known {n} q =
       let s = c .1 n q in
       let w : o ≡ result (cap (count (unpack tree))) = rw (s .is) at (c .0) in
-      record { sound = s; steps = ap value (sym q ∙ w) }
+      record { accepted = s; steps = ap value (sym q ∙ w) }
 
   pub refused : {r : ℕ} → o ≡ refusal r → checked text tree ≡ refusal r
   refused {r} q = go (checked text tree) refl

@@ -1,4 +1,4 @@
--- Every record of a sound tree is one that a well-formed node has: what holds of the nodes holds of the record at each number.
+-- Every record of an accepted tree is one that a well-formed node has: what holds of the nodes holds of the record at each number.
 -- Assumes nothing.
 use Prim.Native.Nat.{ℕ, _+_, _-_, _*_, _/_, _≤_, _<_}
 use mathlib.Core.Path.{_≡_, refl, sym, ap, _∙_, subst}
@@ -87,7 +87,7 @@ mutual
   each-tree (cons n l) text f ok =
       each-append (length-packNode n) (each-node n text (f .0) (and-left _ _ ok)) (each-tree l text (f .1) (and-right (nodeOk text n) _ ok))
 
--- the record at a number of a sound tree
+-- the record at a number of an accepted tree
 pub record-ok : (text tree : List ℕ) → Accepted text tree → (k : ℕ) → k < length tree / RECORD → HeadOk text (headAt (drop (RECORD * k) tree))
 record-ok text tree s k h =
     let p = s .packed in

@@ -28,7 +28,7 @@ pub record Accepted (text tree : List ℕ) : Type 0 where
 
 -- nor 7, 8 or 9
 pub record Counted (text tree : List ℕ) (n : ℕ) : Type 0 where
-  pub sound : Accepted text tree
+  pub accepted : Accepted text tree
   pub unrefused : firstRefusal false (unpack tree) ≡ none
   pub steps : n ≡ count (unpack tree)
   pub most : n ≤ MAX-STEPS

@@ -14,12 +14,12 @@ use Rattle.checked.specs.Checked.{Accepted}
 use Rattle.checked.proofs.Outcomes.{Checks, refused, lend-handed, lend-short, lend-fits}
 
 module _ (text tree buffer : List ℕ) where
-  pub display-unsound : {a : Outcome ℕ} {r : ℕ} → Checks text tree a → a ≡ refusal r → record { answer = a; buffer = buffer } ≡ displayEntry text tree buffer
-  display-unsound c q = lend-handed (display text tree) buffer q (rw (refused c q))
+  pub display-unaccepted : {a : Outcome ℕ} {r : ℕ} → Checks text tree a → a ≡ refusal r → record { answer = a; buffer = buffer } ≡ displayEntry text tree buffer
+  display-unaccepted c q = lend-handed (display text tree) buffer q (rw (refused c q))
 
-  module _ (sound : Accepted text tree) (size : ℕ) (counts : size ≡ min (length (printed text (unpack tree))) MOST) where
+  module _ (accepted : Accepted text tree) (size : ℕ) (counts : size ≡ min (length (printed text (unpack tree))) MOST) where
     given : display text tree ≡ result (printed text (unpack tree))
-    given = rw (sound .is)
+    given = rw (accepted .is)
 
     pub display-short : length buffer < size → record { answer = refusal NO-ROOM; buffer = buffer } ≡ displayEntry text tree buffer
     display-short h = lend-short (display text tree) buffer (printed text (unpack tree)) given (omega arith)

@@ -115,8 +115,8 @@ inverting deep text tree =
 
 -- The ways out of an inverse.
 module _ {text tree : List ℕ} {o : Outcome (List ℕ)} {refuses : Option ℕ} {bytes : List ℕ} (i : Inverting text tree o refuses bytes) (buffer : List ℕ) where
-  pub inverse-unsound : {a : Outcome ℕ} {r : ℕ} → Checks text tree a → a ≡ refusal r → record { answer = a; buffer = buffer } ≡ lend o buffer
-  inverse-unsound {a} {r} c q = lend-handed o buffer q (i .passes r (refused c q))
+  pub inverse-unaccepted : {a : Outcome ℕ} {r : ℕ} → Checks text tree a → a ≡ refusal r → record { answer = a; buffer = buffer } ≡ lend o buffer
+  inverse-unaccepted {a} {r} c q = lend-handed o buffer q (i .passes r (refused c q))
 
   pub inverse-refused : Accepted text tree → (r : ℕ) → r ≡ over refuses 0 → (r ≡ 0 → ⊥) → record { answer = refusal r; buffer = buffer } ≡ lend o buffer
   inverse-refused s r e h = lend-refused o buffer r (i .is (s .is) ∙ go refuses e)

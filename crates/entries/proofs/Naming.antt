@@ -78,9 +78,9 @@ abbrev pub found : List ℕ → ℕ → List ℕ
 found tree k = take (length tree - RECORD * k) (drop (RECORD * k) tree)
 
 module _ (text tree : List ℕ) (k : ℕ) where
-  pub family-unsound : {a : Outcome ℕ} {r : ℕ} → Checks text tree a → a ≡ refusal r → refusal r ≡ familySpan text tree k
+  pub family-unaccepted : {a : Outcome ℕ} {r : ℕ} → Checks text tree a → a ≡ refusal r → refusal r ≡ familySpan text tree k
   unfolding familySpan
-  family-unsound c q = rw (refused c q)
+  family-unaccepted c q = rw (refused c q)
 
   module _ (s : Accepted text tree) where
     pub family-none : length tree / RECORD ≤ k → refusal NO-SUCH-RECORD ≡ familySpan text tree k
@@ -91,8 +91,8 @@ module _ (text tree : List ℕ) (k : ℕ) where
       from : headAt (found tree k) ≡ headAt (drop (RECORD * k) tree)
       from = ap headAt (take-all (length tree - RECORD * k) (drop (RECORD * k) tree) (simp length-drop (omega arith)))
 
-      pub sound-record : HeadOk text (headAt (found tree k))
-      sound-record = subst (HeadOk text) (sym from) (record-ok text tree s k h)
+      pub accepted-record : HeadOk text (headAt (found tree k))
+      accepted-record = subst (HeadOk text) (sym from) (record-ok text tree s k h)
 
       pub family-is : familyOf (headAt (found tree k)) ≡ familySpan text tree k
       unfolding familySpan
@@ -117,10 +117,10 @@ module _ (text tree : List ℕ) (k n : ℕ) (neg : Bool) (buffer : List ℕ) whe
   abbrev Refused : ℕ → Type 0
   Refused r = record { answer = refusal r; buffer = buffer } ≡ simplifyBytes text tree k n neg buffer
 
-  pub simplify-unsound : {a : Outcome ℕ} {r : ℕ} → Checks text tree a → a ≡ refusal r →
+  pub simplify-unaccepted : {a : Outcome ℕ} {r : ℕ} → Checks text tree a → a ≡ refusal r →
       record { answer = a; buffer = buffer } ≡ simplifyBytes text tree k n neg buffer
   unfolding layerRanges
-  simplify-unsound c q = rw (q, refused c q)
+  simplify-unaccepted c q = rw (q, refused c q)
 
   module _ (s : Accepted text tree) where
     pub simplify-no-layers : n ≡ 0 → Refused NO-SUCH-LAYER-COUNT

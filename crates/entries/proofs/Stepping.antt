@@ -36,11 +36,11 @@ pub record Counts (text tree : List ℕ) (o : Outcome ℕ) : Type 0 where
 refused-as : (text tree : List ℕ) {o : Outcome ℕ} (r : ℕ) → o ≡ refusal r → steps text tree ≡ refusal r → Counts text tree o
 refused-as text tree r q e = record { answer = rw (q, e); counted = λ n p. no-refusal (sym q ∙ p) }
 
-pub count-unsound : {text tree : List ℕ} {o : Outcome ℕ} {r : ℕ} → Checks text tree o → o ≡ refusal r → Counts text tree o
+pub count-unaccepted : {text tree : List ℕ} {o : Outcome ℕ} {r : ℕ} → Checks text tree o → o ≡ refusal r → Counts text tree o
 unfolding steps
-count-unsound {text} {tree} {o} {r} c q = refused-as text tree r q (rw (refused c q))
+count-unaccepted {text} {tree} {o} {r} c q = refused-as text tree r q (rw (refused c q))
 
-module _ (text tree : List ℕ) (sound : Accepted text tree) (s : Refusals) (e : refuses s ≡ (λ (d : Bool). firstRefusal d (unpack tree))) where
+module _ (text tree : List ℕ) (accepted : Accepted text tree) (s : Refusals) (e : refuses s ≡ (λ (d : Bool). firstRefusal d (unpack tree))) where
   met : refusalOf (s .forward) ≡ firstRefusal false (unpack tree)
   met = ap (λ (f : Bool → Option ℕ). f false) e
 
@@ -56,14 +56,14 @@ module _ (text tree : List ℕ) (sound : Accepted text tree) (s : Refusals) (e :
 
   pub count-refused : (s .forward ≡ 0 → ⊥) → Counts text tree (refusal (s .forward))
   unfolding steps
-  count-refused h = refused-as text tree (s .forward) refl (rw (sound .is, flatten-is (unpack tree) false, met-some h))
+  count-refused h = refused-as text tree (s .forward) refl (rw (accepted .is, flatten-is (unpack tree) false, met-some h))
 
   module _ (n : ℕ) (capped : n ≡ cap (count (unpack tree))) (z : s .forward ≡ 0) where
     pub count-many : MAX-STEPS < n → Counts text tree (refusal TOO-MANY-STEPS)
     unfolding steps
     count-many h =
         refused-as text tree TOO-MANY-STEPS refl
-        (rw (sound .is, flatten-is (unpack tree) false, unmet z, count-is (unpack tree) false, lt-leb (count (unpack tree)) MAX-STEPS (omega arith)))
+        (rw (accepted .is, flatten-is (unpack tree) false, unmet z, count-is (unpack tree) false, lt-leb (count (unpack tree)) MAX-STEPS (omega arith)))
 
     pub count-done : n ≤ MAX-STEPS → Counts text tree (result n)
     unfolding steps
@@ -71,8 +71,8 @@ module _ (text tree : List ℕ) (sound : Accepted text tree) (s : Refusals) (e :
         let most : count (unpack tree) ≤ MAX-STEPS = omega arith in
         let is : n ≡ count (unpack tree) = omega arith in
         record {
-          answer = rw (sound .is, flatten-is (unpack tree) false, unmet z, count-is (unpack tree) false, le-leb (count (unpack tree)) MAX-STEPS most, is) (ap result (sym (count-is (unpack tree) false)));
-          counted = λ m q. record { sound = sound; unrefused = unmet z; steps = sym (ap value q) ∙ is; most = let v : n ≡ m = ap value q in omega arith };
+          answer = rw (accepted .is, flatten-is (unpack tree) false, unmet z, count-is (unpack tree) false, le-leb (count (unpack tree)) MAX-STEPS most, is) (ap result (sym (count-is (unpack tree) false)));
+          counted = λ m q. record { accepted = accepted; unrefused = unmet z; steps = sym (ap value q) ∙ is; most = let v : n ≡ m = ap value q in omega arith };
         }
 
 -- Where the count is refused, unrolling and seeking are; the answer is handed on as it is.
@@ -98,7 +98,7 @@ module _ (text tree : List ℕ) (o : Outcome ℕ) (e : o ≡ countSteps text tre
 module _ (text tree : List ℕ) (n : ℕ) (c : Counted text tree n) (buffer : List ℕ) where
   pub these : steps text tree ≡ result (flat undo false (unpack tree))
   unfolding steps
-  these = rw (c .sound .is, flatten-is (unpack tree) false, c .unrefused, count-is (unpack tree) false, sym (c .steps), le-leb n MAX-STEPS (c .most))
+  these = rw (c .accepted .is, flatten-is (unpack tree) false, c .unrefused, count-is (unpack tree) false, sym (c .steps), le-leb n MAX-STEPS (c .most))
 
   all : unrolled text tree ≡ result (records (flat undo false (unpack tree)))
   all = rw these

@@ -1,4 +1,4 @@
--- Every step that a sound tree unrolls to is a well-formed record by itself, and prints as its step. Assumes nothing.
+-- Every step that an accepted tree unrolls to is a well-formed record by itself, and prints as its step. Assumes nothing.
 use Prim.Native.Nat.{ℕ, zero, suc, _≤_, _<_}
 use mathlib.Core.Path.{_≡_, refl, sym, ap, _∙_, subst}
 use mathlib.Core.Bool.{Bool, true, false, not}
@@ -154,7 +154,7 @@ at-place (suc k) (one g p) h = let t = at-place k p (omega arith) in record { st
 
 pub there : (text tree : List ℕ) (n : ℕ) → Counted text tree n → (k : ℕ) → k < n → There text (flat undo false (unpack tree)) k
 there text tree n c k h =
-    at-place k (tree-good text (c .sound .short) (unpack tree) false (c .sound .ok) (c .sound .packed .fits) (c .unrefused))
+    at-place k (tree-good text (c .accepted .short) (unpack tree) false (c .accepted .ok) (c .accepted .packed .fits) (c .unrefused))
     (omega (arith, count-is (unpack tree) false, c .steps))
 
 -- Its record as a tree of one leaf.

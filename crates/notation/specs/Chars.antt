@@ -6,7 +6,9 @@ use mathlib.Core.List.{List, [], _∷_, map}
 use lib.Dec.{eqb}
 use Rattle.notation.specs.Basics.{pick, between, oneOf}
 use Rattle.notation.specs.declared.char_set.CharSet.{CharSet}
-use Rattle.notation.specs.declared.char_set.CharSet.the-variants.{LowercaseLatin, UppercaseLatin, UppercaseGreek, TallLowercaseGreek, ShortLowercaseGreek, Underscore, Prime}
+use Rattle.notation.specs.declared.char_set.CharSet.the-variants.{
+  LowercaseLatin, UppercaseLatin, UppercaseGreek, TallLowercaseGreek, ShortLowercaseGreek, Underscore, Prime
+}
 use Rattle.notation.specs.declared.char_set.Class.{Class}
 use Rattle.notation.specs.declared.char_set.Class.the-variants.{In, Outside}
 

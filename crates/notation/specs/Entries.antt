@@ -14,7 +14,9 @@ use Rattle.notation.specs.Refusals.{
   TOO-LONG, NOT-UTF8, TOO-NESTED, NOT-NOTATION, NO-ROOM, NOT-WELL-FORMED, TOO-MANY-STEPS, NO-SUCH-PLACE, NO-SUCH-LAYER-COUNT, NO-SUCH-RECORD
 }
 use Rattle.notation.specs.Layers.{Range, MAX-LAYER, clampToLayerCount, setRanges, keep, lit, simplified}
-use Rattle.notation.specs.Tree.{Span, partOf, Layers, noLayers, singleLayer, layerRange, layerSet, Leaf, rotation, move, pause, pair, slash, megaminx, Tree}
+use Rattle.notation.specs.Tree.{
+  Span, partOf, Layers, noLayers, singleLayer, layerRange, layerSet, Leaf, rotation, move, pause, pair, slash, megaminx, Tree
+}
 use Rattle.notation.specs.Packed.{RECORD, Head, leafHead, groupHead, binaryHead, headAt, leafRecord, pack, unpack, bit}
 use Rattle.notation.specs.Grammar.{notation}
 use Rattle.notation.specs.Meaning.{layerSetIn, orEmpty}

@@ -14,19 +14,22 @@ HYPERCUBING = record { «inverted_layers» = true; «layer_sets» = true; «hsc1
 abbrev pub MINIMAL : Features
 MINIMAL =
     record {
-      layers = SIMPLE; «generalized_rotations» = false; «transform_constraints» = false; megaminx = false; sq1 = false; «curly_primes» = false
+      layers = SIMPLE; «generalized_rotations» = false; «transform_constraints» = false; megaminx = false;
+      sq1 = false; «curly_primes» = false
     }
 
 abbrev pub WCA : Features
 WCA =
     record {
-      layers = SIMPLE; «generalized_rotations» = false; «transform_constraints» = false; megaminx = true; sq1 = true; «curly_primes» = false
+      layers = SIMPLE; «generalized_rotations» = false; «transform_constraints» = false; megaminx = true;
+      sq1 = true; «curly_primes» = false
     }
 
 abbrev pub MAXIMAL : Features
 MAXIMAL =
     record {
-      layers = HYPERCUBING; «generalized_rotations» = true; «transform_constraints» = true; megaminx = true; sq1 = true; «curly_primes» = false
+      layers = HYPERCUBING; «generalized_rotations» = true; «transform_constraints» = true; megaminx = true;
+      sq1 = true; «curly_primes» = false
     }
 
 -- the features as bits of a number, for callers in other languages: bit 0 is `inverted_layers`, and so on in the order of the fields;

@@ -16,7 +16,8 @@ use Rattle.notation.specs.Numbers.{digitRun, decimal}
 use Rattle.notation.specs.Layers.{LayerSetElement, MAX-LAYER}
 use Rattle.notation.specs.Layers as Layers
 use Rattle.notation.specs.Tree.{
-  Span, span, Constraint, fromTo, swap, fix, Layers, noLayers, singleLayer, layerRange, layerSet, Leaf, rotation, move, pause, pair, slash, megaminx,
+  Span, span, Constraint, fromTo, swap, fix, Layers, noLayers, singleLayer, layerRange, layerSet, Leaf, rotation, move, pause,
+  pair, slash, megaminx,
   Node, leaf, block, group, binaryGroup, nil, cons, Tree
 }
 use Rattle.notation.specs.Packed.{familyAt}

@@ -7,7 +7,8 @@ use lib.ListN.{length}
 use Rattle.notation.specs.Refusals.{Outcome, refusal, result}
 use Rattle.notation.specs.Tree.{Span}
 use Rattle.notation.specs.Entries.{
-  Lent, refusalNumber, value, parseNotation, displayEntry, invEntry, invDeepEntry, countSteps, flattenEntry, seekStep, simplifyBytes, familySpan
+  Lent, refusalNumber, value, parseNotation, displayEntry, invEntry, invDeepEntry, countSteps, flattenEntry, seekStep,
+  simplifyBytes, familySpan
 }
 use Rattle.notation.specs.declared.features.Features.{Features}
 
@@ -50,7 +51,8 @@ pub record Lossless : Type 0 where
   pub counting : (text tree : List ℕ) → BelowValues (countSteps text tree)
   pub seeking : (text tree : List ℕ) (k : ℕ) (buffer : List ℕ) → BelowValues (seekStep text tree k buffer .answer)
   pub unrolling : (text tree buffer : List ℕ) → BelowValues (flattenEntry text tree buffer .answer)
-  pub layering : (text tree : List ℕ) (k n : ℕ) (neg : Bool) (buffer : List ℕ) → BelowValues (simplifyBytes text tree k n neg buffer .answer)
+  pub layering : (text tree : List ℕ) (k n : ℕ) (neg : Bool) (buffer : List ℕ) →
+      BelowValues (simplifyBytes text tree k n neg buffer .answer)
   pub naming : (text tree : List ℕ) (k : ℕ) → BelowValues (partNumber (familySpan text tree k))
   pub inverting : (text tree buffer : List ℕ) → length buffer < VALUES → BelowValues (invEntry text tree buffer .answer)
   pub invertingDeeply : (text tree buffer : List ℕ) → length buffer < VALUES → BelowValues (invDeepEntry text tree buffer .answer)

@@ -6,7 +6,8 @@ use mathlib.Core.List.{List, []}
 use mathlib.Core.Option.{Option, none, some}
 use Rattle.notation.specs.Layers.{LayerSetElement}
 use Rattle.notation.specs.Tree.{
-  Span, partOf, Constraint, Layers, noLayers, singleLayer, layerRange, layerSet, Leaf, Step, rotation, move, pause, pair, slash, megaminx, Tree, NodeList, mapNodes
+  Span, partOf, Constraint, Layers, noLayers, singleLayer, layerRange, layerSet, Leaf, Step, rotation, move, pause, pair, slash,
+  megaminx, Tree, NodeList, mapNodes
 }
 use Rattle.notation.specs.Grammar.{constraintSet, layerSetElements, atEnd}
 

@@ -10,7 +10,8 @@ use Rattle.notation.specs.Basics.{pick, oneOf}
 use Rattle.notation.specs.Chars.{curlyPrimes, isFamilyChar, isLatinLetter, isGreekLetter}
 use Rattle.notation.specs.Utf8.{widthIf}
 use Rattle.notation.specs.Tree.{
-  Span, span, Layers, noLayers, singleLayer, layerRange, layerSet, Leaf, Step, rotation, move, pause, pair, slash, megaminx, Tree, NodeList, mapNodes
+  Span, span, Layers, noLayers, singleLayer, layerRange, layerSet, Leaf, Step, rotation, move, pause, pair, slash, megaminx, Tree,
+  NodeList, mapNodes
 }
 use Rattle.notation.specs.Grammar.{just, notation, notationBy}
 use Rattle.notation.specs.Meaning.{unspanned}
@@ -96,4 +97,6 @@ pub record ReadAsStraight : Type 0 where
   pub readings : (f : Features) → f .«curly_primes» ≡ true → (text : List ℕ) →
       treeIn f text ≡ (do t ← straightTreeIn f text; result (treeGiven text t))
   pub meanings : (f : Features) → f .«curly_primes» ≡ true → (text : List ℕ) →
-      _≡_ {A = Outcome (NodeList Step)} (do t ← treeIn f text; result (unspanned text t)) (do t ← straightTreeIn f text; result (unspanned (straight text) t))
+      _≡_ {A = Outcome (NodeList Step)}
+      (do t ← treeIn f text; result (unspanned text t))
+      (do t ← straightTreeIn f text; result (unspanned (straight text) t))

@@ -30,6 +30,7 @@ prefixAt tree k = do h ← recordAt tree k; prefixOf h
 abbrev pub LightsOthers : Type 0
 LightsOthers =
     (text text′ tree tree′ : List ℕ) (t t′ : Tree) → checked text tree ≡ result t → checked text′ tree′ ≡ result t′ →
-    (k k′ : ℕ) (l l′ : Layers Span) → prefixAt tree k ≡ result (false, l) → prefixAt tree′ k′ ≡ result (true, l′) → layerMeaning text l ≡ layerMeaning text′ l′ →
+    (k k′ : ℕ) (l l′ : Layers Span) → prefixAt tree k ≡ result (false, l) → prefixAt tree′ k′ ≡ result (true, l′) →
+    layerMeaning text l ≡ layerMeaning text′ l′ →
     (n : ℕ) (neg : Bool) → between 1 MAX-LAYER n ≡ true →
     (a b : List Range) × (layerRanges text tree k n neg ≡ result a) × (layerRanges text′ tree′ k′ n neg ≡ result b) × Opposite n a b

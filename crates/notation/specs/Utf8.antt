@@ -23,7 +23,9 @@ charWidth s =
     pick (leb a 0x7f) 1
     (pick (between 0xc2 0xdf a && continuation b) 2
     (pick (between 0xe0 0xef a && between (pick (eqb a 0xe0) 0xa0 0x80) (pick (eqb a 0xed) 0x9f 0xbf) b && continuation (byteAt s 2)) 3
-    (pick (between 0xf0 0xf4 a && between (pick (eqb a 0xf0) 0x90 0x80) (pick (eqb a 0xf4) 0x8f 0xbf) b && continuation (byteAt s 2) && continuation (byteAt s 3)) 4
+    (pick
+    (between 0xf0 0xf4 a && between (pick (eqb a 0xf0) 0x90 0x80) (pick (eqb a 0xf4) 0x8f 0xbf) b
+    && continuation (byteAt s 2) && continuation (byteAt s 3)) 4
     0)))
 
 -- the code point of the well-formed character at the start

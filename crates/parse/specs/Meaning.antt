@@ -16,7 +16,10 @@ use Rattle.notation.specs.Layers as rules
 use Rattle.notation.specs.Tree as tree
 use Rattle.notation.specs.Tree.{layerRange, singleLayer, noLayers, Node, leaf, block, Leaf}
 use Rattle.notation.specs.Packed.{bodyHead, leafFields, headFields}
-use Rattle.notation.specs.Grammar.{Reading, rejected, read, Reader, done, andThen, _or_, when, just, word, whitespace, padded, uint, MAX-I32, layer, signedLayer, i32, multiplier, moreOf, constraint, layerSetElement, moveNode, megaminxScrambleMove, _>>=_, _>>_}
+use Rattle.notation.specs.Grammar.{
+  Reading, rejected, read, Reader, done, andThen, _or_, when, just, word, whitespace, padded, uint, MAX-I32, layer, signedLayer,
+  i32, multiplier, moreOf, constraint, layerSetElement, moveNode, megaminxScrambleMove, _>>=_, _>>_
+}
 use Rattle.notation.specs.declared.features.Features.{Features}
 use Rattle.notation.specs.declared.common.GroupKind.{GroupKind}
 use Rattle.notation.specs.declared.common.MegaminxScrambleMove.{MegaminxScrambleMove}

@@ -17,7 +17,7 @@ use Rattle.notation.specs.Tilde.{prefixAt, LightsOthers}
 use Rattle.complement_laws.proofs.Complement.{opposite}
 use Rattle.laws.proofs.Bools.{and-left}
 use Rattle.laws.proofs.Outcomes.{same-result, after, test-holds}
-use Rattle.checked.proofs.Outcomes.{checked-sound}
+use Rattle.checked.proofs.Outcomes.{checked-accepted}
 use Rattle.checked.proofs.Records.{HeadOk, prefix-ok, record-ok}
 use Rattle.tilde_laws.proofs.OnAxis.{ranges-on-axis, same-ranges}
 
@@ -28,7 +28,7 @@ module _ (text tree : List ℕ) (t : Tree) (c : checked text tree ≡ result t) 
       let h = after (recordAt tree k) p in
       let here = after (unless NO-SUCH-RECORD (ltb k (length tree / RECORD))) (h .1) in
       let inside : k < length tree / RECORD = ltb-true k (length tree / RECORD) (test-holds NO-SUCH-RECORD (ltb k (length tree / RECORD)) (here .1)) in
-      prefix-ok text (h .0) tilde l (subst (HeadOk text) (same-result (here .2)) (record-ok text tree (checked-sound text tree t c) k inside)) (h .2)
+      prefix-ok text (h .0) tilde l (subst (HeadOk text) (same-result (here .2)) (record-ok text tree (checked-accepted text tree t c) k inside)) (h .2)
 
   answered : (n : ℕ) (neg : Bool) → between 1 MAX-LAYER n ≡ true → layerRanges text tree k n neg ≡ result (simplified (lit n tilde (rangesIn text n neg l)))
   unfolding layerRanges

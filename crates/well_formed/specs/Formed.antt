@@ -66,4 +66,7 @@ abbrev pub firstOk : List ℕ → ℕ → List ℕ → Bool
 firstOk text d bs =
     let h = headAt bs in
     sameList (headRecord h) (take RECORD bs)
-    && (headOk text d h && (formed text (d - 1) (firstBytes h bs) && (formed text (d - 1) (secondBytes h bs) && countOk h (unpack (firstBytes h bs)) (unpack (secondBytes h bs)))))
+    && (headOk text d h
+    && (formed text (d - 1) (firstBytes h bs)
+    && (formed text (d - 1) (secondBytes h bs)
+    && countOk h (unpack (firstBytes h bs)) (unpack (secondBytes h bs)))))

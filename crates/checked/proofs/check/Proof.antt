@@ -5,7 +5,7 @@ use borrow.Author.Tests.{not-true, not-false}
 use Rattle.well_formed.specs.Meaning.{stepCount}
 use Rattle.numbers.proofs.BigEndian.{slice-below}
 use Rattle.well_formed.proofs.Turns.{list-passed, list-refused}
-use Rattle.checked.proofs.Outcomes.{too-long, not-utf8, not-well-formed, is-sound}
+use Rattle.checked.proofs.Outcomes.{too-long, not-utf8, not-well-formed, is-accepted}
 use Rattle.checked.proofs.check.Statement.{statement}
 use Rattle.checked.proofs.check.Tie as tie
 
@@ -38,7 +38,7 @@ returns-3 c =
     let utf = formed .before .before in
     let a = utf .before .before .before .before .args in
     let k = list-passed _ _ _ (ap stepCount (sym (c .before .n .given .1)) ∙ formed .steps .ensures) in
-    is-sound (a .text .now) (a .tree .now) (slice-below _ (utf .before .before .shared-slice-known2 .given)) (utf .before .if1 .left)
+    is-accepted (a .text .now) (a .tree .now) (slice-below _ (utf .before .before .shared-slice-known2 .given)) (utf .before .if1 .left)
     (sym (utf .is-utf8 .ensures) ∙ not-false _ (formed .before .if2 .left)) (k .0) _ (k .1)
 
 returns-4 : tie.Need-returns-4

@@ -4,7 +4,7 @@ use native.Mathlib.Omega.{arith}
 use borrow.Author.Needs.{needs}
 use lib.ListN.{length-take}
 use Rattle.notation.specs.Entries.{outcome}
-use Rattle.entries.proofs.Inverting.{inverting, inverse-unsound, inverse-refused, inverse-short, inverse-written}
+use Rattle.entries.proofs.Inverting.{inverting, inverse-unaccepted, inverse-refused, inverse-short, inverse-written}
 use Rattle.entries.proofs.inverses.invert.Statement.{statement}
 use Rattle.entries.proofs.inverses.invert.Tie as tie
 
@@ -21,7 +21,7 @@ returns : tie.Need-returns
 returns c =
     let check = c .before .before in
     let a = check .before .before .before .before .args in
-    inverse-unsound (inverting (a .deep) (a .text .now) (a .tree .now)) (a .out .now) (check .check .ensures) (ap outcome (c .enum-told2 .given .1))
+    inverse-unaccepted (inverting (a .deep) (a .text .now) (a .tree .now)) (a .out .now) (check .check .ensures) (ap outcome (c .enum-told2 .given .1))
 
 refusal-requires : tie.Need-refusal-requires
 refusal-requires c κs = c .before .before .check .ensures .1 _ (ap outcome (c .enum-told .given .1)) .packed

@@ -11,7 +11,7 @@ use Rattle.notation.specs.WellFormed.{inside}
 use Rattle.notation.specs.Entries.{outcome}
 use Rattle.checked.proofs.Outcomes.{known}
 use Rattle.entries.specs.Parts.{partOutcome, Inside, Fits}
-use Rattle.entries.proofs.Naming.{found, family-low, family-high, family-named, family-inside, family-unsound, family-none, sound-record, family-is}
+use Rattle.entries.proofs.Naming.{found, family-low, family-high, family-named, family-inside, family-unaccepted, family-none, accepted-record, family-is}
 use Rattle.entries.proofs.parts.family_part.Statement.{statement}
 use Rattle.entries.proofs.parts.family_part.Tie as tie
 
@@ -33,7 +33,7 @@ returns c =
     let a = check .before .before .before .args in
     let q = ap outcome (c .before .enum-told2 .given .1) in
     let is = c .no-part .ensures _ q in
-    (ap partOutcome is ∙ family-unsound (a .text .now) (a .tree .now) (a .«record») (check .check .ensures) q, (subst (Inside (a .text .now)) (sym is) tt, subst Fits (sym is) tt))
+    (ap partOutcome is ∙ family-unaccepted (a .text .now) (a .tree .now) (a .«record») (check .check .ensures) q, (subst (Inside (a .text .now)) (sym is) tt, subst Fits (sym is) tt))
 
 returns-2 : tie.Need-returns-2
 returns-2 c =
@@ -41,7 +41,7 @@ returns-2 c =
     let check = value .before .before in
     let a = check .before .before .before .args in
     let k = known (check .check .ensures) (ap outcome (value .enum-told .given .1)) in
-    (family-none (a .text .now) (a .tree .now) (a .«record») (k .sound) (omega (arith, c .if1 .taken)), (tt, tt))
+    (family-none (a .text .now) (a .tree .now) (a .«record») (k .accepted) (omega (arith, c .if1 .taken)), (tt, tt))
 
 mul-from : tie.Need-mul-from
 mul-from c = search needs
@@ -67,7 +67,7 @@ returns-3 c =
     let a = check .before .before .before .args in
     let k = known (check .check .ensures) (ap outcome (value .enum-told .given .1)) in
     (family-low (found (a .tree .now) (a .«record»)) (kind .kind .result) (kind .kind .ensures) (c .if2 .taken)
-      ∙ family-is (a .text .now) (a .tree .now) (a .«record») (k .sound) (omega (arith, few .if1 .left)), (tt, tt))
+      ∙ family-is (a .text .now) (a .tree .now) (a .«record») (k .accepted) (omega (arith, few .if1 .left)), (tt, tt))
 
 returns-4 : tie.Need-returns-4
 returns-4 c =
@@ -78,7 +78,7 @@ returns-4 c =
     let a = check .before .before .before .args in
     let k = known (check .check .ensures) (ap outcome (value .enum-told .given .1)) in
     (family-high (found (a .tree .now) (a .«record»)) (kind .kind .result) (kind .kind .ensures) (c .if3 .taken)
-      ∙ family-is (a .text .now) (a .tree .now) (a .«record») (k .sound) (omega (arith, few .if1 .left)), (tt, tt))
+      ∙ family-is (a .text .now) (a .tree .now) (a .«record») (k .accepted) (omega (arith, few .if1 .left)), (tt, tt))
 
 family-of-requires : tie.Need-family-of-requires
 family-of-requires c κs = search needs
@@ -94,9 +94,9 @@ returns-5 c =
     let k = known (check .check .ensures) (ap outcome (value .enum-told .given .1)) in
     let less : a .«record» < length (a .tree .now) / RECORD = omega (arith, few .if1 .left) in
     let low = high .before .if2 .left in
-    (ap result (c .family-of .ensures .0) ∙ family-named (found (a .tree .now) (a .«record»)) (kind .kind .result) (kind .kind .ensures) low (high .if3 .left) ∙ family-is (a .text .now) (a .tree .now) (a .«record») (k .sound) less,
+    (ap result (c .family-of .ensures .0) ∙ family-named (found (a .tree .now) (a .«record»)) (kind .kind .result) (kind .kind .ensures) low (high .if3 .left) ∙ family-is (a .text .now) (a .tree .now) (a .«record») (k .accepted) less,
       (ap (λ (p : Span). inside (a .text .now) p) (c .family-of .ensures .0)
-      ∙ family-inside (found (a .tree .now) (a .«record»)) (kind .kind .result) (kind .kind .ensures) (a .text .now) low (high .if3 .left) (sound-record (a .text .now) (a .tree .now) (a .«record») (k .sound) less),
+      ∙ family-inside (found (a .tree .now) (a .«record»)) (kind .kind .result) (kind .kind .ensures) (a .text .now) low (high .if3 .left) (accepted-record (a .text .now) (a .tree .now) (a .«record») (k .accepted) less),
         c .family-of .ensures .1))
 
 pub family-part-spec : {M : Type 1} → statement M

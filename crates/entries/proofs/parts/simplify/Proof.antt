@@ -13,7 +13,7 @@ use Rattle.notation.specs.Entries.{outcome}
 use Rattle.record.specs.Meaning.{layersAt}
 use Rattle.checked.proofs.Outcomes.{known}
 use Rattle.entries.proofs.Naming.{
-  found, sound-record, no-prefix, some-prefix, layers-inside, simplify-unsound, simplify-no-layers, simplify-many-layers, simplify-none, simplify-no-move, simplify-move
+  found, accepted-record, no-prefix, some-prefix, layers-inside, simplify-unaccepted, simplify-no-layers, simplify-many-layers, simplify-none, simplify-no-move, simplify-move
 }
 use Rattle.entries.proofs.parts.simplify.Statement.{statement}
 use Rattle.entries.proofs.parts.simplify.Tie as tie
@@ -31,7 +31,7 @@ returns : tie.Need-returns
 returns c =
     let check = c .before .before in
     let a = check .before .before .before .before .args in
-    simplify-unsound (a .text .now) (a .tree .now) (a .«record») (a .max-layer) (a .allow-negatives) (a .out .now) (check .check .ensures) (ap outcome (c .enum-told2 .given .1))
+    simplify-unaccepted (a .text .now) (a .tree .now) (a .«record») (a .max-layer) (a .allow-negatives) (a .out .now) (check .check .ensures) (ap outcome (c .enum-told2 .given .1))
 
 returns-2 : tie.Need-returns-2
 returns-2 c =
@@ -39,7 +39,7 @@ returns-2 c =
     let check = value .before .before in
     let a = check .before .before .before .before .args in
     let k = known (check .check .ensures) (ap outcome (value .enum-told .given .1)) in
-    simplify-no-layers (a .text .now) (a .tree .now) (a .«record») (a .max-layer) (a .allow-negatives) (a .out .now) (k .sound) (c .if1 .taken)
+    simplify-no-layers (a .text .now) (a .tree .now) (a .«record») (a .max-layer) (a .allow-negatives) (a .out .now) (k .accepted) (c .if1 .taken)
 
 returns-3 : tie.Need-returns-3
 returns-3 c =
@@ -47,7 +47,7 @@ returns-3 c =
     let check = value .before .before in
     let a = check .before .before .before .before .args in
     let k = known (check .check .ensures) (ap outcome (value .enum-told .given .1)) in
-    simplify-many-layers (a .text .now) (a .tree .now) (a .«record») (a .max-layer) (a .allow-negatives) (a .out .now) (k .sound) (c .if2 .taken)
+    simplify-many-layers (a .text .now) (a .tree .now) (a .«record») (a .max-layer) (a .allow-negatives) (a .out .now) (k .accepted) (c .if2 .taken)
 
 returns-4 : tie.Need-returns-4
 returns-4 c =
@@ -55,7 +55,7 @@ returns-4 c =
     let check = value .before .before in
     let a = check .before .before .before .before .args in
     let k = known (check .check .ensures) (ap outcome (value .enum-told .given .1)) in
-    simplify-none (a .text .now) (a .tree .now) (a .«record») (a .max-layer) (a .allow-negatives) (a .out .now) (k .sound) (c .before .before .if1 .left) (c .before .if2 .left) (omega (arith, c .if3 .taken))
+    simplify-none (a .text .now) (a .tree .now) (a .«record») (a .max-layer) (a .allow-negatives) (a .out .now) (k .accepted) (c .before .before .if1 .left) (c .before .if2 .left) (omega (arith, c .if3 .taken))
 
 mul-from : tie.Need-mul-from
 mul-from c = search needs
@@ -81,7 +81,7 @@ returns-5 c =
     let a = check .before .before .before .before .args in
     let k = known (check .check .ensures) (ap outcome (value .enum-told .given .1)) in
     let less : a .«record» < length (a .tree .now) / RECORD = omega (arith, few .if3 .left) in
-    simplify-no-move (a .text .now) (a .tree .now) (a .«record») (a .max-layer) (a .allow-negatives) (a .out .now) (k .sound) (few .before .before .if1 .left) (few .before .if2 .left) less
+    simplify-no-move (a .text .now) (a .tree .now) (a .«record») (a .max-layer) (a .allow-negatives) (a .out .now) (k .accepted) (few .before .before .if1 .left) (few .before .if2 .left) less
     (no-prefix (found (a .tree .now) (a .«record»)) (kind .kind .result) (kind .kind .ensures) (c .if4 .taken))
 
 tilde-requires : tie.Need-tilde-requires
@@ -103,9 +103,9 @@ simplify-requires c κs =
     let a = check .before .before .before .before .args in
     let k = known (check .check .ensures) (ap outcome (value .enum-told .given .1)) in
     let less : a .«record» < length (a .tree .now) / RECORD = omega (arith, few .if3 .left) in
-    let ok = sound-record (a .text .now) (a .tree .now) (a .«record») (k .sound) less in
+    let ok = accepted-record (a .text .now) (a .tree .now) (a .«record») (k .accepted) less in
     (record { low = omega (arith, few .before .before .if1 .left); high = few .before .if2 .left },
-      (k .sound .short, ap (λ (l : Layers Span). layersOk (a .text .now) l) (named .layers .ensures)
+      (k .accepted .short, ap (λ (l : Layers Span). layersOk (a .text .now) l) (named .layers .ensures)
           ∙ layers-inside (found (a .tree .now) (a .«record»)) (kind .kind .result) (kind .kind .ensures) (a .text .now) (named .before .before .if4 .left) ok))
 
 same-length : tie.Need-same-length
@@ -122,7 +122,7 @@ returns-6 c =
     let a = check .before .before .before .before .args in
     let k = known (check .check .ensures) (ap outcome (value .enum-told .given .1)) in
     let less : a .«record» < length (a .tree .now) / RECORD = omega (arith, few .if3 .left) in
-    simplify-move (a .text .now) (a .tree .now) (a .«record») (a .max-layer) (a .allow-negatives) (a .out .now) (k .sound) (few .before .before .if1 .left) (few .before .if2 .left) less
+    simplify-move (a .text .now) (a .tree .now) (a .«record») (a .max-layer) (a .allow-negatives) (a .out .now) (k .accepted) (few .before .before .if1 .left) (few .before .if2 .left) less
     (named .before .tilde .result) _
     (some-prefix (found (a .tree .now) (a .«record»)) (kind .kind .result) (kind .kind .ensures) (named .before .before .if4 .left)
       ∙ ap (λ (t : Bool). result (t, layersAt (found (a .tree .now) (a .«record»)))) (sym (named .before .tilde .ensures))

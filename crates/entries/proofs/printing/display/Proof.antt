@@ -3,7 +3,7 @@ use mathlib.Core.Path.{ap}
 use native.Mathlib.Omega.{arith}
 use borrow.Author.Needs.{needs}
 use Rattle.notation.specs.Entries.{outcome}
-use Rattle.entries.proofs.Displaying.{display-unsound, display-short, display-at-once, display-measured}
+use Rattle.entries.proofs.Displaying.{display-unaccepted, display-short, display-at-once, display-measured}
 use Rattle.entries.proofs.printing.display.Statement.{statement}
 use Rattle.entries.proofs.printing.display.Tie as tie
 
@@ -20,7 +20,7 @@ returns : tie.Need-returns
 returns c =
     let check = c .before .before in
     let a = check .before .before .before .before .args in
-    display-unsound (a .text .now) (a .tree .now) (a .out .now) (check .check .ensures) (ap outcome (c .enum-told2 .given .1))
+    display-unaccepted (a .text .now) (a .tree .now) (a .out .now) (check .check .ensures) (ap outcome (c .enum-told2 .given .1))
 
 fits-requires : tie.Need-fits-requires
 fits-requires c κs = c .before .before .check .ensures .1 _ (ap outcome (c .enum-told .given .1)) .packed
@@ -28,8 +28,8 @@ fits-requires c κs = c .before .before .check .ensures .1 _ (ap outcome (c .enu
 display-requires : tie.Need-display-requires
 display-requires c κs =
     let checked = c .before .before .before in
-    let sound = checked .before .before .check .ensures .1 _ (ap outcome (checked .enum-told .given .1)) in
-    (sound .packed, sound .ok)
+    let accepted = checked .before .before .check .ensures .1 _ (ap outcome (checked .enum-told .given .1)) in
+    (accepted .packed, accepted .ok)
 
 same-length : tie.Need-same-length
 same-length c = search needs
@@ -41,9 +41,9 @@ returns-2 c =
     let checked = fits .before .before in
     let start = checked .before .before .before .before .before .before in
     let a = start .args in
-    let sound = checked .before .before .check .ensures .1 _ (ap outcome (checked .enum-told .given .1)) in
-    let room = fits .before .fits2 .ensures (fits .if1 .taken) (a .text .now) (sound .ok) in
-    display-at-once (a .text .now) (a .tree .now) (a .out .now) sound _ (write .display .ensures .0) (omega (arith, start .good)) room _ (write .display .ensures .1 room)
+    let accepted = checked .before .before .check .ensures .1 _ (ap outcome (checked .enum-told .given .1)) in
+    let room = fits .before .fits2 .ensures (fits .if1 .taken) (a .text .now) (accepted .ok) in
+    display-at-once (a .text .now) (a .tree .now) (a .out .now) accepted _ (write .display .ensures .0) (omega (arith, start .good)) room _ (write .display .ensures .1 room)
 
 slice-aggregate-display : tie.Need-slice-aggregate-display
 slice-aggregate-display c = search needs
@@ -51,8 +51,8 @@ slice-aggregate-display c = search needs
 display-requires-2 : tie.Need-display-requires-2
 display-requires-2 c κs =
     let checked = c .before .before .before in
-    let sound = checked .before .before .check .ensures .1 _ (ap outcome (checked .enum-told .given .1)) in
-    (sound .packed, sound .ok)
+    let accepted = checked .before .before .check .ensures .1 _ (ap outcome (checked .enum-told .given .1)) in
+    (accepted .packed, accepted .ok)
 
 returns-3 : tie.Need-returns-3
 returns-3 c =
@@ -74,8 +74,8 @@ part-display-end c = search needs
 display-requires-3 : tie.Need-display-requires-3
 display-requires-3 c κs =
     let checked = c .before .before .before .before .before .before .before in
-    let sound = checked .before .before .check .ensures .1 _ (ap outcome (checked .enum-told .given .1)) in
-    (sound .packed, sound .ok)
+    let accepted = checked .before .before .check .ensures .1 _ (ap outcome (checked .enum-told .given .1)) in
+    (accepted .packed, accepted .ok)
 
 same-length-2 : tie.Need-same-length-2
 same-length-2 c = search needs

@@ -38,7 +38,7 @@ flatten-requires : tie.Need-flatten-requires
 flatten-requires c κs =
     let count = c .before .before .before .before .before in
     let counted = count .count-steps .ensures .1 _ (ap outcome (c .before .before .before .counted .given .1)) in
-    (counted .sound .packed, omega (arith, counted .steps, c .before .if1 .left))
+    (counted .accepted .packed, omega (arith, counted .steps, c .before .if1 .left))
 
 same-length : tie.Need-same-length
 same-length c = search needs

@@ -40,7 +40,7 @@ seek-requires : tie.Need-seek-requires
 seek-requires c κs =
     let count = c .before .before .before .before .before .before in
     let counted = count .count-steps .ensures .1 _ (ap outcome (c .before .before .before .before .counted .given .1)) in
-    (record { packed = counted .sound .packed; below = omega (arith, counted .steps, c .before .before .if1 .left); few = omega (arith, counted .steps, counted .most) }, omega (arith, c .before .if2 .left))
+    (record { packed = counted .accepted .packed; below = omega (arith, counted .steps, c .before .before .if1 .left); few = omega (arith, counted .steps, counted .most) }, omega (arith, c .before .if2 .left))
 
 same-length : tie.Need-same-length
 same-length c = search needs

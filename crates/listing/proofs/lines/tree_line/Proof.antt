@@ -26,8 +26,8 @@ node-list-requires : tie.Need-node-list-requires
 node-list-requires c κs =
     let s = c .before .before .before in
     let told = s .before .before .before .before .before .before in
-    let sound = told .before .before .check .ensures .1 _ (ap outcome (told .enum-told .given .1)) in
-    (omega (arith, s .put .ensures .counts), (sound .packed, sound .ok))
+    let accepted = told .before .before .check .ensures .1 _ (ap outcome (told .enum-told .given .1)) in
+    (omega (arith, s .put .ensures .counts), (accepted .packed, accepted .ok))
 
 put-requires-2 : tie.Need-put-requires-2
 put-requires-2 c κs = search needs
@@ -50,8 +50,8 @@ returns c =
     let told = w .before .before in
     let check = told .before .before in
     let a = check .before .before .before .before .before .args in
-    let sound = check .check .ensures .1 _ (ap outcome (told .enum-told .given .1)) in
-    wrote-line (a .label .now) (field (display (a .text .now) (a .tree .now))) (display-given (a .text .now) (a .tree .now) (unpack (a .tree .now)) (sound .is))
+    let accepted = check .check .ensures .1 _ (ap outcome (told .enum-told .given .1)) in
+    wrote-line (a .label .now) (field (display (a .text .now) (a .tree .now))) (display-given (a .text .now) (a .tree .now) (unpack (a .tree .now)) (accepted .is))
     (w .put-bytes .ensures) (s .put .ensures) (v .node-list .ensures) (n .put2 .ensures)
 
 same-length-2 : tie.Need-same-length-2
