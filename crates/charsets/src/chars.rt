@@ -29,7 +29,8 @@ fn class_number(c: u32) -> u8
     if is_curly_prime(c) { 7 } else { 0 }
 }
 
-// The class of a character: `classify` of the Rust's charsets.rs.
+// The class of a character: `classify` of the Rust's charsets.rs, with which tests/oracle/characters.sh compares it over
+// all code points. Reading tells classes by the functions below.
 pub fn classify(c: u32) -> Class
     ensures { λ r. ⌜ r ≡ classify c ⌝ }
 {
@@ -67,7 +68,8 @@ pub fn is_family_char(c: u32) -> bool
     }
 }
 
-// Whether the character is a prime. There are three, so that it does without the table as well.
+// Whether the character is a prime: the class's own test of a code point, which the comparison with the Rust calls. Reading
+// tells primes by their bytes.
 pub fn is_prime(c: u32) -> bool
     ensures { λ r. ⌜ r ≡ isPrime c ⌝ }
 {

@@ -30,14 +30,13 @@ fn allowance(t: &[u8]) -> usize
     requires { ⌜ recordSize ≤ length (now t) ⌝ }
     ensures { λ r. ⌜ r ≡ allowed (cut widths (take recordSize (now (t .entry)))) ⌝ }
 {
-    let kind = fields::kind(t);
     let n = magnitude(fields::number(t));
     let parts = fields::family(t).size as usize + fields::constraints(t).size as usize;
     4
         + parts
-        + extra(kind < kinds::ROTATION, 3)
+        + extra(fields::is_group(t), 3)
         + extra(9 < n, 9)
-        + extra(kind == kinds::PAIR, 23)
+        + extra(fields::kind(t) == kinds::PAIR, 23)
         + extra(fields::layer_form(t) != 0, 11)
 }
 

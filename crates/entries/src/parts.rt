@@ -96,11 +96,10 @@ pub fn family_part(text: &[u8], tree: &[u8], record: u64) -> PartAnswer
     }
     let from = RECORD * (record as usize);
     let found = &tree[from..];
-    let kind = fields::kind(found);
-    if kind < kinds::ROTATION {
+    if fields::is_group(found) {
         return PartAnswer::Refused(NO_SUCH_RECORD);
     }
-    if kinds::MOVE < kind {
+    if kinds::MOVE < fields::kind(found) {
         return PartAnswer::Refused(NO_SUCH_RECORD);
     }
     PartAnswer::Part(family_of(found))

@@ -77,7 +77,7 @@ fn node_refusal(node: &[u8], before: u8) -> u8
     if kind == kinds::COMMUTATOR {
         return before;
     }
-    if kinds::CONJUGATE < kind {
+    if fields::is_leaf(node) {
         return pair_refusal(node, before);
     }
     let m = inner_start(node);

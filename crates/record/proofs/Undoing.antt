@@ -131,7 +131,7 @@ module _ (bs : List ℕ) (s : StartsRecord bs) where
 
     pub pair-undone : k ≡ 9 → {o o′ : ℕ} {r′ : List ℕ} → o ≡ field OTHER r → o′ ≡ negated o → r′ ≡ withField OTHER o′ r → Undone bs r′
     pair-undone h {o} {o′} eo eo′ e′ =
-        let other : o ≡ getD (headFields (headAt bs)) 4 0 = eo ∙ ap (field 4) e ∙ next-kept bs 3 n′ (lit< tt) (s .long) ∙ field-is 4 in
+        let other : o ≡ getD (headFields (headAt bs)) OTHER 0 = eo ∙ ap (field OTHER) e ∙ next-kept bs NUMBER n′ (lit< tt) (s .long) ∙ field-is 4 in
         undone-of _
         (e′ ∙ ap₂ (λ (l : List ℕ) (m : ℕ). withField OTHER m l) half-is (eo′ ∙ ap negated other) ∙ stored (halfFields (headAt bs)) 4 _ half-long (lit< tt))
         (both-undone (headAt bs) (s .fits) (kind-of ∙ h))

@@ -124,7 +124,7 @@ withSpan i p bs = withField (i + 1) (p .size) (withField i (p .offset) bs)
 
 -- the width of an offset or a size in the text
 abbrev pub placeWidth : ℕ
-placeWidth = getD widths 5 0
+placeWidth = getD widths FAMILY 0
 
 -- what the record says if it is of this kind, in the words of `headOf`
 abbrev pub groupAt : GroupKind → List ℕ → Head

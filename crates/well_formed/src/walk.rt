@@ -30,7 +30,7 @@ ghost use Rattle.record.specs.Meaning.{field, kindAt, FIRST, SECOND, NUMBER};
 ghost use Rattle.well_formed.specs.Formed.{wellFormedSteps, formedCount, firstOk};
 ghost use Rattle.well_formed.specs.Meaning.{stepCount};
 
-// How many steps a tree or a list has that is well formed.
+// How many steps a tree or a list has, if it is well formed.
 pub enum StepCount {
     Steps(u64),
     Nothing,

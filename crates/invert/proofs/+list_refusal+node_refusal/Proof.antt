@@ -23,6 +23,8 @@ use Rattle.invert.proofs.+list_refusal+node_refusal.Lts-node_refusal as
 use Rattle.invert.proofs.parts.inner_start.Reads as inner-start-reads
 use Rattle.nodes.proofs.node_end.Reads as node-end-reads
 use Rattle.invert.proofs.refusal.pair_refusal.Reads as pair-refusal-reads
+use Rattle.record.proofs.KindTests.{leaf-high, no-leaf-low}
+use Rattle.record.proofs.fields.is_leaf.Reads as is-leaf-reads
 use Rattle.record.proofs.fields.kind.Reads as kind-reads
 use Rattle.invert.proofs.+list_refusal+node_refusal.{statement}
 use Rattle.invert.proofs.+list_refusal+node_refusal.Tie.{close}
@@ -62,7 +64,7 @@ abbrev list-claims : ℕ → list-refusal-lts.Claims
 list-claims t = (node-end-reads.Asked, node-end-reads.Learnt, node-refusal-below t, node-refusal.Post)
 
 abbrev node-claims : ℕ → node-refusal-lts.Claims
-node-claims t = (kind-reads.Asked, kind-reads.Learnt, pair-refusal-reads.Asked, pair-refusal-reads.Learnt, inner-start-reads.Asked, inner-start-reads.Learnt, list-refusal-below t, list-refusal.Post)
+node-claims t = (kind-reads.Asked, kind-reads.Learnt, is-leaf-reads.Asked, is-leaf-reads.Learnt, pair-refusal-reads.Asked, pair-refusal-reads.Learnt, inner-start-reads.Asked, inner-start-reads.Learnt, list-refusal-below t, list-refusal.Post)
 
 abbrev list-refusal-Inv-loop : list-refusal-lts.InvT-loop
 list-refusal-Inv-loop tree before t₀ found₀ t found = Looked deepRefusal tree t before found
@@ -123,21 +125,25 @@ node-refusal-returns-2 t c =
     let start = c .before .before .before .before in
     sym (ap (λ (o : Option ℕ). over o (start .args .before)) (commutator-refused _ (start .pre .1 .1) (sym (c .before .before .kind .ensures) ∙ c .if2 .taken)))
 
+node-refusal-is-leaf-requires : (t : ℕ) → node-refusal-lts.Need-is-leaf-requires (node-claims t) (node-refusal-at t) node-refusal.Post
+node-refusal-is-leaf-requires t c κs = node-room (c .before .before .before .before .pre .1 .1)
+
 node-refusal-pair-refusal-requires : (t : ℕ) → node-refusal-lts.Need-pair-refusal-requires (node-claims t) (node-refusal-at t) node-refusal.Post
 node-refusal-pair-refusal-requires t c κs =
-    node-starts (c .before .before .before .before .before .pre .1 .1)
+    node-starts (c .before .before .before .before .before .before .pre .1 .1)
 
 node-refusal-returns-3 : (t : ℕ) → node-refusal-lts.Need-returns-3 (node-claims t) (node-refusal-at t) node-refusal.Post
 node-refusal-returns-3 t c =
-    let kind = c .before .before .before .before in
-    let start = kind .before .before in
+    let tested = c .before .before in
+    let start = tested .before .before .before .before .before in
     c .pair-refusal .ensures
-    ∙ ap (λ (o : Option ℕ). over o (start .args .before)) (leaf-refused _ (start .pre .1 .1) (omega (arith, kind .kind .ensures, c .before .if3 .taken)))
+    ∙ ap (λ (o : Option ℕ). over o (start .args .before)) (leaf-refused _ (start .pre .1 .1) (leaf-high (tested .is-leaf .ensures) (c .before .if3 .taken)))
 
 node-refusal-inner-start-requires : (t : ℕ) → node-refusal-lts.Need-inner-start-requires (node-claims t) (node-refusal-at t) node-refusal.Post
 node-refusal-inner-start-requires t c κs =
-    let kind = c .before .before .before in
-    (kind .before .before .pre .1, (omega (arith, kind .kind .ensures, c .if3 .left), λ e. c .before .if2 .left (kind .kind .ensures ∙ e)))
+    let tested = c .before in
+    let kind = tested .before .before .before in
+    (kind .before .before .pre .1, (no-leaf-low (tested .is-leaf .ensures) (c .if3 .left), λ e. tested .before .if2 .left (kind .kind .ensures ∙ e)))
 
 node-refusal-sub-list-refusal : (t : ℕ) → node-refusal-lts.Need-sub-list-refusal (node-claims t) (node-refusal-at t) node-refusal.Post
 node-refusal-sub-list-refusal t c = search needs
@@ -151,14 +157,14 @@ node-refusal-part-list-refusal-end t c = search needs
 node-refusal-list-refusal-requires : (t : ℕ) → node-refusal-lts.Need-list-refusal-requires (node-claims t) (node-refusal-at t) node-refusal.Post
 node-refusal-list-refusal-requires t c κs =
     let inner = c .before in
-    let start = inner .before .before .before .before .before .before in
+    let start = inner .before .before .before .before .before .before .before in
     let law = inner .inner-start .ensures in
     (list-less (start .args .node .now) _ _ _ (law .least) (node-room (start .pre .1 .1)) (start .pre .0), law .packed)
 
 node-refusal-returns-4 : (t : ℕ) → node-refusal-lts.Need-returns-4 (node-claims t) (node-refusal-at t) node-refusal.Post
 node-refusal-returns-4 t c =
     let inner = c .before .before in
-    let first-test = inner .before .before .before in
+    let first-test = inner .before .before .before .before in
     let start = first-test .before .before .before in
     c .list-refusal .ensures
     ∙ ap (λ (o : Option ℕ). over o (start .args .before))
@@ -186,6 +192,7 @@ pub +list-refusal+node-refusal-spec : {M : Type 1} → statement M
     (node-refusal-kind-requires t)
     (node-refusal-returns t)
     (node-refusal-returns-2 t)
+    (node-refusal-is-leaf-requires t)
     (node-refusal-pair-refusal-requires t)
     (node-refusal-returns-3 t)
     (node-refusal-inner-start-requires t)

@@ -6,9 +6,6 @@ use borrow.Author.Needs.{needs}
 use Rattle.display.proofs.bound.allowance.Statement.{statement}
 use Rattle.display.proofs.bound.allowance.Tie as tie
 
-kind-requires : tie.Need-kind-requires
-kind-requires c κs = search needs
-
 number-requires : tie.Need-number-requires
 number-requires c κs = search needs
 
@@ -33,6 +30,9 @@ add-parts c = search needs
 add-result : tie.Need-add-result
 add-result c = search needs
 
+is-group-requires : tie.Need-is-group-requires
+is-group-requires c κs = search needs
+
 extra-requires : tie.Need-extra-requires
 extra-requires c κs = search needs
 
@@ -44,6 +44,9 @@ extra-requires-2 c κs = search needs
 
 add-result-3 : tie.Need-add-result-3
 add-result-3 c = search needs
+
+kind-requires : tie.Need-kind-requires
+kind-requires c κs = search needs
 
 extra-requires-3 : tie.Need-extra-requires-3
 extra-requires-3 c κs = search needs
@@ -63,9 +66,9 @@ add-result-5 c = search needs
 returns : tie.Need-returns
 returns c =
     let third = c .before .before in
-    let second = third .before in
+    let second = third .before .before in
     let first = second .before in
-    let constraints = first .before .before in
+    let constraints = first .before .before .before in
     let family = constraints .before .before in
     let magnitude = family .before in
     let number = magnitude .before in
@@ -75,7 +78,8 @@ returns c =
       second .extra2 .ensures .0,
       third .extra3 .ensures .0,
       c .extra4 .ensures .0,
-      number .before .kind .ensures,
+      first .before .is-group .ensures,
+      third .before .kind .ensures,
       magnitude .magnitude .ensures,
       number .number .ensures,
       ap size (family .family .ensures .0),
@@ -87,7 +91,6 @@ pub allowance-spec : {M : Type 1} → statement M
 allowance-spec =
     tie.close
     (tie.spec
-    kind-requires
     number-requires
     magnitude-requires
     family-requires
@@ -96,10 +99,12 @@ allowance-spec =
     cast-parts-2
     add-parts
     add-result
+    is-group-requires
     extra-requires
     add-result-2
     extra-requires-2
     add-result-3
+    kind-requires
     extra-requires-3
     add-result-4
     layer-form-requires

@@ -1,6 +1,6 @@
 -- `parts::family_part` meets its contract: each way out is one case of the rule. Assumes nothing.
-use Prim.Native.Nat.{_/_, _<_}
-use mathlib.Core.Path.{_∙_, ap, sym, subst}
+use Prim.Native.Nat.{ℕ, _/_, _≤_, _<_}
+use mathlib.Core.Path.{_∙_, refl, ap, sym, subst}
 use native.Mathlib.Omega.{arith}
 use borrow.Author.Needs.{needs}
 use lib.ListN.{length}
@@ -9,6 +9,7 @@ use Rattle.notation.specs.Tree.{Span}
 use Rattle.notation.specs.Packed.{RECORD}
 use Rattle.notation.specs.WellFormed.{inside}
 use Rattle.notation.specs.Entries.{outcome}
+use Rattle.record.proofs.KindTests.{group-low, no-group-high}
 use Rattle.checked.proofs.Outcomes.{known}
 use Rattle.entries.specs.Parts.{partOutcome, Inside, Fits}
 use Rattle.entries.proofs.Naming.{found, family-low, family-high, family-named, family-inside, family-unaccepted, family-none, accepted-record, family-is}
@@ -55,24 +56,27 @@ part-found-start c = search needs
 part-found-end : tie.Need-part-found-end
 part-found-end c = search needs
 
-kind-requires : tie.Need-kind-requires
-kind-requires c κs = search needs
+is-group-requires : tie.Need-is-group-requires
+is-group-requires c κs = search needs
 
 returns-3 : tie.Need-returns-3
 returns-3 c =
-    let kind = c .before in
-    let few = kind .before .before in
+    let group = c .before in
+    let few = group .before .before in
     let value = few .before in
     let check = value .before .before in
     let a = check .before .before .before .args in
     let k = known (check .check .ensures) (ap outcome (value .enum-told .given .1)) in
-    (family-low (found (a .tree .now) (a .«record»)) (kind .kind .result) (kind .kind .ensures) (c .if2 .taken)
+    (family-low (found (a .tree .now) (a .«record»)) _ refl (group-low (group .is-group .ensures) (c .if2 .taken))
       ∙ family-is (a .text .now) (a .tree .now) (a .«record») (k .accepted) (omega (arith, few .if1 .left)), (tt, tt))
+
+kind-requires : tie.Need-kind-requires
+kind-requires c κs = search needs
 
 returns-4 : tie.Need-returns-4
 returns-4 c =
-    let kind = c .before .before in
-    let few = kind .before .before in
+    let kind = c .before in
+    let few = kind .before .before .before .before in
     let value = few .before in
     let check = value .before .before in
     let a = check .before .before .before .args in
@@ -86,14 +90,15 @@ family-of-requires c κs = search needs
 returns-5 : tie.Need-returns-5
 returns-5 c =
     let high = c .before in
-    let kind = high .before .before in
-    let few = kind .before .before in
+    let kind = high .before in
+    let group = kind .before .before in
+    let few = group .before .before in
     let value = few .before in
     let check = value .before .before in
     let a = check .before .before .before .args in
     let k = known (check .check .ensures) (ap outcome (value .enum-told .given .1)) in
     let less : a .«record» < length (a .tree .now) / RECORD = omega (arith, few .if1 .left) in
-    let low = high .before .if2 .left in
+    let low = subst (λ (k : ℕ). 6 ≤ k) (sym (kind .kind .ensures)) (no-group-high (group .is-group .ensures) (kind .before .if2 .left)) in
     (ap result (c .family-of .ensures .0) ∙ family-named (found (a .tree .now) (a .«record»)) (kind .kind .result) (kind .kind .ensures) low (high .if3 .left) ∙ family-is (a .text .now) (a .tree .now) (a .«record») (k .accepted) less,
       (ap (λ (p : Span). inside (a .text .now) p) (c .family-of .ensures .0)
       ∙ family-inside (found (a .tree .now) (a .«record»)) (kind .kind .result) (kind .kind .ensures) (a .text .now) low (high .if3 .left) (accepted-record (a .text .now) (a .tree .now) (a .«record») (k .accepted) less),
@@ -113,8 +118,9 @@ family-part-spec =
     sub-found
     part-found-start
     part-found-end
-    kind-requires
+    is-group-requires
     returns-3
+    kind-requires
     returns-4
     family-of-requires
     returns-5)
