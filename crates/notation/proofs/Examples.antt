@@ -8,5 +8,6 @@ pub mod Unrolling
 pub mod Inverses
 pub mod WellFormed
 pub mod Ranges
+pub mod Lending
 pub mod Entries
 pub mod Adversarial

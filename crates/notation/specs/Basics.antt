@@ -1,5 +1,5 @@
 -- Small words that the rules share.
-use Prim.Native.Nat.{ℕ}
+use Prim.Native.Nat.{ℕ, _+_}
 use mathlib.Core.Bool.{Bool, true, false, _&&_, _||_}
 use mathlib.Core.List.{List, [], _∷_}
 use lib.Dec.{leb, eqb}
@@ -38,3 +38,8 @@ sameList (a ∷ s) (b ∷ t) = eqb a b && sameList s t
 unfoldable pub every : {A : Type 0} → (A → Bool) → List A → Bool
 every p [] = true
 every p (a ∷ l) = p a && every p l
+
+-- what each weighs, added up
+unfoldable pub total : {A : Type 0} → (A → ℕ) → List A → ℕ
+total w [] = 0
+total w (a ∷ l) = w a + total w l

@@ -13,6 +13,7 @@ use Rattle.notation.specs.Refusals.{
   Outcome, refusal, result, _>>=_, _>>_, unless, orRefuse,
   TOO-LONG, NOT-UTF8, TOO-NESTED, NOT-NOTATION, NO-ROOM, NOT-WELL-FORMED, TOO-MANY-STEPS, NO-SUCH-PLACE, NO-SUCH-LAYER-COUNT, NO-SUCH-RECORD
 }
+pub use Rattle.notation.specs.Lending.{outcome, refusalNumber, value, Lent, lent, kept, lend, inEntries}
 use Rattle.notation.specs.Layers.{Range, MAX-LAYER, clampToLayerCount, setRanges, keep, lit, simplified}
 use Rattle.notation.specs.Tree.{
   Span, partOf, Layers, noLayers, singleLayer, layerRange, layerSet, Leaf, rotation, move, pause, pair, slash, megaminx, Tree
@@ -25,41 +26,6 @@ use Rattle.notation.specs.Invert.{inv, invDeep}
 use Rattle.notation.specs.Print.{printed}
 use Rattle.notation.specs.Unroll.{flatten}
 use Rattle.notation.specs.declared.features.Features.{Features}
-use Rattle.notation.specs.declared.answer.Answer.{Answer}
-use Rattle.notation.specs.declared.answer.Answer.the-variants.{Value, Refused}
-
--- Answers. The code's enum says an outcome; document 01's fields are the refusal's number (0 for none) and the value (0 where refused).
-abbrev pub outcome : Answer → Outcome ℕ
-outcome (Value v) = result v
-outcome (Refused r) = refusal r
-
-abbrev pub refusalNumber : {A : Type 0} → Outcome A → ℕ
-refusalNumber (refusal r) = r
-refusalNumber (result a) = 0
-
-abbrev pub value : Outcome ℕ → ℕ
-value (refusal r) = 0
-value (result v) = v
-
--- Lent buffers, of bytes or of layer ranges: a refusal keeps the buffer; what does not fit is refused 5 and keeps it too;
--- else the result takes the front, its length is the answer and the rest stays.
-pub record Lent (A : Type 0) : Type 0 where
-  pub answer : Outcome ℕ
-  pub buffer : List A
-
--- an answer of the code and the buffer after it
-abbrev pub lent : {A : Type 0} → Answer → List A → Lent A
-lent a buffer = record { answer = outcome a; buffer = buffer }
-
-abbrev pub kept : {A : Type 0} → ℕ → List A → Lent A
-kept r buffer = record { answer = refusal r; buffer = buffer }
-
-abbrev pub lend : {A : Type 0} → Outcome (List A) → List A → Lent A
-lend (refusal r) buffer = kept r buffer
-lend (result l) buffer =
-    pick (leb (length l) (length buffer))
-    (record { answer = result (length l); buffer = l ++ drop (length l) buffer })
-    (kept NO-ROOM buffer)
 
 -- Texts: refusals 1 and 2.
 abbrev pub MAX-TEXT : ℕ
@@ -198,10 +164,6 @@ RANGE = 4
 unfoldable pub rangeBytes : List Range → Bytes
 rangeBytes [] = []
 rangeBytes (r ∷ l) = bigEndian 2 (r .low) ++ bigEndian 2 (r .high) ++ rangeBytes l
-
--- the answer for bytes, as that for entries of so many bytes
-abbrev pub inEntries : (width : ℕ) → Lent ℕ → Lent ℕ
-inEntries width l = record { answer = (do n ← l .answer; result (n / width)); buffer = l .buffer }
 
 -- `lend` answers how many bytes it lent; the entry answers how many ranges these are, and so divides by their size
 abbrev pub simplifyBytes : (text tree : Bytes) («record» layers : ℕ) (negatives : Bool) (buffer : Bytes) → Lent ℕ

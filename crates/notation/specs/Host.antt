@@ -6,8 +6,9 @@ use mathlib.Core.List.{List}
 use lib.ListN.{length}
 use Rattle.notation.specs.Refusals.{Outcome, refusal, result}
 use Rattle.notation.specs.Tree.{Span}
+use Rattle.notation.specs.Lending.{refusalNumber, value, Lent, LentBoth, Placed, LentAt}
 use Rattle.notation.specs.Entries.{
-  Lent, refusalNumber, value, parseNotation, displayEntry, invEntry, invDeepEntry, countSteps, flattenEntry, seekStep,
+  parseNotation, displayEntry, invEntry, invDeepEntry, countSteps, flattenEntry, seekStep,
   simplifyBytes, familySpan
 }
 use Rattle.notation.specs.declared.features.Features.{Features}
@@ -31,6 +32,21 @@ partNumber (result p) = result (p .offset * PART + p .size)
 -- The number and the buffer that an entry hands to such a host are those of its rule.
 pub record Hands (r : ℕ) (buffer : List ℕ) (rule : Lent ℕ) : Type 0 where
   pub number : r ≡ coded (rule .answer)
+  pub bytes : buffer ≡ rule .buffer
+
+-- the same of an entry that writes two buffers
+pub record HandsBoth (r : ℕ) (first second : List ℕ) (rule : LentBoth) : Type 0 where
+  pub number : r ≡ coded (rule .answer)
+  pub firstBytes : first ≡ rule .first
+  pub secondBytes : second ≡ rule .second
+
+-- An answer that holds a place beside a refusal too: the place stands where the value does, in a refused call as well. A place that is
+-- handed in may reach 2^56 and is told modulo it; one that is answered without a refusal is at most n.
+abbrev pub codedPlace : Placed → ℕ
+codedPlace a = a .number * VALUES + a .place % VALUES
+
+pub record HandsAt (r : ℕ) (buffer : List ℕ) (rule : LentAt) : Type 0 where
+  pub number : r ≡ codedPlace (rule .answer)
   pub bytes : buffer ≡ rule .buffer
 
 -- Nothing is lost by the modulo: no value of an entry reaches 2^56, and a smaller one is told whole. The values of the inverses

@@ -24,6 +24,7 @@ pub mod Invert
 pub mod Print
 pub mod Unroll
 pub mod Reached
+pub mod Lending
 pub mod Entries
 pub mod Tilde
 pub mod Primes
