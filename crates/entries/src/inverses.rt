@@ -29,7 +29,7 @@ fn invert(text: &[u8], tree: &[u8], deep: bool, out: &mut [u8]) -> Answer
     ensures { λ r. ⌜ rule.lent r (now (out .exit))
         ≡ rule.lend (ruled deep (now (text .entry)) (now (tree .entry))) (now (out .entry)) ⌝ }
 {
-    let checked = check(text, tree);
+    let checked = check(text, tree).answer;
     let Answer::Value(_) = checked else {
         return checked;
     };

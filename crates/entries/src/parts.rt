@@ -41,7 +41,7 @@ pub fn simplify(
     ensures { λ r. ⌜ rule.lent r (now (out .exit))
         ≡ rule.simplifyBytes (now (text .entry)) (now (tree .entry)) «record» «max_layer» «allow_negatives» (now (out .entry)) ⌝ }
 {
-    let checked = check(text, tree);
+    let checked = check(text, tree).answer;
     let Answer::Value(_) = checked else {
         return checked;
     };
@@ -87,7 +87,7 @@ pub fn family_part(text: &[u8], tree: &[u8], record: u64) -> PartAnswer
     ensures { λ r. ⌜ Inside (now (text .entry)) r ⌝ }
     ensures { λ r. ⌜ Fits r ⌝ }
 {
-    let checked = check(text, tree);
+    let checked = check(text, tree).answer;
     let Answer::Value(_) = checked else {
         return no_part(checked);
     };

@@ -9,7 +9,7 @@ use notation::refusals::NO_ROOM;
 pub fn display(text: &[u8], tree: &[u8], out: &mut [u8]) -> Answer
     ensures { λ r. ⌜ rule.lent r (now (out .exit)) ≡ rule.displayEntry (now (text .entry)) (now (tree .entry)) (now (out .entry)) ⌝ }
 {
-    let checked = check(text, tree);
+    let checked = check(text, tree).answer;
     let Answer::Value(_) = checked else {
         return checked;
     };

@@ -5,12 +5,10 @@ ghost use Rattle.notation.specs.Refusals.{result};
 ghost use Rattle.notation.specs.Entries as rule;
 ghost use Rattle.checked.specs.Checked.{Counted};
 use checked::check;
-use expand::visit::visit;
+use checked::unrolled;
 use notation::answer::Answer;
-use notation::limits::MAX_STEPS;
 use notation::refusals::NO_ROOM;
 use notation::refusals::NO_SUCH_PLACE;
-use notation::refusals::TOO_MANY_STEPS;
 use record::RECORD;
 
 // How many steps a tree unrolls into: refusals 1, 2, 6, 7 or 8, 9.
@@ -18,18 +16,7 @@ pub fn count_steps(text: &[u8], tree: &[u8]) -> Answer
     ensures { λ r. ⌜ rule.outcome r ≡ rule.countSteps (now (text .entry)) (now (tree .entry)) ⌝ }
     ensures { λ r. ⌜ ((n : ℕ) → rule.outcome r ≡ result n → Counted (now (text .entry)) (now (tree .entry)) n) ⌝ }
 {
-    let checked = check(text, tree);
-    let Answer::Value(steps) = checked else {
-        return checked;
-    };
-    let refusals = visit(tree);
-    if refusals.forward != 0 {
-        return Answer::Refused(refusals.forward);
-    }
-    if MAX_STEPS < steps {
-        return Answer::Refused(TOO_MANY_STEPS);
-    }
-    Answer::Value(steps)
+    unrolled(check(text, tree))
 }
 
 // The unrolled list, a record for each step: refusals 1, 2, 6, 7 or 8, 9, 5.

@@ -61,7 +61,8 @@ pub fn tree_line(out: &mut [u8], at: usize, label: &[u8], text: &[u8], tree: &[u
     ensures { λ r. ⌜ Wrote (now (out .entry)) (now (out .exit)) at r
         (rule.line (now (label .entry)) (rule.field (entries.display (now (text .entry)) (now (tree .entry))))) ⌝ }
 {
-    match check(text, tree) {
+    let checked = check(text, tree).answer;
+    match checked {
         Answer::Value(_) => {
             let space = put_bytes(out, at, label);
             let start = put(out, space, b' ');

@@ -63,11 +63,11 @@ module _ (s : List ℕ) (at : ℕ) (below : Below 256 s) (room : at + 6 ≤ leng
   pub two-as-one : head * 65536 + tail ≡ fromBigEndian (take 3 (drop at s)) * 16777216 + fromBigEndian (take 3 (drop (at + 3) s))
   two-as-one = ap₂ (λ (m n : ℕ). m * 65536 + n) e f ∙ sym (two-parts s at 4 2 room) ∙ two-parts s at 3 3 room
 
--- the step count by the first of its five bytes and by the other four
+-- the step count by the first four of its five bytes and by the last
 module _ (bs : List ℕ) (long : RECORD ≤ length bs) (high low : ℕ)
-    (e : high ≡ fromBigEndian (take 1 (drop (start widths COUNT) bs))) (f : low ≡ fromBigEndian (take 4 (drop (start widths COUNT + 1) bs))) where
-  count-parts : field COUNT bs ≡ high * 4294967296 + low
-  count-parts = field-at bs COUNT (lit< tt) ∙ two-parts bs (start widths COUNT) 1 4 long ∙ rw (e, f)
+    (e : high ≡ fromBigEndian (take 4 (drop (start widths COUNT) bs))) (f : low ≡ fromBigEndian (take 1 (drop (start widths COUNT + 4) bs))) where
+  count-parts : field COUNT bs ≡ high * 256 + low
+  count-parts = field-at bs COUNT (lit< tt) ∙ two-parts bs (start widths COUNT) 4 1 long ∙ rw (e, f)
 
   pub more-than-one : (high ≡ 0 → ⊥) → eqb high 0 ≡ eqb (field COUNT bs) 1
   more-than-one n = ne-eqb high 0 n ∙ sym (ne-eqb (field COUNT bs) 1 (λ z. n (omega (arith, count-parts))))

@@ -165,12 +165,12 @@ pub fn count(t: &[u8]) -> u64
 }
 
 // Whether the step count is 1, as a leaf's is. Two parts of the field tell it, which is quicker than to put five bytes
-// together.
+// together; and to ask whether four bytes are 0 they need not be put in order.
 pub fn counts_one(t: &[u8]) -> bool
     requires { ⌜ RECORD ≤ length (now t) ⌝ }
     ensures { λ r. ⌜ r ≡ eqb (field COUNT (now (t .entry))) 1 ⌝ }
 {
-    read_u8(t, layout::COUNT) == 0 && read_u32(t, layout::COUNT + 1) == 1
+    read_u32(t, layout::COUNT) == 0 && read_u8(t, layout::COUNT + 4) == 1
 }
 
 // Whether both fields from `at` on, of three bytes each, are 0.

@@ -1,14 +1,19 @@
 // A record undone in place, and which ones cannot be undone.
 ghost use mathlib.Core.Path.{_≡_};
 ghost use mathlib.Core.List.{_++_};
-ghost use Prim.Native.Nat.{_≤_};
-ghost use lib.ListN.{length, drop};
+ghost use Prim.Native.Nat.{_+_, _≤_};
+ghost use lib.Dec.{eqb};
+ghost use lib.ListN.{length, take, drop};
+ghost use Rattle.notation.specs.Numbers.{fromBigEndian, MIN-BITS};
 ghost use Rattle.notation.specs.Invert.{exchanged as opposite};
 ghost use Rattle.notation.specs.Packed.{RECORD, headRecord, headAt, megaminxNumber};
 ghost use Rattle.notation.specs.declared.common.MegaminxScrambleMove.{MegaminxScrambleMove};
 ghost use Rattle.record.specs.Undone.{StartsRecord, undoneHead, overflowsAt};
 use crate::fields;
 use crate::kinds;
+use crate::layout;
+use numbers::big_endian::read_u32;
+use numbers::big_endian::read_u8;
 use numbers::signed::MIN;
 use numbers::signed::negate;
 
@@ -51,5 +56,13 @@ pub fn overflows(r: &[u8]) -> bool
     requires { ⌜ RECORD ≤ length (now r) ⌝ }
     ensures { λ o. ⌜ o ≡ overflowsAt (now (r .entry)) ⌝ }
 {
-    fields::kind(r) == kinds::PAIR && (fields::number(r) == MIN || fields::other(r) == MIN)
+    fields::kind(r) == kinds::PAIR && (is_min(r, layout::NUMBER) || is_min(r, layout::OTHER))
+}
+
+// Whether the number in the four bytes from `at` on is −2147483648. Nearly always the first of them tells.
+fn is_min(r: &[u8], at: usize) -> bool
+    requires { ⌜ at + 4 ≤ length (now r) ⌝ }
+    ensures { λ o. ⌜ o ≡ eqb (fromBigEndian (take 4 (drop at (now (r .entry))))) MIN-BITS ⌝ }
+{
+    read_u8(r, at) == 128 && read_u32(r, at) == MIN
 }

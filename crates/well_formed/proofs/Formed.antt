@@ -19,8 +19,8 @@ use Rattle.record.proofs.RoundTrip.{length-headRecord, headAt-headRecord}
 use Rattle.laws.proofs.Bools.{and-left, and-right, and-both}
 use Rattle.laws.proofs.Packing.{length-pack}
 use Rattle.record.proofs.Same.{same-refl, same-eq}
-use Rattle.well_formed.specs.Formed.{formed, headOk, first, second, both, firstBytes, secondBytes, restBytes, countOk}
-use Rattle.well_formed.proofs.Opening.{both-sum, nodeOf, counting, counting-own, viewed, unpack-view}
+use Rattle.well_formed.specs.Formed.{formed, headOk, first, second, both, firstBytes, secondBytes, restBytes, countOk, nodeOf}
+use Rattle.well_formed.proofs.Opening.{both-sum, counting, counting-own, viewed, unpack-view}
 use Rattle.well_formed.proofs.Bytes.{head-fits, size-most}
 
 -- The test as a fact.

@@ -26,9 +26,10 @@ use Rattle.record.proofs.RoundTrip.{headFields-fit}
 use Rattle.record.proofs.Same.{same-eq, same-record, counted-same}
 use Rattle.counts.specs.Groups.{groupCount}
 use Rattle.counts.proofs.Capped.{group-stored, binary-stored}
-use Rattle.well_formed.specs.Formed.{headOk, first, second, countOk}
-use Rattle.well_formed.proofs.Opening.{nodeOf}
+use Rattle.well_formed.specs.Formed.{headOk, first, second, countOk, nodeOf}
+use Rattle.well_formed.specs.Refusing.{groupRefuses}
 use Rattle.well_formed.proofs.Bytes.{head-fits}
+use Rattle.well_formed.proofs.Refusing.{ofNode, ofTree, group-refuses, binary-refuses}
 
 -- A group's record.
 pub record GroupSays (bs : List ℕ) (k : ℕ) (h : Head) : Type 0 where
@@ -36,6 +37,7 @@ pub record GroupSays (bs : List ℕ) (k : ℕ) (h : Head) : Type 0 where
   pub asks : (text : List ℕ) (d : ℕ) → headOk text d h ≡ (ltb 0 d && multiplierOk (fromBits 32 (field NUMBER bs)))
   pub one : k < 4 → second h ≡ 0
   pub two : 4 ≤ k → second h ≡ field SECOND bs
+  pub refuses : (a b : Tree) → ofNode (nodeOf h a b) ≡ groupRefuses k (fromBits 32 (field NUMBER bs)) (ofTree a) (ofTree b)
   pub counts : (a b : Tree) → countOk h a b ≡ eqb (field COUNT bs) (groupCount k (fromBits 32 (field NUMBER bs)) (cap (count a)) (cap (count b)))
 
 module _ (bs : List ℕ) (below : Below 256 bs) where
@@ -49,6 +51,7 @@ module _ (bs : List ℕ) (below : Below 256 bs) where
         asks = λ text d. refl;
         one = λ z. refl;
         two = λ z. absurd (omega arith);
+        refuses = λ a b. group-refuses g a (fromBits 32 (field NUMBER bs)) (ofTree b);
         counts = λ a b. ap (eqb (field COUNT bs)) (sym (group-stored g a (fromBits 32 (field NUMBER bs)) (cap (count b))));
       }
 
@@ -59,6 +62,7 @@ module _ (bs : List ℕ) (below : Below 256 bs) where
         asks = λ text d. refl;
         one = λ z. absurd (omega arith);
         two = λ z. refl;
+        refuses = λ a b. binary-refuses g a b (fromBits 32 (field NUMBER bs));
         counts = λ a b. ap (eqb (field COUNT bs)) (sym (binary-stored g a b (fromBits 32 (field NUMBER bs))));
       }
 

@@ -9,7 +9,7 @@ use lib.ListN.{length, take, drop, length-take, length-drop}
 use Rattle.notation.specs.Tree.{Leaf, Node, leaf, block, group, binaryGroup, cons, Tree}
 use Rattle.notation.specs.Counts.{stored}
 use Rattle.notation.specs.Packed.{RECORD, Head, leafHead, groupHead, binaryHead, size, headAt, unpackFrom, unpack}
-use Rattle.well_formed.specs.Formed.{first, second, both, firstBytes, secondBytes, restBytes, countOk}
+use Rattle.well_formed.specs.Formed.{first, second, both, firstBytes, secondBytes, restBytes, nodeOf, countOk}
 use Rattle.laws.proofs.Packing.{opened, unpack-nil, unpack-step}
 
 pub both-sum : (h : Head) → both h ≡ first h + second h
@@ -17,12 +17,7 @@ both-sum (leafHead x) = refl
 both-sum (groupHead g n m c) = omega arith
 both-sum (binaryHead g n n′ m c) = refl
 
--- The node of a head with these lists, and the head that packing writes of it.
-abbrev pub nodeOf : Head → Tree → Tree → Node Leaf
-nodeOf (leafHead x) a b = leaf x
-nodeOf (groupHead g n m c) a b = block (group g a) m
-nodeOf (binaryHead g n n′ m c) a b = block (binaryGroup g a b) m
-
+-- The head that packing writes of a head with these lists.
 abbrev pub counting : Head → Tree → Tree → Head
 counting (leafHead x) a b = leafHead x
 counting (groupHead g n m c) a b = groupHead g (size a) m (stored (block (group g a) m))

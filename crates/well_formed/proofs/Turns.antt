@@ -1,5 +1,5 @@
 -- The walk: what each way out of a turn says of the list, and of its first node. Assumes nothing.
-use Prim.Native.Nat.{ℕ, _+_, _-_, _*_, _/_, _≤_, _<_}
+use Prim.Native.Nat.{ℕ, _+_, _-_, _*_, _/_, _^_, _≤_, _<_}
 use mathlib.Core.Path.{_≡_, refl, sym, ap, ap₂, _∙_, subst}
 use mathlib.Core.Bool.{Bool, true, false, _&&_, _||_}
 use mathlib.Core.List.{List, [], _∷_}
@@ -17,13 +17,21 @@ use Rattle.notation.specs.Packed.{RECORD, widths, cut, inOrder, nowhere, Head, 
 use Rattle.notation.specs.WellFormed.{leafOk, multiplierOk}
 use Rattle.numbers.proofs.Positional.{Below, below-drop}
 use Rattle.laws.proofs.Bools.{and-left, and-right, and-both, false-true}
+use Rattle.laws.specs.Unrolled.{firstRefusal}
 use Rattle.laws.proofs.Walking.{leaf-stored}
+use Rattle.record.specs.Undone.{overflowsAt}
 use Rattle.record.specs.Meaning.{field, uncounted, listed, kindAt, FIRST, SECOND, NUMBER, COUNT}
 use Rattle.record.specs.declared.encode.Fields.{Fields}
 use Rattle.record.proofs.Same.{same-refl, same-eq, refuted}
 use Rattle.counts.specs.Groups.{groupCount}
-use Rattle.well_formed.specs.Formed.{formed, formedCount, headOk, first, second, both, firstBytes, secondBytes, restBytes, countOk, firstOk}
-use Rattle.well_formed.proofs.Opening.{both-sum, nodeOf, unpack-view}
+use Rattle.well_formed.specs.Formed.{formed, formedCount, headOk, first, second, both, firstBytes, secondBytes, restBytes, countOk, firstOk, nodeOf, firstNode, firstCount}
+use Rattle.well_formed.specs.Meaning.{stepCount, Meets, MeetsNode}
+use Rattle.well_formed.specs.declared.walk.Visited.{Visited}
+use Rattle.well_formed.specs.declared.walk.Visited.the-variants.{Steps, Nothing}
+use Rattle.well_formed.specs.Refusing.{refuses, leafRefuses, groupRefuses}
+use Rattle.well_formed.specs.declared.refusals.Refusals.{Refusals}
+use Rattle.well_formed.proofs.Opening.{both-sum, unpack-view}
+use Rattle.well_formed.proofs.Refusing.{ofNode, ofTree, after, none-met, either-way, leaf-refuses, nothing-met, nothing-left, met-more}
 use Rattle.well_formed.proofs.Heads.{GroupSays, group-says, leaf-says, asks-nothing, by-fields, compared, field-written, first-written, second-written, count-written}
 use Rattle.well_formed.proofs.Formed.{formed-fact, fact-formed, formed-nil, Parts, formed-parts, parts-formed}
 
@@ -46,15 +54,12 @@ and-false false b e = refl
 abbrev same : List ℕ → Bool
 same bs = sameList (headRecord (headAt bs)) (take RECORD bs)
 
--- the lists that it says, and the node that it is with them
+-- the lists that it says
 abbrev firstIn : List ℕ → Tree
 firstIn bs = unpack (firstBytes (headAt bs) bs)
 
 abbrev secondIn : List ℕ → Tree
 secondIn bs = unpack (secondBytes (headAt bs) bs)
-
-abbrev firstNode : List ℕ → Node Leaf
-firstNode bs = nodeOf (headAt bs) (firstIn bs) (secondIn bs)
 
 -- if these bytes are well formed, so many steps and theirs, capped
 abbrev countFrom : List ℕ → ℕ → ℕ → List ℕ → Option ℕ
@@ -125,27 +130,34 @@ module _ (text : List ℕ) (d : ℕ) (bs : List ℕ) (below : Below 256 bs) (som
               rest = formed-fact text d (restBytes h bs) r;
             }))
 
--- What a turn leaves: the steps that are counted, n of them, and the bytes that are left decide. A step that is not capped took a byte or more.
-pub record Left (text : List ℕ) (d : ℕ) (list bs : List ℕ) (n : ℕ) : Type 0 where
+-- What a turn leaves: the steps that are counted, n of them, the refusals that were met, and the bytes that are left decide. A step that is not
+-- capped took a byte or more.
+pub record Left (text : List ℕ) (d : ℕ) (list bs : List ℕ) (n : ℕ) (met : Refusals) : Type 0 where
   pub below : Below 256 bs
   pub within : length bs ≤ length list
   pub few : n + length bs ≤ CAP + length list
   pub same : countFrom text d n bs ≡ formedCount text d list
+  pub joined : after (refuses met) (ofTree (unpack bs)) ≡ ofTree (unpack list)
 
-pub at-first : (text : List ℕ) (d : ℕ) (list : List ℕ) → Below 256 list → Left text d list list 0
+pub at-first : (text : List ℕ) (d : ℕ) (list : List ℕ) → Below 256 list → Left text d list list 0 none-met
 at-first text d list b =
     let z : 0 + count (unpack list) ≡ count (unpack list) = omega arith in
-    record { below = b; within = omega arith; few = omega arith; same = ap (λ (k : ℕ). pick (formed text d list) (some (cap k)) none) z }
+    record { below = b; within = omega arith; few = omega arith; same = ap (λ (k : ℕ). pick (formed text d list) (some (cap k)) none) z; joined = nothing-met (unpack list) }
 
-pub no-more : (text : List ℕ) (d : ℕ) (list bs : List ℕ) (n : ℕ) → Left text d list bs n → length bs ≤ 0 → (r : ℕ) → r ≡ cap n → some r ≡ formedCount text d list
+pub no-more : (text : List ℕ) (d : ℕ) (list bs : List ℕ) (n : ℕ) (met : Refusals) → Left text d list bs n met → length bs ≤ 0 → (r : ℕ) → r ≡ cap n → some r ≡ formedCount text d list
 unfolding unpackFrom count
-no-more text d list [] n left h r e =
+no-more text d list [] n met left h r e =
     let same : r ≡ cap (n + count (unpack [])) = omega arith in
     ap₂ (λ (b : Bool) (k : ℕ). pick b (some k) none) (sym (formed-nil text d)) same ∙ left .same
-no-more text d list (b ∷ bs) n left h r e = absurd (omega arith)
+no-more text d list (b ∷ bs) n met left h r e = absurd (omega arith)
 
-pub refused : (text : List ℕ) (d : ℕ) (list bs : List ℕ) (n : ℕ) → Left text d list bs n → false ≡ formed text d bs → none ≡ formedCount text d list
-refused text d list bs n left e = ap (λ (b : Bool). pick b (some (cap (n + count (unpack bs)))) none) e ∙ left .same
+pub all-met : (text : List ℕ) (d : ℕ) (list bs : List ℕ) (n : ℕ) (met : Refusals) → Left text d list bs n met → length bs ≤ 0 → refuses met ≡ ofTree (unpack list)
+unfolding unpackFrom firstRefusal
+all-met text d list [] n met left h = sym (nothing-left met) ∙ left .joined
+all-met text d list (b ∷ bs) n met left h = absurd (omega arith)
+
+pub refused : (text : List ℕ) (d : ℕ) (list bs : List ℕ) (n : ℕ) (met : Refusals) → Left text d list bs n met → false ≡ formed text d bs → none ≡ formedCount text d list
+refused text d list bs n met left e = ap (λ (b : Bool). pick b (some (cap (n + count (unpack bs)))) none) e ∙ left .same
 
 rest-is : (bs : List ℕ) (end : ℕ) → take (length bs - end) (drop end bs) ≡ drop end bs
 rest-is bs end = take-all (length bs - end) (drop end bs) (omega (arith, length-drop end bs))
@@ -160,16 +172,17 @@ count-on bs n c n′ p e s =
     let whole : count (unpack bs) ≡ countNode (firstNode bs) + count (unpack (restBytes (headAt bs) bs)) = ap count (unpack-view bs p) in
     omega arith
 
-go-on : (text : List ℕ) (d : ℕ) (list bs : List ℕ) (n : ℕ) → Left text d list bs n → (ok : Bool) → ok ≡ firstOk text d bs → ok ≡ true →
+go-on : (text : List ℕ) (d : ℕ) (list bs : List ℕ) (n : ℕ) (met : Refusals) → Left text d list bs n met → (ok : Bool) → ok ≡ firstOk text d bs → ok ≡ true →
     (end : ℕ) → end ≡ RECORD + RECORD * both (headAt bs) → end ≤ length bs → (c n′ : ℕ) → c ≡ stored (firstNode bs) → cap n′ ≡ cap (n + c) →
-    n′ + (length bs - end) ≤ CAP + length list → Left text d list (take (length bs - end) (drop end bs)) n′
-go-on text d list bs n left ok o holds end z l c n′ e s few =
+    n′ + (length bs - end) ≤ CAP + length list → (one next : Refusals) → refuses one ≡ ofNode (firstNode bs) → refuses next ≡ after (refuses met) (refuses one) →
+    Left text d list (take (length bs - end) (drop end bs)) n′ next
+go-on text d list bs n met left ok o holds end z l c n′ e s few one next m j =
     let p : 0 < length bs = omega arith in
     let rest = length-drop end bs in
     let steps : cap (n′ + count (unpack (drop end bs))) ≡ cap (n + count (unpack bs)) =
     (λ i. cap (n′ + count (unpack (drop (z i) bs)))) ∙ count-on bs n c n′ p e s
     in
-    subst (λ (r : List ℕ). Left text d list r n′) (sym (rest-is bs end))
+    subst (λ (r : List ℕ). Left text d list r n′ next) (sym (rest-is bs end))
     (record {
       below = below-drop 256 end bs (left .below);
       within = omega (arith, left .within);
@@ -178,36 +191,64 @@ go-on text d list bs n left ok o holds end z l c n′ e s few =
         ap₂ (λ (b : Bool) (k : ℕ). pick b (some k) none)
         (ap (λ (k : ℕ). formed text d (drop k bs)) z ∙ good-node text d bs (left .below) p ok o holds (omega arith)) steps
         ∙ left .same;
+      joined =
+        ap (λ (k : ℕ). after (refuses next) (ofTree (unpack (drop k bs)))) z
+        ∙ met-more met one next (firstNode bs) (unpack (restBytes (headAt bs) bs)) m j
+        ∙ ap (λ (t : Tree). after (refuses met) (ofTree t)) (sym (unpack-view bs p))
+        ∙ left .joined;
     })
 
 -- the end of a group by the counts that are read
 pub counted : (bs : List ℕ) {n n′ : ℕ} → n ≡ field FIRST bs → n′ ≡ field SECOND bs → RECORD + RECORD * (n + n′) ≡ RECORD + RECORD * (field FIRST bs + field SECOND bs)
 counted bs e e′ = omega arith
 
-pub past-group : (text : List ℕ) (d : ℕ) (list bs : List ℕ) (n : ℕ) → Left text d list bs n → (ok : Bool) → ok ≡ firstOk text d bs → ok ≡ true →
-    (end : ℕ) → end ≡ RECORD + RECORD * (field FIRST bs + field SECOND bs) → end ≤ length bs → (c n′ : ℕ) → c ≡ field COUNT bs → n′ ≡ cap (n + c) →
-    Left text d list (take (length bs - end) (drop end bs)) n′
-past-group text d list bs n left ok o holds end z l c n′ e s =
-    let w : same bs ≡ true = and-left _ _ (sym o ∙ holds) in
-    let long : RECORD ≤ length bs = omega arith in
-    let right = right-count text d bs (left .below) (omega arith) ok o holds in
-    go-on text d list bs n left ok o holds end
-    (omega (arith, both-sum (headAt bs), first-written bs (left .below) long w, second-written bs (left .below) long w)) l
-    c n′ (e ∙ count-written bs (left .below) long w (firstIn bs) (secondIn bs) right) (omega arith) (omega (arith, left .within))
+-- what a list's answer tells
+pub list-refused : (b : Bool) (k : ℕ) → none ≡ pick b (some k) none → b ≡ false
+list-refused true k e = cc
+list-refused false k e = refl
+
+pub list-passed : (b : Bool) (k n : ℕ) → some n ≡ pick b (some k) none → (b ≡ true) × (n ≡ k)
+list-passed true k n e = (refl, cc)
+list-passed false k n e = (cc, cc)
+
+-- what the visit of a group tells
+pub group-passed : (text : List ℕ) (d : ℕ) (bs : List ℕ) {v : Visited} {c : ℕ} {inside : Refusals} → v ≡ Steps c inside → stepCount v ≡ firstCount text d bs →
+    (firstOk text d bs ≡ true) × (c ≡ stored (firstNode bs))
+group-passed text d bs {v} {c} e n = list-passed (firstOk text d bs) (stored (firstNode bs)) c (ap stepCount (sym e) ∙ n)
+
+pub group-not : (text : List ℕ) (d : ℕ) (bs : List ℕ) {v : Visited} → v ≡ Nothing → stepCount v ≡ firstCount text d bs → false ≡ firstOk text d bs
+group-not text d bs e n = sym (list-refused (firstOk text d bs) (stored (firstNode bs)) (ap stepCount (sym e) ∙ n))
 
 -- so that the sum has room
-pub count-capped : (text : List ℕ) (d : ℕ) (bs : List ℕ) → Below 256 bs → RECORD ≤ length bs → (ok : Bool) → ok ≡ firstOk text d bs → ok ≡ true → (c : ℕ) → c ≡ field COUNT bs → c ≤ CAP
-count-capped text d bs below long ok o holds c e =
-    let w = count-written bs below long (and-left _ _ (sym o ∙ holds)) (firstIn bs) (secondIn bs) (right-count text d bs below (omega arith) ok o holds) in
-    omega arith
+pub group-capped : (text : List ℕ) (d : ℕ) (bs : List ℕ) {v : Visited} {c : ℕ} {inside : Refusals} → v ≡ Steps c inside → stepCount v ≡ firstCount text d bs → c ≤ CAP
+group-capped text d bs e n = let z = group-passed text d bs e n .1 in omega arith
 
-pub past-leaf : (text : List ℕ) (d : ℕ) (list bs : List ℕ) (n : ℕ) → Left text d list bs n → (ok : Bool) → ok ≡ firstOk text d bs → ok ≡ true →
-    6 ≤ kindAt bs → RECORD ≤ length bs → Left text d list (take (length bs - RECORD) (drop RECORD bs)) (n + 1)
+pub sum-room : (n bytes all c : ℕ) → n + bytes ≤ CAP + all → all * 1 < 2 ^ 63 → c ≤ CAP → n + c < 2 ^ 64
+sum-room n bytes all c few short most = omega arith
+
+pub past-group : (text : List ℕ) (d : ℕ) (list bs : List ℕ) (n : ℕ) (met : Refusals) → Left text d list bs n met →
+    (end : ℕ) → end ≡ RECORD + RECORD * (field FIRST bs + field SECOND bs) → end ≤ length bs →
+    (v : Visited) (c : ℕ) (inside : Refusals) → v ≡ Steps c inside → stepCount v ≡ firstCount text d bs → MeetsNode v (firstNode bs) →
+    (n′ : ℕ) (next : Refusals) → n′ ≡ cap (n + c) → refuses next ≡ after (refuses met) (refuses inside) →
+    Left text d list (take (length bs - end) (drop end bs)) n′ next
+past-group text d list bs n met left end z l v c inside e k m n′ next s j =
+    let found = group-passed text d bs e k in
+    let w : same bs ≡ true = and-left _ _ (found .0) in
+    let long : RECORD ≤ length bs = omega arith in
+    go-on text d list bs n met left (firstOk text d bs) refl (found .0) end
+    (omega (arith, both-sum (headAt bs), first-written bs (left .below) long w, second-written bs (left .below) long w)) l
+    c n′ (found .1) (omega arith) (omega (arith, left .within)) inside next (subst (λ (x : Visited). MeetsNode x (firstNode bs)) e m) j
+
+pub past-leaf : (text : List ℕ) (d : ℕ) (list bs : List ℕ) (n : ℕ) (met : Refusals) → Left text d list bs n met → (ok : Bool) → ok ≡ firstOk text d bs → ok ≡ true →
+    6 ≤ kindAt bs → RECORD ≤ length bs → (over : Bool) (one next : Refusals) → over ≡ overflowsAt bs → refuses one ≡ leafRefuses over →
+    refuses next ≡ after (refuses met) (refuses one) → Left text d list (take (length bs - RECORD) (drop RECORD bs)) (n + 1) next
 unfolding countNode
-past-leaf text d list bs n left ok o holds k l =
+past-leaf text d list bs n met left ok o holds k l over one next w m j =
+    let x = leaf-says bs (kindAt bs) refl k .0 in
     let leaf = leaf-says bs (kindAt bs) refl k .1 in
-    go-on text d list bs n left ok o holds RECORD (ap (λ (h : Head). RECORD + RECORD * both h) leaf) l
+    go-on text d list bs n met left ok o holds RECORD (ap (λ (h : Head). RECORD + RECORD * both h) leaf) l
     1 (n + 1) (ap (λ (h : Head). stored (nodeOf h (firstIn bs) (secondIn bs))) leaf) refl (omega (arith, left .few))
+    one next (m ∙ ap leafRefuses w ∙ leaf-refuses bs x leaf ∙ ap (λ (h : Head). ofNode (nodeOf h (firstIn bs) (secondIn bs))) leaf) j
 
 -- A leaf has no lists.
 leaf-lists : (text : List ℕ) (d : ℕ) (r b : Bool) → r ≡ b → r ≡ (b && (formed text d [] && (formed text d [] && true)))
@@ -307,6 +348,9 @@ pub multiplier-refused : (bs : List ℕ) (m : Bool) → m ≡ multiplier bs → 
 multiplier-refused bs m e f = f ∙ and-false (same bs) (multiplier bs) (sym e ∙ f)
 
 -- A group and its lists.
+pub no-group : (text : List ℕ) (d : ℕ) (bs : List ℕ) → false ≡ firstOk text d bs → none ≡ firstCount text d bs
+no-group text d bs e = ap (λ (b : Bool). pick b (some (stored (firstNode bs))) none) e
+
 record-passed : (s l m b : Bool) → l ≡ true → (s && m) ≡ true → b ≡ (s && ((l && m) && b))
 record-passed s l m b p e = rw (p, and-left s m e, and-right s m e)
 
@@ -320,21 +364,13 @@ pub record GroupTold (bs : List ℕ) : Type 0 where
   pub long : RECORD ≤ length bs
   pub asks : (text : List ℕ) (d : ℕ) → headOk text d (headAt bs) ≡ (ltb 0 d && multiplier bs)
   pub one : kindAt bs < 4 → second (headAt bs) ≡ 0
+  pub refuses : (a b : Tree) → ofNode (nodeOf (headAt bs) a b) ≡ groupRefuses (kindAt bs) (fromBits 32 (field NUMBER bs)) (ofTree a) (ofTree b)
   pub counts : (a b : Tree) → countOk (headAt bs) a b ≡ eqb (field COUNT bs) (groupCount (kindAt bs) (fromBits 32 (field NUMBER bs)) (cap (count a)) (cap (count b)))
 
 pub group-told : (bs : List ℕ) → Below 256 bs → RECORD + RECORD * (field FIRST bs + field SECOND bs) ≤ length bs → kindAt bs < 6 → GroupTold bs
 group-told bs b l k =
     let says = group-says bs b (kindAt bs) refl k in
-    record { below = b; long = omega arith; asks = says .asks; one = says .one; counts = says .counts }
-
--- what a list's answer tells
-pub list-refused : (b : Bool) (k : ℕ) → none ≡ pick b (some k) none → b ≡ false
-list-refused true k e = cc
-list-refused false k e = refl
-
-pub list-passed : (b : Bool) (k n : ℕ) → some n ≡ pick b (some k) none → (b ≡ true) × (n ≡ k)
-list-passed true k n e = (refl, cc)
-list-passed false k n e = (cc, cc)
+    record { below = b; long = omega arith; asks = says .asks; one = says .one; refuses = says .refuses; counts = says .counts }
 
 list-capped : (text : List ℕ) (d : ℕ) (bs : List ℕ) (n : ℕ) → some n ≡ formedCount text d bs → n ≤ CAP
 list-capped text d bs n e =
@@ -359,6 +395,13 @@ module _ (text : List ℕ) (d : ℕ) (bs : List ℕ) (g : GroupTold bs) where
   pub group-refused : (r : Bool) → r ≡ (same bs && multiplier bs) → r ≡ false → false ≡ firstOk text d bs
   group-refused r e f = record-refused (same bs) (ltb 0 d) (multiplier bs) (lists text d bs) (sym e ∙ f) ∙ as-group
 
+  -- what unrolling the group meets, by what unrolling its lists does
+  pub group-meets : (r a b : Refusals) {kind number : ℕ} → kind ≡ kindAt bs → number ≡ field NUMBER bs →
+      refuses a ≡ ofTree (firstIn bs) → refuses b ≡ ofTree (secondIn bs) →
+      refuses r ≡ groupRefuses kind (fromBits 32 number) (refuses a) (refuses b) → refuses r ≡ ofNode (firstNode bs)
+  group-meets r a b zk zn ma mb e =
+      e ∙ (λ i. groupRefuses (zk i) (fromBits 32 (zn i)) (ma i) (mb i)) ∙ sym (g .refuses (firstIn bs) (secondIn bs))
+
 -- A group whose record is passed, with n records in its first list, and what was answered of that list.
 pub record FirstRead (text : List ℕ) (d : ℕ) (bs : List ℕ) (n : ℕ) (a : Option ℕ) : Type 0 where
   pub told : GroupTold bs
@@ -379,10 +422,25 @@ module _ {text : List ℕ} {d : ℕ} {bs : List ℕ} {n : ℕ} {a : Option ℕ} 
       record-passed (same bs) (ltb 0 d) (multiplier bs) (lists text d bs) (lt-ltb 0 d (one .level)) (one .passed)
       ∙ as-group text d bs (one .told)
 
-  first-told : a ≡ formedCount text (d - 1) (firstBytes (headAt bs) bs)
-  first-told =
+  first-slice : take (RECORD + RECORD * n - RECORD) (drop RECORD bs) ≡ firstBytes (headAt bs) bs
+  first-slice =
       let c : RECORD + RECORD * n - RECORD ≡ RECORD * first (headAt bs) = omega (arith, one .size, first-size) in
-      one .answer ∙ ap (λ (i : ℕ). formedCount text (d - 1) (take i (drop RECORD bs))) c
+      ap (λ (i : ℕ). take i (drop RECORD bs)) c
+
+  first-told : a ≡ formedCount text (d - 1) (firstBytes (headAt bs) bs)
+  first-told = one .answer ∙ ap (formedCount text (d - 1)) first-slice
+
+  pub first-met : (v : Visited) {k : ℕ} (met : Refusals) → v ≡ Steps k met → Meets v (unpack (take (RECORD + RECORD * n - RECORD) (drop RECORD bs))) →
+      refuses met ≡ ofTree (firstIn bs)
+  first-met v {k} met e m =
+      subst (λ (x : Visited). Meets x (unpack (take (RECORD + RECORD * n - RECORD) (drop RECORD bs)))) e m ∙ ap (λ (l : List ℕ). ofTree (unpack l)) first-slice
+
+  -- a group that is not binary has no second list
+  pub none-second : kindAt bs < 4 → refuses none-met ≡ ofTree (secondIn bs)
+  unfolding unpackFrom firstRefusal
+  none-second l =
+      either-way refl refl
+      ∙ ap (λ (i : ℕ). ofTree (unpack (take (RECORD * i) (drop (RECORD + RECORD * first (headAt bs)) bs)))) (sym (one .told .one l))
 
   pub first-refused : a ≡ none → false ≡ firstOk text d bs
   first-refused fails =
@@ -421,13 +479,23 @@ module _ {text : List ℕ} {d : ℕ} {bs : List ℕ} {k : ℕ} {b : Option ℕ} 
   first-count : (formed text (d - 1) (firstBytes (headAt bs) bs) ≡ true) × (k ≡ cap (count (firstIn bs)))
   first-count = list-passed (formed text (d - 1) (firstBytes (headAt bs) bs)) _ k (first-told (two .one))
 
-  second-told : b ≡ formedCount text (d - 1) (secondBytes (headAt bs) bs)
-  second-told =
+  -- the second list as it is handed on
+  abbrev pub secondSlice : List ℕ
+  secondSlice = take (RECORD + RECORD * two .n + RECORD * two .n′ - (RECORD + RECORD * two .n)) (drop (RECORD + RECORD * two .n) bs)
+
+  second-slice : secondSlice ≡ secondBytes (headAt bs) bs
+  second-slice =
       let n = two .n in
       let n′ = two .n′ in
       let c : RECORD + RECORD * n ≡ RECORD + RECORD * first (headAt bs) = omega (arith, two .one .size, first-size (two .one)) in
       let c′ : RECORD + RECORD * n + RECORD * n′ - (RECORD + RECORD * n) ≡ RECORD * second (headAt bs) = omega (arith, two .size, second-size (two .one)) in
-      two .answer ∙ (λ i. formedCount text (d - 1) (take (c′ i) (drop (c i) bs)))
+      λ i. take (c′ i) (drop (c i) bs)
+
+  second-told : b ≡ formedCount text (d - 1) (secondBytes (headAt bs) bs)
+  second-told = two .answer ∙ ap (formedCount text (d - 1)) second-slice
+
+  pub second-met : (v : Visited) {k : ℕ} (met : Refusals) → v ≡ Steps k met → Meets v (unpack secondSlice) → refuses met ≡ ofTree (secondIn bs)
+  second-met v met e m = subst (λ (x : Visited). Meets x (unpack secondSlice)) e m ∙ ap (λ (l : List ℕ). ofTree (unpack l)) second-slice
 
   -- the second list and the count are left
   by-second : (formed text (d - 1) (secondBytes (headAt bs) bs) && countOk (headAt bs) (firstIn bs) (secondIn bs)) ≡ firstOk text d bs
@@ -445,9 +513,9 @@ module _ {text : List ℕ} {d : ℕ} {bs : List ℕ} {k : ℕ} {b : Option ℕ} 
   second-capped k′ e = list-capped text (d - 1) (secondBytes (headAt bs) bs) k′ (sym e ∙ second-told)
 
   -- the count as it is compared
-  pub count-compared : (k′ : ℕ) → b ≡ some k′ → (kind number stored′ whole : ℕ) → kind ≡ kindAt bs → number ≡ field NUMBER bs →
+  count-compared : (k′ : ℕ) → b ≡ some k′ → {kind number stored′ whole : ℕ} → kind ≡ kindAt bs → number ≡ field NUMBER bs →
       stored′ ≡ field COUNT bs → whole ≡ groupCount kind (fromBits 32 number) k k′ → eqb stored′ whole ≡ firstOk text d bs
-  count-compared k′ e kind number stored′ whole zk zn zs zw =
+  count-compared k′ e {kind} {number} {stored′} {whole} zk zn zs zw =
       let p = first-count .1 in
       let q = list-passed (formed text (d - 1) (secondBytes (headAt bs) bs)) _ k′ (sym e ∙ second-told) in
       ap (eqb stored′) zw
@@ -455,3 +523,27 @@ module _ {text : List ℕ} {d : ℕ} {bs : List ℕ} {k : ℕ} {b : Option ℕ} 
       ∙ sym (two .one .told .counts (firstIn bs) (secondIn bs))
       ∙ ap (λ (x : Bool). x && countOk (headAt bs) (firstIn bs) (secondIn bs)) (sym (q .0))
       ∙ by-second
+
+  -- what is found of the group: its count, if it is the one that it stores, and what unrolling it meets
+  pub group-found : (k′ : ℕ) → b ≡ some k′ → {kind number stored′ whole : ℕ} → kind ≡ kindAt bs → number ≡ field NUMBER bs →
+      stored′ ≡ field COUNT bs → whole ≡ groupCount kind (fromBits 32 number) k k′ →
+      (v : Visited) (met : Refusals) → refuses met ≡ ofNode (firstNode bs) → v ≡ pick (eqb stored′ whole) (Steps whole met) Nothing →
+      (stepCount v ≡ firstCount text d bs) × MeetsNode v (firstNode bs)
+  group-found k′ e {stored′ = stored′} {whole = whole} zk zn zs zw v met m z = go (eqb stored′ whole) refl
+    where
+      ok : eqb stored′ whole ≡ firstOk text d bs
+      ok = count-compared k′ e zk zn zs zw
+
+      go : (t : Bool) → eqb stored′ whole ≡ t → (stepCount v ≡ firstCount text d bs) × MeetsNode v (firstNode bs)
+      go true h =
+          let is : v ≡ Steps whole met = z ∙ ap (λ (t : Bool). pick t (Steps whole met) Nothing) h in
+          let g = two .one .told in
+          let right : whole ≡ stored (firstNode bs) =
+          sym (eqb-true stored′ whole h) ∙ zs
+          ∙ count-written bs (g .below) (g .long) (and-left (same bs) (multiplier bs) (two .one .passed)) (firstIn bs) (secondIn bs)
+            (right-count text d bs (g .below) (omega (arith, g .long)) (firstOk text d bs) refl (sym ok ∙ h)) in
+          (ap stepCount is ∙ (λ i. pick (sym h i) (some (right i)) none) ∙ ap (λ (t : Bool). pick t (some (stored (firstNode bs))) none) ok,
+          subst (λ (x : Visited). MeetsNode x (firstNode bs)) (sym is) m)
+      go false h =
+          let is : v ≡ Nothing = z ∙ ap (λ (t : Bool). pick t (Steps whole met) Nothing) h in
+          (ap stepCount is ∙ no-group text d bs (sym h ∙ ok), subst (λ (x : Visited). MeetsNode x (firstNode bs)) (sym is) tt)

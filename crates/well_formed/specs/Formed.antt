@@ -6,7 +6,7 @@ use mathlib.Core.Option.{Option, none, some}
 use lib.Dec.{leb, ltb, eqb}
 use lib.ListN.{take, drop}
 use Rattle.notation.specs.Basics.{pick, sameList}
-use Rattle.notation.specs.Tree.{Tree, block, group, binaryGroup}
+use Rattle.notation.specs.Tree.{Leaf, Node, leaf, block, group, binaryGroup, Tree}
 use Rattle.notation.specs.Counts.{cap, count, stored}
 use Rattle.notation.specs.Packed.{RECORD, headRecord, pack, headAt, unpack, Head, leafHead, groupHead, binaryHead}
 use Rattle.notation.specs.WellFormed.{treeOk, depth, leafOk, multiplierOk, wellFormed}
@@ -55,6 +55,15 @@ secondBytes h bs = take (RECORD * second h) (drop (RECORD + RECORD * first h) bs
 abbrev pub restBytes : Head → List ℕ → List ℕ
 restBytes h bs = drop (RECORD + RECORD * both h) bs
 
+-- the node of a head with these lists, and the first node of a run of bytes
+abbrev pub nodeOf : Head → Tree → Tree → Node Leaf
+nodeOf (leafHead x) a b = leaf x
+nodeOf (groupHead g n m c) a b = block (group g a) m
+nodeOf (binaryHead g n n′ m c) a b = block (binaryGroup g a b) m
+
+abbrev pub firstNode : List ℕ → Node Leaf
+firstNode bs = let h = headAt bs in nodeOf h (unpack (firstBytes h bs)) (unpack (secondBytes h bs))
+
 -- whether a head stores the step count that its lists a and b come to
 abbrev pub countOk : Head → Tree → Tree → Bool
 countOk (leafHead x) a b = true
@@ -70,3 +79,7 @@ firstOk text d bs =
     && (formed text (d - 1) (firstBytes h bs)
     && (formed text (d - 1) (secondBytes h bs)
     && countOk h (unpack (firstBytes h bs)) (unpack (secondBytes h bs)))))
+
+-- how many steps the first node has, capped, if it is in bounds
+abbrev pub firstCount : List ℕ → ℕ → List ℕ → Option ℕ
+firstCount text d bs = pick (firstOk text d bs) (some (stored (firstNode bs))) none

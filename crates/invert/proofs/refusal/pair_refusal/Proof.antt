@@ -12,12 +12,12 @@ overflows-requires c κs = search needs
 returns : tie.Need-returns
 returns c =
     let start = c .before .before .before in
-    by-test (start .args .t .now) (start .pre) true (sym (c .if1 .taken) ∙ c .before .overflows .ensures) (start .args .before)
+    by-test (start .args .t .now) true (sym (c .if1 .taken) ∙ c .before .overflows .ensures) (start .args .before)
 
 returns-2 : tie.Need-returns-2
 returns-2 c =
     let start = c .before .before .before in
-    by-test (start .args .t .now) (start .pre) false (sym (c .if1 .left) ∙ c .before .overflows .ensures) (start .args .before)
+    by-test (start .args .t .now) false (sym (c .if1 .left) ∙ c .before .overflows .ensures) (start .args .before)
 
 pub pair-refusal-spec : {M : Type 1} → statement M
 pair-refusal-spec = tie.close (tie.spec overflows-requires returns returns-2)
