@@ -7,6 +7,8 @@ pub mod Unrolling
 pub mod Inverses
 pub mod Reached
 pub mod Refused
+pub mod Weights
+pub mod Folds
 pub mod Counting
 pub mod Seeking
 -- Packed trees and their inverses.
