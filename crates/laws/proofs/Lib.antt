@@ -10,6 +10,7 @@ pub mod Refused
 pub mod Weights
 pub mod Folds
 pub mod Counting
+pub mod Opened
 pub mod Seeking
 -- Packed trees and their inverses.
 pub mod Fits
