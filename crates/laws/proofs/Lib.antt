@@ -11,6 +11,7 @@ pub mod Weights
 pub mod Folds
 pub mod Counting
 pub mod Opened
+pub mod Examples
 pub mod Seeking
 -- Packed trees and their inverses.
 pub mod Fits

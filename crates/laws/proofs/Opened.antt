@@ -1,13 +1,14 @@
 -- Opened lists: a property that undoing keeps holds of every step of a list exactly where it holds of every played leaf, so also where
 -- the record of a group that does not count 0 is replaced by its lists. Said over `flat` and not over `flatten`, because an opened list
--- may be refused 8 where the tree is not: a list that is only played inverted is then played forward too, and the reverse. Assumes nothing.
+-- may be refused 8 where the tree is not: what stands in two groups of multiplier −1 is played forward, but inverted once the outer one
+-- is opened. Assumes nothing.
 use Prim.Native.Nat.{ℕ, zero, suc, _*_}
 use mathlib.Core.Path.{_≡_, refl, sym, ap, ap₂, _∙_}
-use mathlib.Core.Bool.{Bool, true, false, _&&_}
+use mathlib.Core.Bool.{Bool, true, false, _&&_, and-true, and-false, and-self, and-comm}
 use mathlib.Core.List.{List, [], _∷_, _++_, append-nil, append-assoc}
 use native.Mathlib.Nat.{zero-mul}
 use native.Mathlib.Omega.{arith}
-use borrow.Author.Tests.{eq-eqb, ne-eqb, eqb-true, eqb-false}
+use borrow.Author.Tests.{ne-eqb, eqb-true, eqb-false}
 use lib.Dec.{eqb}
 use lib.IntN.{ℤ}
 use Rattle.notation.specs.Basics.{pick, every}
@@ -18,6 +19,7 @@ use Rattle.notation.specs.declared.common.BinaryGroupKind.{BinaryGroupKind}
 use Rattle.notation.specs.declared.common.BinaryGroupKind.the-variants.{Commutator, Conjugate}
 use Rattle.laws.specs.Unrolled.{inOrder, flatBinary, flatNode, flatBody, flat}
 use Rattle.laws.specs.Opened.{playedNode, playedBody, played, opened}
+use Rattle.laws.proofs.ListEntries.{every-append}
 use Rattle.laws.proofs.Counting.{none-counted}
 
 -- The played leaves of an opened list are those of the list.
@@ -33,57 +35,35 @@ played-opened (binaryGroup k a b) m l h =
     rw (ne-eqb (countNode (block (binaryGroup k a b) m)) 0 h)
     (append-assoc (played a) (played b) (played l) ∙ ap (λ s. played a ++ s) (sym (played-append b l)) ∙ sym (played-append a (append b l)))
 
-and-comm : (a b : Bool) → (a && b) ≡ (b && a)
-and-comm true true = refl
-and-comm true false = refl
-and-comm false true = refl
-and-comm false false = refl
-
 module _ {L : Type 0} (p : L → Bool) where
-  every-append : (a b : List L) → every p (a ++ b) ≡ (every p a && every p b)
-  unfolding every
-  every-append [] b = refl
-  every-append (x ∷ a) b = ap (λ (t : Bool). p x && t) (every-append a b) ∙ assoc (p x)
-    where
-      assoc : (t : Bool) → (t && (every p a && every p b)) ≡ ((t && every p a) && every p b)
-      assoc true = refl
-      assoc false = refl
-
   every-order : (d : Bool) (a b : List L) → every p (inOrder d a b) ≡ (every p a && every p b)
-  every-order true a b = every-append b a ∙ and-comm (every p b) (every p a)
-  every-order false a b = every-append a b
+  every-order true a b = every-append p b a ∙ and-comm (every p b) (every p a)
+  every-order false a b = every-append p a b
 
   -- repeats change nothing, unless there are none
   every-copies : (n : ℕ) (l : List L) → every p (copies (suc n) l) ≡ every p l
   unfolding copies every
   every-copies zero l = ap (every p) (append-nil l)
-  every-copies (suc n) l = every-append l (copies (suc n) l) ∙ ap (λ (t : Bool). every p l && t) (every-copies n l) ∙ twice (every p l)
-    where
-      twice : (t : Bool) → (t && t) ≡ t
-      twice true = refl
-      twice false = refl
+  every-copies (suc n) l = every-append p l (copies (suc n) l) ∙ ap (λ (t : Bool). every p l && t) (every-copies n l) ∙ and-self (every p l)
 
   every-binary : (k : BinaryGroupKind) (d : Bool) (a b : Bool → List L) (s t : Bool) →
       ((e : Bool) → every p (a e) ≡ s) → ((e : Bool) → every p (b e) ≡ t) → every p (flatBinary k d a b) ≡ (s && t)
-  every-binary Commutator false a b s t h i = simp (every-append, h false, i false, h true, i true) (go s t)
+  every-binary Commutator false a b s t h i = simp (every-append p, h false, i false, h true, i true) (repeats s t)
     where
-      go : (s t : Bool) → (s && (t && (s && t))) ≡ (s && t)
-      go true true = refl
-      go true false = refl
-      go false t = refl
-  every-binary Commutator true a b s t h i = simp (every-append, h false, i false, h true, i true) (go s t)
+      repeats : (s t : Bool) → (s && (t && (s && t))) ≡ (s && t)
+      repeats true t = and-self t
+      repeats false t = refl
+  every-binary Commutator true a b s t h i = simp (every-append p, h false, i false, h true, i true) (repeats s t)
     where
-      go : (s t : Bool) → (t && (s && (t && s))) ≡ (s && t)
-      go true true = refl
-      go true false = refl
-      go false true = refl
-      go false false = refl
-  every-binary Conjugate d a b s t h i = simp (every-append, h false, i d, h true) (go s t)
+      repeats : (s t : Bool) → (t && (s && (t && s))) ≡ (s && t)
+      repeats true true = refl
+      repeats true false = refl
+      repeats false t = and-false t
+  every-binary Conjugate d a b s t h i = simp (every-append p, h false, i d, h true) (repeats s t)
     where
-      go : (s t : Bool) → (s && (t && s)) ≡ (s && t)
-      go true true = refl
-      go true false = refl
-      go false t = refl
+      repeats : (s t : Bool) → (s && (t && s)) ≡ (s && t)
+      repeats true t = and-true t
+      repeats false t = refl
 
 module _ {L : Type 0} (undo : L → L) where
   -- a node that counts 0 adds nothing
