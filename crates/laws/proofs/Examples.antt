@@ -3,8 +3,10 @@ use Prim.Native.Nat.{ℕ, _+_}
 use mathlib.Core.Path.{_≡_, refl}
 use mathlib.Core.Bool.{true, false}
 use mathlib.Core.List.{List, [], _∷_, _++_}
-use lib.IntN.{ℤ, pos, negsuc}
-use Rattle.notation.specs.Tree.{Node, leaf, block, Body, group, binaryGroup, NodeList, nil, cons, append}
+use lib.IntN.{pos, negsuc}
+use Rattle.notation.specs.Refusals.{refusal, result, OVERFLOW}
+use Rattle.notation.specs.Tree.{Leaf, pair, Node, leaf, block, Body, group, binaryGroup, NodeList, nil, cons, append, Tree}
+use Rattle.notation.specs.Unroll.{copies, flattenNode, flattenBody, flattenNodes, flatten}
 use Rattle.notation.specs.Counts.{countNode, countBody, count}
 use Rattle.notation.specs.declared.common.GroupKind.the-variants.{Simple, Niss}
 use Rattle.notation.specs.declared.common.BinaryGroupKind.the-variants.{Commutator, Conjugate}
@@ -54,3 +56,15 @@ plays = refl
 opens : opened commutator behind ≡ cons (leaf 1) (cons (leaf 2) (cons (leaf 3) behind))
 unfolding append
 opens = refl
+
+-- why the laws of opened lists are said over `flat`: (((-2147483648,0))')' unrolls, and what it is opened to is refused 8
+abbrev least : Leaf
+least = pair (negsuc 2147483647) (pos 0)
+
+abbrev undoneOnce : Tree
+undoneOnce = cons (block (group Simple (cons (leaf least) nil)) (negsuc 0)) nil
+
+refused : (flatten (cons (block (group Simple undoneOnce) (negsuc 0)) nil) ≡ result (least ∷ []))
+    × (flatten (opened (group Simple undoneOnce) nil) ≡ refusal OVERFLOW)
+unfolding copies flattenNode flattenBody flattenNodes append
+refused = (refl, refl)

@@ -1,16 +1,16 @@
 -- Folds: a fold over an unrolled list is what the tree makes of the state, by appended lists, repeats, A B A' B' and A B A', in both
 -- directions. Assumes nothing.
 use Prim.Native.Nat.{ℕ, zero, suc}
-use mathlib.Core.Path.{_≡_, refl, sym, ap, _∙_, fun-ext}
+use mathlib.Core.Path.{_≡_, refl, ap, _∙_, fun-ext}
 use mathlib.Core.Bool.{Bool, true, false}
-use mathlib.Core.List.{List, [], _∷_, _++_, foldl, foldl-append}
+use mathlib.Core.List.{List, foldl, foldl-append}
 use Rattle.notation.specs.Tree.{Node, leaf, block, Body, group, binaryGroup, NodeList, nil, cons, append}
 use Rattle.notation.specs.Counts.{times}
 use Rattle.notation.specs.Unroll.{copies, turned}
 use Rattle.notation.specs.declared.common.BinaryGroupKind.{BinaryGroupKind}
 use Rattle.notation.specs.declared.common.BinaryGroupKind.the-variants.{Commutator, Conjugate}
 use Rattle.laws.specs.Unrolled.{inOrder, flatBinary, flatNode, flatBody, flat}
-use Rattle.laws.specs.Folds.{_before_, again, foldBinary, foldInOrder, foldNode, foldBody, foldNodes}
+use Rattle.laws.specs.Folds.{again, foldBinary, foldInOrder, foldNode, foldBody, foldNodes}
 
 module _ {L S : Type 0} (f : S → L → S) where
   -- what a list makes of the state

@@ -7,7 +7,6 @@ use mathlib.Core.Path.{_≡_, refl, sym, ap, ap₂, _∙_}
 use mathlib.Core.Bool.{Bool, true, false, _&&_, and-true, and-false, and-self, and-comm}
 use mathlib.Core.List.{List, [], _∷_, _++_, append-nil, append-assoc}
 use native.Mathlib.Nat.{zero-mul}
-use native.Mathlib.Omega.{arith}
 use borrow.Author.Tests.{ne-eqb, eqb-true, eqb-false}
 use lib.Dec.{eqb}
 use lib.IntN.{ℤ}
@@ -28,7 +27,8 @@ unfolding played append
 played-append nil b = refl
 played-append (cons n a) b = ap (λ s. playedNode n ++ s) (played-append a b) ∙ sym (append-assoc (playedNode n) (played a) (played b))
 
-played-opened : {L : Type 0} (b : Body L) (m : ℤ) (l : NodeList L) → (countNode (block b m) ≡ 0 → ⊥) → played (cons (block b m) l) ≡ played (opened b l)
+played-opened : {L : Type 0} (b : Body L) (m : ℤ) (l : NodeList L) → (countNode (block b m) ≡ 0 → ⊥) →
+    played (cons (block b m) l) ≡ played (opened b l)
 unfolding playedNode playedBody played
 played-opened (group k a) m l h = rw (ne-eqb (countNode (block (group k a) m)) 0 h) (sym (played-append a l))
 played-opened (binaryGroup k a b) m l h =
@@ -100,7 +100,8 @@ module _ {L : Type 0} (undo : L → L) where
       body-played : (b : Body L) (d : Bool) → every p (flatBody undo d b) ≡ every p (playedBody b)
       body-played (group k a) d = every-played a d
       body-played (binaryGroup k a b) d =
-          every-binary p k d (λ e. flat undo e a) (λ e. flat undo e b) (every p (played a)) (every p (played b)) (λ e. every-played a e) (λ e. every-played b e)
+          every-binary p k d (λ e. flat undo e a) (λ e. flat undo e b) (every p (played a)) (every p (played b))
+          (λ e. every-played a e) (λ e. every-played b e)
           ∙ sym (every-append p (played a) (played b))
 
       pub every-played : (t : NodeList L) (d : Bool) → every p (flat undo d t) ≡ every p (played t)

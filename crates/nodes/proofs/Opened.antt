@@ -4,9 +4,9 @@ use Prim.Native.Nat.{ℕ}
 use mathlib.Core.Path.{_≡_, sym, ap, ap₂, _∙_, subst}
 use mathlib.Core.List.{List, _++_, append-assoc}
 use lib.IntN.{ℤ}
-use lib.ListN.{length, take, drop, take-append-drop}
+use lib.ListN.{length, drop, take-append-drop}
 use lib.Seq.{drop-at}
-use Rattle.notation.specs.Tree.{Leaf, Node, block, Body, group, binaryGroup, append, Tree}
+use Rattle.notation.specs.Tree.{Leaf, block, Body, group, binaryGroup, append, Tree}
 use Rattle.notation.specs.Packed.{RECORD, headRecord, bodyHead, packNode, packBody, pack, unpack}
 use Rattle.record.proofs.RoundTrip.{length-headRecord}
 use Rattle.laws.specs.Packed.{FitsNode, FitsBody, FitsTree, Packed}
