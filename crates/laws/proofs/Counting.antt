@@ -23,35 +23,35 @@ use Rattle.laws.proofs.Unrolling.{verdict, flattenNode-is}
 use Rattle.laws.proofs.Weights.{weightNode-is, weightBody-is, weight-is}
 
 -- The count is the weight 1.
-total-one : {L : Type 0} (l : List L) → total (λ x. 1) l ≡ length l
+pub total-one : {L : Type 0} (l : List L) → total (λ x. 1) l ≡ length l
 unfolding total
 total-one [] = refl
 total-one (x ∷ l) = omega (arith, total-one l)
 
 mutual
   unfolding countNode countBody count weightNode weightBody weight
-  node-one : {L : Type 0} (n : Node L) → weightNode (λ x. 1) n ≡ countNode n
-  node-one (leaf x) = refl
-  node-one (block b m) = ap (λ (c : ℕ). times b m * c) (body-one b)
+  pub weightNode-one : {L : Type 0} (n : Node L) → weightNode (λ x. 1) n ≡ countNode n
+  weightNode-one (leaf x) = refl
+  weightNode-one (block b m) = ap (λ (c : ℕ). times b m * c) (weightBody-one b)
 
-  body-one : {L : Type 0} (b : Body L) → weightBody (λ x. 1) b ≡ countBody b
-  body-one (group k a) = list-one a
-  body-one (binaryGroup k a b) = ap₂ (countBinary k) (list-one a) (list-one b)
+  pub weightBody-one : {L : Type 0} (b : Body L) → weightBody (λ x. 1) b ≡ countBody b
+  weightBody-one (group k a) = weight-one a
+  weightBody-one (binaryGroup k a b) = ap₂ (countBinary k) (weight-one a) (weight-one b)
 
-  list-one : {L : Type 0} (t : NodeList L) → weight (λ x. 1) t ≡ count t
-  list-one nil = refl
-  list-one (cons n l) = ap₂ (λ (a b : ℕ). a + b) (node-one n) (list-one l)
+  pub weight-one : {L : Type 0} (t : NodeList L) → weight (λ x. 1) t ≡ count t
+  weight-one nil = refl
+  weight-one (cons n l) = ap₂ (λ (a b : ℕ). a + b) (weightNode-one n) (weight-one l)
 
 -- The number of steps is the same in both directions, whatever the steps are.
 module _ {L : Type 0} (undo : L → L) where
   pub length-flatNode : (n : Node L) (d : Bool) → length (flatNode undo d n) ≡ countNode n
-  length-flatNode n d = sym (total-one (flatNode undo d n)) ∙ weightNode-is undo (λ x. 1) (λ x. refl) n d ∙ node-one n
+  length-flatNode n d = sym (total-one (flatNode undo d n)) ∙ weightNode-is undo (λ x. 1) (λ x. refl) n d ∙ weightNode-one n
 
-  length-flatBody : (b : Body L) (d : Bool) → length (flatBody undo d b) ≡ countBody b
-  length-flatBody b d = sym (total-one (flatBody undo d b)) ∙ weightBody-is undo (λ x. 1) (λ x. refl) b d ∙ body-one b
+  pub length-flatBody : (b : Body L) (d : Bool) → length (flatBody undo d b) ≡ countBody b
+  length-flatBody b d = sym (total-one (flatBody undo d b)) ∙ weightBody-is undo (λ x. 1) (λ x. refl) b d ∙ weightBody-one b
 
-  length-flat : (t : NodeList L) (d : Bool) → length (flat undo d t) ≡ count t
-  length-flat t d = sym (total-one (flat undo d t)) ∙ weight-is undo (λ x. 1) (λ x. refl) t d ∙ list-one t
+  pub length-flat : (t : NodeList L) (d : Bool) → length (flat undo d t) ≡ count t
+  length-flat t d = sym (total-one (flat undo d t)) ∙ weight-is undo (λ x. 1) (λ x. refl) t d ∙ weight-one t
 
   -- so a node that counts 0 has none
   pub none-counted : (n : Node L) (d : Bool) → countNode n ≡ 0 → flatNode undo d n ≡ []
