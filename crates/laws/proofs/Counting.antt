@@ -8,47 +8,68 @@ use native.Mathlib.Nat.{zero-mul}
 use native.Mathlib.Omega.{arith}
 use borrow.Author.Tests.{leb-true, leb-false}
 use lib.Dec.{leb}
-use lib.IntN.{natAbs}
-use lib.ListN.{length, length-append}
+use lib.ListN.{length}
 use Rattle.notation.specs.Refusals.{result}
-use Rattle.notation.specs.Tree.{Leaf, Node, leaf, block, Body, group, binaryGroup, nil, cons, Tree}
+use Rattle.notation.specs.Tree.{Leaf, Node, leaf, block, Body, group, binaryGroup, NodeList, nil, cons, Tree}
 use Rattle.notation.specs.Invert.{undo, undone}
-use Rattle.notation.specs.Unroll.{turned, flattenNode}
+use Rattle.notation.specs.Unroll.{flattenNode}
 use Rattle.notation.specs.Counts.{CAP, cap, times, countBinary, countNode, countBody, count, stored}
 use Rattle.notation.specs.declared.common.BinaryGroupKind.{BinaryGroupKind}
 use Rattle.notation.specs.declared.common.BinaryGroupKind.the-variants.{Commutator, Conjugate}
-use Rattle.notation.proofs.Marked.{length-copies}
 use Rattle.laws.proofs.Bools.{no-refusal}
-use Rattle.laws.specs.Unrolled.{inOrder, flatBinary, flatNode, flatBody, flat, refusalNode}
+use Rattle.laws.specs.Unrolled.{flatNode, flatBody, flat, refusalNode}
+use Rattle.laws.specs.Weights.{total, weightNode, weightBody, weight}
 use Rattle.laws.proofs.Unrolling.{verdict, flattenNode-is}
+use Rattle.laws.proofs.Weights.{weightNode-is, weightBody-is, weight-is}
 
--- The number of steps is the same in both directions.
-length-binary : (k : BinaryGroupKind) (d : Bool) (a b : Bool → List Leaf) (m n : ℕ) →
-    ((e : Bool) → length (a e) ≡ m) → ((e : Bool) → length (b e) ≡ n) → length (flatBinary k d a b) ≡ countBinary k m n
-length-binary Commutator false a b m n p q = simp (length-append, p false, q false, p true, q true) (omega arith)
-length-binary Commutator true a b m n p q = simp (length-append, p false, q false, p true, q true) (omega arith)
-length-binary Conjugate d a b m n p q = simp (length-append, p false, q d, p true) (omega arith)
-
-length-order : (d : Bool) (a b : List Leaf) → length (inOrder d a b) ≡ length a + length b
-length-order true a b = length-append b a ∙ omega arith
-length-order false a b = length-append a b
+-- The count is the weight 1.
+pub total-one : {L : Type 0} (l : List L) → total (λ x. 1) l ≡ length l
+unfolding total
+total-one [] = refl
+total-one (x ∷ l) = omega (arith, total-one l)
 
 mutual
-  unfolding countNode countBody count flatNode flatBody flat
-  pub countNode-is : (n : Node Leaf) (d : Bool) → length (flatNode undo d n) ≡ countNode n
-  countNode-is (leaf x) d = refl
-  countNode-is (block b m) d =
-      length-copies (times b m) (flatBody undo (turned m d) b) ∙ ap (λ (c : ℕ). times b m * c) (countBody-is b (turned m d))
+  unfolding countNode countBody count weightNode weightBody weight
+  pub weightNode-one : {L : Type 0} (n : Node L) → weightNode (λ x. 1) n ≡ countNode n
+  weightNode-one (leaf x) = refl
+  weightNode-one (block b m) = ap (λ (c : ℕ). times b m * c) (weightBody-one b)
 
-  pub countBody-is : (b : Body Leaf) (d : Bool) → length (flatBody undo d b) ≡ countBody b
-  countBody-is (group k a) d = count-is a d
-  countBody-is (binaryGroup k a b) d =
-      length-binary k d (λ e. flat undo e a) (λ e. flat undo e b) (count a) (count b) (λ e. count-is a e) (λ e. count-is b e)
+  pub weightBody-one : {L : Type 0} (b : Body L) → weightBody (λ x. 1) b ≡ countBody b
+  weightBody-one (group k a) = weight-one a
+  weightBody-one (binaryGroup k a b) = ap₂ (countBinary k) (weight-one a) (weight-one b)
 
-  pub count-is : (t : Tree) (d : Bool) → length (flat undo d t) ≡ count t
-  count-is nil d = refl
-  count-is (cons n l) d =
-      length-order d (flatNode undo d n) (flat undo d l) ∙ ap₂ (λ (a b : ℕ). a + b) (countNode-is n d) (count-is l d)
+  pub weight-one : {L : Type 0} (t : NodeList L) → weight (λ x. 1) t ≡ count t
+  weight-one nil = refl
+  weight-one (cons n l) = ap₂ (λ (a b : ℕ). a + b) (weightNode-one n) (weight-one l)
+
+-- The number of steps is the same in both directions, whatever the steps are.
+module _ {L : Type 0} (undo : L → L) where
+  pub length-flatNode : (n : Node L) (d : Bool) → length (flatNode undo d n) ≡ countNode n
+  length-flatNode n d = sym (total-one (flatNode undo d n)) ∙ weightNode-is undo (λ x. 1) (λ x. refl) n d ∙ weightNode-one n
+
+  pub length-flatBody : (b : Body L) (d : Bool) → length (flatBody undo d b) ≡ countBody b
+  length-flatBody b d = sym (total-one (flatBody undo d b)) ∙ weightBody-is undo (λ x. 1) (λ x. refl) b d ∙ weightBody-one b
+
+  pub length-flat : (t : NodeList L) (d : Bool) → length (flat undo d t) ≡ count t
+  length-flat t d = sym (total-one (flat undo d t)) ∙ weight-is undo (λ x. 1) (λ x. refl) t d ∙ weight-one t
+
+  -- so a node that counts 0 has none
+  pub none-counted : (n : Node L) (d : Bool) → countNode n ≡ 0 → flatNode undo d n ≡ []
+  none-counted n d e = go (flatNode undo d n) (length-flatNode n d ∙ e)
+    where
+      go : (l : List L) → length l ≡ 0 → l ≡ []
+      go [] h = refl
+      go (x ∷ l) h = absurd (omega arith)
+
+-- The same of the leaves of a record.
+pub countNode-is : (n : Node Leaf) (d : Bool) → length (flatNode undo d n) ≡ countNode n
+countNode-is n d = length-flatNode undo n d
+
+pub countBody-is : (b : Body Leaf) (d : Bool) → length (flatBody undo d b) ≡ countBody b
+countBody-is b d = length-flatBody undo b d
+
+pub count-is : (t : Tree) (d : Bool) → length (flat undo d t) ≡ count t
+count-is t d = length-flat undo t d
 
 -- Capped sums and products come to what capping the whole comes to.
 pub cap-times : (n c : ℕ) → cap (n * cap c) ≡ cap (n * c)
@@ -83,8 +104,4 @@ stored-unrolled n d l e = stored-is n d ∙ ap (λ (s : List Leaf). cap (length 
 
 -- so a node that stores 0 has no steps
 pub stored-none : (n : Node Leaf) (d : Bool) → stored n ≡ 0 → flatNode undo d n ≡ []
-stored-none n d e = go (flatNode undo d n) (sym (stored-is n d) ∙ e)
-  where
-    go : (l : List Leaf) → cap (length l) ≡ 0 → l ≡ []
-    go [] h = refl
-    go (x ∷ l) h = absurd (omega arith)
+stored-none n d e = none-counted undo n d (omega arith)

@@ -8,7 +8,7 @@ use mathlib.Core.Option.{Option, none, some}
 use lib.IntN.{ℤ, pos, negsuc, negℤ, natAbs, negℤ-negℤ}
 use Rattle.notation.specs.Basics.{pick}
 use Rattle.notation.specs.Refusals.{Outcome, refusal, result, _>>=_, NISS, OVERFLOW}
-use Rattle.notation.specs.Tree.{Leaf, Node, leaf, block, Body, group, binaryGroup, nil, cons, append, Tree}
+use Rattle.notation.specs.Tree.{Leaf, Node, leaf, block, Body, group, binaryGroup, NodeList, nil, cons, append, Tree}
 use Rattle.notation.specs.Invert.{undo, undone, overflows, thenLast, asLeaf, invNode, inv, deepGroup, deepBinary, invDeepNode, invDeepBody, invDeep}
 use Rattle.notation.specs.Unroll.{copies, turned, isNiss}
 use Rattle.notation.specs.Counts.{times}
@@ -47,12 +47,12 @@ inv-is (cons n l) =
     ∙ last-verdict (invRefusal l) (invRefusalNode n) (inverted l) (invertedNode n)
 
 -- Appended lists unroll one after the other.
-pub flat-append : (a b : Tree) (d : Bool) → flat undo d (append a b) ≡ inOrder d (flat undo d a) (flat undo d b)
+pub flat-append : {L : Type 0} (u : L → L) (a b : NodeList L) (d : Bool) → flat u d (append a b) ≡ inOrder d (flat u d a) (flat u d b)
 unfolding append flat
-flat-append nil b true = sym (append-nil (flat undo true b))
-flat-append nil b false = refl
-flat-append (cons n a) b true = rw (flat-append a b true, append-assoc)
-flat-append (cons n a) b false = rw (flat-append a b false, append-assoc)
+flat-append u nil b true = sym (append-nil (flat u true b))
+flat-append u nil b false = refl
+flat-append u (cons n a) b true = rw (flat-append u a b true, append-assoc)
+flat-append u (cons n a) b false = rw (flat-append u a b false, append-assoc)
 
 -- The inverse unrolls as the tree does in the other direction.
 pub flatNode-inverted : (n : Node Leaf) (d : Bool) → flatNode undo d (invertedNode n) ≡ flatNode undo (not d) n
@@ -80,7 +80,7 @@ pub flat-inverted : (t : Tree) (d : Bool) → flat undo d (inverted t) ≡ flat 
 unfolding inverted flat
 flat-inverted nil d = refl
 flat-inverted (cons n l) d =
-    flat-append (inverted l) (cons (invertedNode n) nil) d
+    flat-append undo (inverted l) (cons (invertedNode n) nil) d
     ∙ ap (inOrder d (flat undo d (inverted l))) (order-nil d (flatNode undo d (invertedNode n)) ∙ flatNode-inverted n d)
     ∙ ap (λ (s : List Leaf). inOrder d s (flatNode undo (not d) n)) (flat-inverted l d)
     ∙ order-not d (flatNode undo (not d) n) (flat undo (not d) l)
@@ -190,7 +190,7 @@ mutual
   pub flat-deeply : (t : Tree) (d : Bool) → flat undo d (deeply t) ≡ flat undo (not d) t
   flat-deeply nil d = refl
   flat-deeply (cons n l) d =
-      flat-append (deeply l) (cons (deeplyNode n) nil) d
+      flat-append undo (deeply l) (cons (deeplyNode n) nil) d
       ∙ ap (inOrder d (flat undo d (deeply l))) (order-nil d (flatNode undo d (deeplyNode n)) ∙ flatNode-deeply n d)
       ∙ ap (λ (s : List Leaf). inOrder d s (flatNode undo (not d) n)) (flat-deeply l d)
       ∙ order-not d (flatNode undo (not d) n) (flat undo (not d) l)

@@ -7,7 +7,11 @@ pub mod Unrolling
 pub mod Inverses
 pub mod Reached
 pub mod Refused
+pub mod Weights
+pub mod Folds
 pub mod Counting
+pub mod Opened
+pub mod Examples
 pub mod Seeking
 -- Packed trees and their inverses.
 pub mod Fits

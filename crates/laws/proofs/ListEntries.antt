@@ -1,10 +1,12 @@
--- Entries of lists: of two one behind the other, of a mapped one, of a reversed one. Assumes nothing.
+-- Entries of lists: of two one behind the other, of a mapped one, of a reversed one; a test of each. Assumes nothing.
 use Prim.Native.Nat.{ℕ, zero, suc, _-_, _≤_, _<_}
 use mathlib.Core.Path.{_≡_, refl, sym, ap, _∙_}
+use mathlib.Core.Bool.{Bool, _&&_, and-assoc}
 use mathlib.Core.List.{List, [], _∷_, _++_, map, reverse, reverse-cons}
 use mathlib.Core.Option.{none, some}
 use native.Mathlib.Omega.{arith}
 use lib.ListN.{length, getElem?, length-reverse}
+use Rattle.notation.specs.Basics.{every}
 use Rattle.laws.proofs.Bools.{no-some}
 
 module _ {A : Type 0} where
@@ -54,3 +56,8 @@ module _ {A B : Type 0} (g : A → B) where
   get-of-map [] k b h = no-some (sym h)
   get-of-map (y ∷ l) zero b h = (y, refl, cc)
   get-of-map (y ∷ l) (suc k) b h = get-of-map l k b h
+
+pub every-append : {A : Type 0} (p : A → Bool) (a b : List A) → every p (a ++ b) ≡ (every p a && every p b)
+unfolding every
+every-append p [] b = refl
+every-append p (x ∷ a) b = ap (λ (t : Bool). p x && t) (every-append p a b) ∙ sym (and-assoc (p x) (every p a) (every p b))

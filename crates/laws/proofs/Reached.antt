@@ -3,7 +3,7 @@
 use Prim.Native.Nat.{ℕ, zero, suc}
 use mathlib.Core.Path.{_≡_, refl, sym, ap, ap₂, _∙_, subst}
 use mathlib.Core.Bool.{Bool, true, false, not, _&&_}
-use mathlib.Core.List.{List, [], _∷_, _++_}
+use mathlib.Core.List.{List, _++_}
 use mathlib.Core.Option.{Option, none, some}
 use lib.IntN.{natAbs, negℤ}
 use Rattle.notation.specs.Basics.{pick, every}
@@ -16,6 +16,7 @@ use Rattle.notation.specs.declared.common.BinaryGroupKind.{BinaryGroupKind}
 use Rattle.notation.specs.declared.common.BinaryGroupKind.the-variants.{Commutator, Conjugate}
 use Rattle.numbers.proofs.TwosComplement.{natAbs-neg}
 use Rattle.laws.proofs.Bools.{and-left, and-right, and-both, not-true, no-some, no-refusal}
+use Rattle.laws.proofs.ListEntries.{every-append}
 use Rattle.laws.specs.Unrolled.{backwards, first, ifReached, firstInOrder, inOrder, flatBinary, refusalBinary, flatNode, flatBody, flat, refusalNode, refusalBody, firstRefusal}
 use Rattle.laws.proofs.Unrolling.{verdict, flatten-is, isNiss-map}
 use Rattle.laws.specs.Inverted.{inverted, invertedNode, invRefusal}
@@ -109,14 +110,10 @@ mutual
 
 -- A tree that unrolls in one direction, to steps that can all be undone, is clean.
 every-left : {A : Type 0} (p : A → Bool) (a b : List A) → every p (a ++ b) ≡ true → every p a ≡ true
-unfolding every
-every-left p [] b e = refl
-every-left p (x ∷ a) b e = and-both (p x) _ (and-left _ _ e) (every-left p a b (and-right (p x) _ e))
+every-left p a b e = and-left (every p a) (every p b) (sym (every-append p a b) ∙ e)
 
 every-right : {A : Type 0} (p : A → Bool) (a b : List A) → every p (a ++ b) ≡ true → every p b ≡ true
-unfolding every
-every-right p [] b e = e
-every-right p (x ∷ a) b e = every-right p a b (and-right (p x) _ e)
+every-right p a b e = and-right (every p a) (every p b) (sym (every-append p a b) ∙ e)
 
 order-every-left : (d : Bool) (a b : List Leaf) → every negatable (inOrder d a b) ≡ true → every negatable a ≡ true
 order-every-left true a b e = every-right negatable b a e
