@@ -1,0 +1,55 @@
+-- Everything that an accepted text's tree is, and that trees over such a text pass the check. Assumes nothing.
+use Prim.Native.Nat.{ℕ, _≤_}
+use mathlib.Core.Path.{_≡_}
+use mathlib.Core.Bool.{true}
+use mathlib.Core.List.{List}
+use native.Mathlib.Omega.{arith}
+use Rattle.notation.specs.Refusals.{result}
+use Rattle.notation.specs.Tree.{Tree}
+use Rattle.notation.specs.Packed.{pack, size}
+use Rattle.notation.specs.Meaning.{unspanned}
+use Rattle.notation.specs.WellFormed.{treeOk}
+use Rattle.notation.specs.Entries.{checked, MAX-TEXT}
+use Rattle.notation.specs.declared.features.Features.{Features}
+use Rattle.laws.specs.Packed.{FitsTree}
+use Rattle.laws.proofs.Fits.{treeFits}
+use Rattle.laws.proofs.Packing.{tree-fits, unpack-pack, packed-well-formed}
+use Rattle.laws.proofs.InRange.{inRange}
+use Rattle.laws.proofs.ReadingYields.{reading-in-range, reading-ok, reading-size, reading-fits}
+use Rattle.laws.proofs.Parens.{parens, parens-depth}
+use Rattle.laws.proofs.Nesting.{reading-parens}
+use Rattle.laws.proofs.Accepting.{Accepted, checks}
+
+pub record Tidy (f : Features) (text : List ℕ) (t : Tree) : Type 0 where
+  pub accepted : Accepted f text t
+  pub inBounds : treeOk text t ≡ true
+  pub fits : treeFits t ≡ true
+  pub small : size t ≤ MAX-TEXT
+  pub ranged : inRange f (unspanned text t) ≡ true
+  pub nested : parens t ≤ 64
+
+pub tidy : (f : Features) (text : List ℕ) (t : Tree) → Accepted f text t → Tidy f text t
+tidy f text t a =
+    let z = reading-size f text t (a .reads) in
+    let s = a .short in
+    record {
+      accepted = a;
+      inBounds = reading-ok f text t (a .reads);
+      fits = reading-fits f text t (a .reads);
+      small = omega arith;
+      ranged = reading-in-range f text t (a .reads);
+      nested = reading-parens f text t (a .reads) (a .nests)
+    }
+
+pub tidy-fits : {f : Features} {text : List ℕ} {t : Tree} → Tidy f text t → FitsTree t
+tidy-fits {text = text} {t = t} p = tree-fits text (p .accepted .short) t (p .inBounds) (p .fits) (p .small)
+
+-- The check passes any tree over an accepted text that is in bounds, fits its records and has at most 64 parentheses: the tree that was read,
+-- and its inverses.
+pub checks-over : {f : Features} {text : List ℕ} {t : Tree} → Accepted f text t → (i : Tree) → treeOk text i ≡ true → FitsTree i → parens i ≤ 64 →
+    checked text (pack i) ≡ result i
+checks-over {text = text} a i ok fits nested =
+    checks text (pack i) i (a .short) (a .isUtf8) (packed-well-formed text i fits ok (omega (arith, parens-depth i))) (unpack-pack i fits)
+
+pub tidy-checks : {f : Features} {text : List ℕ} {t : Tree} → Tidy f text t → checked text (pack t) ≡ result t
+tidy-checks {t = t} p = checks-over (p .accepted) t (p .inBounds) (tidy-fits p) (p .nested)
