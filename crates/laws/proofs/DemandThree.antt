@@ -4,7 +4,6 @@ use mathlib.Core.Path.{_≡_, sym, ap, _∙_, subst}
 use mathlib.Core.Bool.{true}
 use mathlib.Core.List.{List}
 use mathlib.Core.Option.{none}
-use native.Mathlib.Omega.{arith}
 use Rattle.notation.specs.Refusals.{result}
 use Rattle.notation.specs.Tree.{Leaf, Tree}
 use Rattle.notation.specs.Packed.{pack, unpack}
@@ -17,11 +16,11 @@ use Rattle.laws.specs.Inverted.{inverted, invRefusal}
 use Rattle.laws.proofs.Inverses.{inverse-unrolls}
 use Rattle.laws.proofs.Reached.{clean, clean-inverts, unrollable-clean, inverse-accepted}
 use Rattle.laws.proofs.WellFormedInverses.{inverted-ok, inverted-size}
-use Rattle.laws.proofs.Packing.{tree-fits, unpack-pack}
+use Rattle.laws.proofs.Packing.{unpack-pack}
 use Rattle.laws.proofs.Parens.{inverted-parens}
 use Rattle.laws.proofs.KeptByInverses.{inverted-fits, inverted-in-range, inverted-clean}
 use Rattle.laws.proofs.Accepting.{Accepted, accepts, accepted-tree, gives}
-use Rattle.laws.proofs.Tidy.{Tidy, tidy, tidy-fits, tidy-checks}
+use Rattle.laws.proofs.Tidy.{Tidy, tidy, fits-over, tidy-fits, tidy-checks}
 use Rattle.laws.proofs.InverseAgrees.{Undoes, inverse-prints, agrees}
 
 inverted-undoes : {f : Features} {text : List ℕ} {t : Tree} → Tidy f text t → clean t ≡ true → Undoes f text t (inverted t)
@@ -30,7 +29,7 @@ inverted-undoes {f} {text} {t} p c =
     let ok = inverted-ok text t (p .inBounds) in
     record {
       inBounds = ok;
-      fits = tree-fits text (p .accepted .short) (inverted t) ok (inverted-fits t r (p .fits)) (omega (arith, inverted-size t, p .small));
+      fits = fits-over p (inverted t) ok (inverted-fits t r (p .fits)) (inverted-size t);
       ranged = inverted-in-range f text t r (p .ranged);
       undoable = inverted-clean t c (p .fits);
       nested = inverted-parens t;

@@ -1,7 +1,7 @@
 -- From any inverse of an accepted tree to demand 3's agreement: it passes the check, is printed, and its text read back unrolls to the same
 -- steps, undone and in reverse. Assumes nothing.
 use Prim.Native.Nat.{ℕ, suc, _-_, _≤_}
-use mathlib.Core.Path.{_≡_, refl, sym, ap, _∙_}
+use mathlib.Core.Path.{_≡_, sym, ap, _∙_}
 use mathlib.Core.Bool.{true, false}
 use mathlib.Core.List.{List, map}
 use mathlib.Core.Option.{Option, some}

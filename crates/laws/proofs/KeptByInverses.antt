@@ -4,22 +4,20 @@ use Prim.Native.Nat.{ℕ, zero, suc, _<_}
 use mathlib.Core.Path.{_≡_, refl, sym, ap, _∙_}
 use mathlib.Core.Bool.{Bool, true, false, not, _&&_, _||_}
 use mathlib.Core.List.{List}
-use mathlib.Core.Option.{none, some}
+use mathlib.Core.Option.{none}
 use native.Mathlib.Omega.{arith}
 use borrow.Author.Tests.{ltb-true, lt-ltb, ne-eqb, eqb-false}
 use lib.Dec.{eqb}
 use lib.IntN.{ℤ, pos, negsuc, negℤ}
-use Rattle.notation.specs.Basics.{pick}
 use Rattle.notation.specs.Numbers.{fitsBits}
-use Rattle.notation.specs.Refusals.{OVERFLOW}
 use Rattle.notation.specs.Tree.{Leaf, Step, rotation, move, pause, pair, slash, megaminx, leaf, block, nil, cons, append, Tree, mapNode, mapNodes}
 use Rattle.notation.specs.Meaning.{stepOf, unspanned}
-use Rattle.notation.specs.Invert.{undo, isMin, overflows}
+use Rattle.notation.specs.Invert.{undo, isMin}
 use Rattle.notation.specs.declared.features.Features.{Features}
 use Rattle.numbers.proofs.TwosComplement.{natAbs-neg}
-use Rattle.laws.proofs.Bools.{and-left, and-right, and-both, not-true, false-true, no-some}
-use Rattle.laws.specs.Inverted.{inverted, leafRefusal, invRefusal}
-use Rattle.laws.proofs.Reached.{negatable, cleanNode, cleanNodes, clean, first-left, first-right}
+use Rattle.laws.proofs.Bools.{and-left, and-right, and-both, not-true, false-true}
+use Rattle.laws.specs.Inverted.{inverted, invRefusal}
+use Rattle.laws.proofs.Reached.{negatable, cleanNode, cleanNodes, clean, first-left, first-right, unrefused}
 use Rattle.laws.proofs.InRange.{stepInRange, nodeInRange, inRange}
 use Rattle.laws.proofs.WellFormedInverses.{multiplier-neg}
 use Rattle.laws.proofs.Fits.{leafFits, nodeFits, bodyFits, treeFits}
@@ -42,14 +40,6 @@ step-negatable text pause = refl
 step-negatable text (pair u d) = refl
 step-negatable text slash = refl
 step-negatable text (megaminx k) = refl
-
--- a leaf that no inverse refuses can be undone
-pub unrefused : (x : Leaf) → leafRefusal x ≡ none → negatable x ≡ true
-unrefused x r = go (overflows x) r
-  where
-    go : (b : Bool) → pick b (some OVERFLOW) none ≡ none → not b ≡ true
-    go true h = no-some h
-    go false h = refl
 
 -- Numbers of 32 bits negated: all but −2147483648 stay in 32 bits, and none becomes it.
 pub neg-fits : (u : ℤ) → isMin u ≡ false → fitsBits 32 u ≡ true → fitsBits 32 (negℤ u) ≡ true
@@ -75,7 +65,7 @@ or-false : (a b : Bool) → (a || b) ≡ false → (a ≡ false) × (b ≡ false
 or-false true b h = absurd (false-true (sym h))
 or-false false b h = (refl, h)
 
-pair-fits : (u d : ℤ) → negatable {F = Unit {0}} {C = Unit {0}} {S = Unit {0}} (pair u d) ≡ true → (fitsBits 32 u && fitsBits 32 d) ≡ true →
+pair-fits : (u d : ℤ) → not (isMin u || isMin d) ≡ true → (fitsBits 32 u && fitsBits 32 d) ≡ true →
     (fitsBits 32 (negℤ u) && fitsBits 32 (negℤ d)) ≡ true
 pair-fits u d n h =
     let e = or-false (isMin u) (isMin d) (not-true (isMin u || isMin d) n) in
