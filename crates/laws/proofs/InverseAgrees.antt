@@ -25,7 +25,7 @@ use Rattle.laws.proofs.Unrolling.{long-backwards, flat-map, verdict, fl
 use Rattle.laws.proofs.Reached.{negatable, clean, cleanNodes, clean-map, clean-walks, unrolled-list}
 use Rattle.laws.proofs.InRange.{inRange}
 use Rattle.laws.proofs.Packing.{unpack-pack}
-use Rattle.laws.proofs.Parens.{parens}
+use Rattle.laws.proofs.Parens.{parens, parens-depth}
 use Rattle.laws.proofs.KeptByInverses.{step-undo, step-negatable}
 use Rattle.laws.proofs.Accepting.{accepts, counts-as, gives}
 use Rattle.laws.proofs.Tidy.{Tidy, tidy, tidy-fits, checks-over, tidy-checks}
@@ -50,7 +50,7 @@ module _ {f : Features} {text : List ℕ} {t i : Tree} (p : Tidy f text t) (u : 
   few-parens = omega (arith, u .nested, p .nested)
 
   pub inverse-checks : checked text (pack i) ≡ result i
-  inverse-checks = checks-over (p .accepted) i (u .inBounds) (u .fits) few-parens
+  inverse-checks = checks-over (p .accepted) i (u .inBounds) (u .fits) (omega (arith, parens-depth i, few-parens))
 
   pub inverse-prints : display text (pack i) ≡ result (printed text i)
   inverse-prints = rw inverse-checks

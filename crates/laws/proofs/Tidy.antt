@@ -8,7 +8,7 @@ use Rattle.notation.specs.Refusals.{result}
 use Rattle.notation.specs.Tree.{Tree}
 use Rattle.notation.specs.Packed.{pack, size}
 use Rattle.notation.specs.Meaning.{unspanned}
-use Rattle.notation.specs.WellFormed.{treeOk}
+use Rattle.notation.specs.WellFormed.{treeOk, depth, MAX-NESTING}
 use Rattle.notation.specs.Entries.{checked, MAX-TEXT}
 use Rattle.notation.specs.declared.features.Features.{Features}
 use Rattle.laws.specs.Packed.{FitsTree}
@@ -46,14 +46,13 @@ pub fits-over : {f : Features} {text : List ℕ} {t : Tree} → Tidy f text t �
     FitsTree i
 fits-over {text = text} p i ok fits large = tree-fits text (p .accepted .short) i ok fits (omega (arith, p .small))
 
--- and one that fits its records and has at most 64 parentheses passes the check.
-pub checks-over : {f : Features} {text : List ℕ} {t : Tree} → Accepted f text t → (i : Tree) → treeOk text i ≡ true → FitsTree i → parens i ≤ 64 →
+-- and one that is in bounds, fits its records and is no deeper than 64 groups passes the check.
+pub checks-over : {f : Features} {text : List ℕ} {t : Tree} → Accepted f text t → (i : Tree) → treeOk text i ≡ true → FitsTree i → depth i ≤ MAX-NESTING →
     checked text (pack i) ≡ result i
-checks-over {text = text} a i ok fits nested =
-    checks text (pack i) i (a .short) (a .isUtf8) (packed-well-formed text i fits ok (omega (arith, parens-depth i))) (unpack-pack i fits)
+checks-over {text = text} a i ok fits deep = checks text (pack i) i (a .short) (a .isUtf8) (packed-well-formed text i fits ok deep) (unpack-pack i fits)
 
 pub tidy-fits : {f : Features} {text : List ℕ} {t : Tree} → Tidy f text t → FitsTree t
 tidy-fits {t = t} p = fits-over p t (p .inBounds) (p .fits) refl
 
 pub tidy-checks : {f : Features} {text : List ℕ} {t : Tree} → Tidy f text t → checked text (pack t) ≡ result t
-tidy-checks {t = t} p = checks-over (p .accepted) t (p .inBounds) (tidy-fits p) (p .nested)
+tidy-checks {t = t} p = checks-over (p .accepted) t (p .inBounds) (tidy-fits p) (omega (arith, parens-depth t, p .nested))

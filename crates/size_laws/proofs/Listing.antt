@@ -24,9 +24,9 @@ use Rattle.notation.specs.declared.features.Features.{Features}
 use Rattle.laws.proofs.Unrolling.{verdict}
 use Rattle.laws.specs.Inverted.{inverted, invRefusal}
 use Rattle.laws.proofs.Inverses.{inv-is}
-use Rattle.laws.proofs.WellFormedInverses.{inverted-ok, inverted-size}
+use Rattle.laws.proofs.WellFormedInverses.{inverted-ok, inverted-size, inverted-depth}
 use Rattle.laws.proofs.Reached.{unrolled-list}
-use Rattle.laws.proofs.Parens.{inverted-parens}
+use Rattle.laws.proofs.Parens.{parens-depth}
 use Rattle.laws.proofs.Accepting.{accepted-tree}
 use Rattle.laws.proofs.ReadingYields.{reading-size}
 use Rattle.laws.proofs.KeptByInverses.{inverted-fits}
@@ -70,7 +70,7 @@ module _ (f : Features) (text : List ℕ) (t : Tree) (short : length text ≤ MA
   inverse-checks r =
       let ok = inverted-ok text t (good .inBounds) in
       let fits = fits-over good (inverted t) ok (inverted-fits t r (good .fits)) (inverted-size t) in
-      checks-over (good .accepted) (inverted t) ok fits (omega (arith, inverted-parens t, good .nested))
+      checks-over (good .accepted) (inverted t) ok fits (omega (arith, inverted-depth t, parens-depth t, good .nested))
 
   tree-long : (t′ : Tree) → bytes t′ ≡ bytes t → size t′ ≡ size t → length (printed text t′) ≤ 22272
   tree-long t′ b z =
