@@ -31,8 +31,8 @@ use Rattle.laws.proofs.Accepting.{accepts, counts-as, gives}
 use Rattle.laws.proofs.Tidy.{Tidy, tidy, tidy-fits, checks-over, tidy-checks}
 use Rattle.laws.proofs.PrintedBack.{PrintedBack, printed-back-over}
 
--- i is an inverse of t over the same text: it is in bounds, fits its records, is in the setting's range, reaches nothing that cannot be undone,
--- has as many parentheses, and unrolls to the steps of t undone and in reverse.
+-- i is an inverse of t over the same text: it is in bounds, fits its records, is in the setting's range, reaches nothing that cannot be
+-- undone, has as many parentheses, and unrolls to the steps of t undone and in reverse.
 pub record Undoes (f : Features) (text : List ℕ) (t i : Tree) : Type 0 where
   pub inBounds : treeOk text i ≡ true
   pub fits : FitsTree i
@@ -55,7 +55,8 @@ module _ {f : Features} {text : List ℕ} {t i : Tree} (p : Tidy f text t) (u : 
   pub inverse-prints : display text (pack i) ≡ result (printed text i)
   inverse-prints = rw inverse-checks
 
-  module _ (list : List Leaf) (unrolls : flatten t ≡ result list) (few : length list ≤ MAX-STEPS) (short : length (printed text i) ≤ MAX-TEXT) where
+  module _ (list : List Leaf) (unrolls : flatten t ≡ result list) (few : length list ≤ MAX-STEPS)
+    (short : length (printed text i) ≤ MAX-TEXT) where
     -- the printed inverse, and the tree that it is read back to
     text′ : List ℕ
     text′ = printed text i
@@ -102,7 +103,8 @@ module _ {f : Features} {text : List ℕ} {t i : Tree} (p : Tidy f text t) (u : 
         sym (length-map list′ (stepOf text′)) ∙ ap length same-steps ∙ length-map (backwards list) (stepOf text)
         ∙ long-backwards list
 
-    found : (k : ℕ) (x : Leaf) → getElem? list k ≡ some x → getElem? (map (stepOf text′) list′) (length list - suc k) ≡ some (stepOf text (undo x))
+    found : (k : ℕ) (x : Leaf) → getElem? list k ≡ some x →
+        getElem? (map (stepOf text′) list′) (length list - suc k) ≡ some (stepOf text (undo x))
     found k x h =
         ap (λ l. getElem? l (length list - suc k)) same-steps
         ∙ get-map (stepOf text) (backwards list) (length list - suc k) (undo x)
@@ -127,6 +129,7 @@ module _ {f : Features} {text : List ℕ} {t i : Tree} (p : Tidy f text t) (u : 
           countBack = ap (λ s. _>>=_ s (λ l. result (length l))) steps-back ∙ ap result same-length;
           seek = λ k x h. gives (stepAt text (pack t) k) (leafRecord x) (step-at text (pack t) list k x steps-here h);
           seekBack = λ k x h.
-            let y = get-of-map (stepOf text′) list′ (length list - suc k) (stepOf text (undo x)) (found k x h) in
-            (y .0, y .1, gives (stepAt text′ (pack t′) (length list - suc k)) (leafRecord (y .0)) (step-at text′ (pack t′) list′ (length list - suc k) (y .0) steps-back (y .1)), y .2)
+            let n = length list - suc k in
+            let y = get-of-map (stepOf text′) list′ n (stepOf text (undo x)) (found k x h) in
+            (y .0, y .1, gives (stepAt text′ (pack t′) n) (leafRecord (y .0)) (step-at text′ (pack t′) list′ n (y .0) steps-back (y .1)), y .2)
         }

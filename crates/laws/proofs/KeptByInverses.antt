@@ -10,7 +10,9 @@ use borrow.Author.Tests.{ltb-true, lt-ltb, ne-eqb, eqb-false}
 use lib.Dec.{eqb}
 use lib.IntN.{ℤ, pos, negsuc, negℤ}
 use Rattle.notation.specs.Numbers.{fitsBits}
-use Rattle.notation.specs.Tree.{Leaf, Step, rotation, move, pause, pair, slash, megaminx, leaf, block, nil, cons, append, Tree, mapNode, mapNodes}
+use Rattle.notation.specs.Tree.{
+  Leaf, Step, rotation, move, pause, pair, slash, megaminx, leaf, block, nil, cons, append, Tree, mapNode, mapNodes
+}
 use Rattle.notation.specs.Meaning.{stepOf, unspanned}
 use Rattle.notation.specs.Invert.{undo, isMin}
 use Rattle.notation.specs.declared.features.Features.{Features}
@@ -146,7 +148,8 @@ undo-negatable (megaminx k) h = refl
 pub clean-append : (a b : Tree) → clean a ≡ true → clean b ≡ true → clean (append a b) ≡ true
 unfolding append cleanNodes
 clean-append nil b p q = q
-clean-append (cons n a) b p q = and-both (cleanNode negatable n) _ (and-left _ _ p) (clean-append a b (and-right (cleanNode negatable n) _ p) q)
+clean-append (cons n a) b p q =
+    and-both (cleanNode negatable n) _ (and-left _ _ p) (clean-append a b (and-right (cleanNode negatable n) _ p) q)
 
 pub inverted-clean : (t : Tree) → clean t ≡ true → treeFits t ≡ true → clean (inverted t) ≡ true
 unfolding inverted cleanNodes cleanNode treeFits nodeFits
@@ -155,5 +158,6 @@ inverted-clean (cons (leaf x) l) c h =
     clean-append (inverted l) (cons (leaf (undo x)) nil) (inverted-clean l (and-right (negatable x) _ c) (and-right (leafFits x) _ h))
     (and-both (negatable (undo x)) true (undo-negatable x (and-left _ _ h)) refl)
 inverted-clean (cons (block b m) l) c h =
-    clean-append (inverted l) (cons (block b (negℤ m)) nil) (inverted-clean l (and-right (cleanNode negatable (block b m)) _ c) (and-right (bodyFits b) _ h))
+    clean-append (inverted l) (cons (block b (negℤ m)) nil)
+    (inverted-clean l (and-right (cleanNode negatable (block b m)) _ c) (and-right (bodyFits b) _ h))
     (and-both (cleanNode negatable (block b (negℤ m))) true (rw (natAbs-neg m) (and-left _ _ c)) refl)

@@ -23,7 +23,8 @@ pub record PrintedBack (f : Features) (u : NodeList Step) : Type 0 where
   pub accepted : Accepted f (putNodes u []) tree
   pub means : unspanned (putNodes u []) tree ≡ u
 
-pub printed-back : (f : Features) (u : NodeList Step) → inRange f u ≡ true → parens u ≤ 64 → length (putNodes u []) ≤ MAX-TEXT → PrintedBack f u
+pub printed-back : (f : Features) (u : NodeList Step) → inRange f u ≡ true → parens u ≤ 64 → length (putNodes u []) ≤ MAX-TEXT →
+    PrintedBack f u
 printed-back f u h nested short =
     let b = reads-back f u h in
     record {

@@ -42,14 +42,15 @@ tidy f text t a =
     }
 
 -- Trees over an accepted text, such as the tree that was read and its inverses: one that is in bounds and as large fits its records,
-pub fits-over : {f : Features} {text : List ℕ} {t : Tree} → Tidy f text t → (i : Tree) → treeOk text i ≡ true → treeFits i ≡ true → size i ≡ size t →
-    FitsTree i
+pub fits-over : {f : Features} {text : List ℕ} {t : Tree} → Tidy f text t → (i : Tree) → treeOk text i ≡ true → treeFits i ≡ true →
+    size i ≡ size t → FitsTree i
 fits-over {text = text} p i ok fits large = tree-fits text (p .accepted .short) i ok fits (omega (arith, p .small))
 
 -- and one that is in bounds, fits its records and is no deeper than 64 groups passes the check.
-pub checks-over : {f : Features} {text : List ℕ} {t : Tree} → Accepted f text t → (i : Tree) → treeOk text i ≡ true → FitsTree i → depth i ≤ MAX-NESTING →
-    checked text (pack i) ≡ result i
-checks-over {text = text} a i ok fits deep = checks text (pack i) i (a .short) (a .isUtf8) (packed-well-formed text i fits ok deep) (unpack-pack i fits)
+pub checks-over : {f : Features} {text : List ℕ} {t : Tree} → Accepted f text t → (i : Tree) → treeOk text i ≡ true → FitsTree i →
+    depth i ≤ MAX-NESTING → checked text (pack i) ≡ result i
+checks-over {text = text} a i ok fits deep =
+    checks text (pack i) i (a .short) (a .isUtf8) (packed-well-formed text i fits ok deep) (unpack-pack i fits)
 
 pub tidy-fits : {f : Features} {text : List ℕ} {t : Tree} → Tidy f text t → FitsTree t
 tidy-fits {t = t} p = fits-over p t (p .inBounds) (p .fits) refl
