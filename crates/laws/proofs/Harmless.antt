@@ -28,7 +28,9 @@ use Rattle.laws.proofs.Refused.{nonzero}
 use Rattle.laws.proofs.Fits.{leafFits, nodeFits, bodyFits, treeFits}
 use Rattle.laws.proofs.Packing.{unpack-pack}
 use Rattle.laws.proofs.Accepting.{Accepted, accepts}
-use Rattle.laws.proofs.DemandThree.{undo-negatable, tidy, tidy-fits, theorem}
+use Rattle.laws.proofs.Tidy.{tidy, tidy-fits}
+use Rattle.laws.proofs.KeptByInverses.{undo-negatable}
+use Rattle.laws.proofs.DemandThree.{theorem}
 
 -- Where nothing that harms is reached, the tree is clean.
 not-niss : (g : Body Leaf) {m : ℤ} {d : Bool} {l : Tree} → Harmless d (cons (block g m) l) → not (isNiss g) ≡ true

@@ -34,7 +34,12 @@ pub mod Nesting
 pub mod PrintedNesting
 -- Printing and reading back.
 pub mod ReadBack
--- Demand 3.
+-- Accepted texts, and printed trees that are accepted.
 pub mod Accepting
+pub mod Tidy
+pub mod PrintedBack
+-- Inverses of accepted trees, and demand 3.
+pub mod KeptByInverses
+pub mod InverseAgrees
 pub mod DemandThree
 pub mod Harmless

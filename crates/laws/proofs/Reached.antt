@@ -19,7 +19,7 @@ use Rattle.laws.proofs.Bools.{and-left, and-right, and-both, not-true, 
 use Rattle.laws.proofs.ListEntries.{every-append}
 use Rattle.laws.specs.Unrolled.{backwards, first, ifReached, firstInOrder, inOrder, flatBinary, refusalBinary, flatNode, flatBody, flat, refusalNode, refusalBody, firstRefusal}
 use Rattle.laws.proofs.Unrolling.{verdict, flatten-is, isNiss-map}
-use Rattle.laws.specs.Inverted.{inverted, invertedNode, invRefusal}
+use Rattle.laws.specs.Inverted.{inverted, invertedNode, leafRefusal, invRefusal}
 use Rattle.laws.proofs.Inverses.{inv-is, inverse-unrolls}
 
 -- a step that can be undone
@@ -123,13 +123,17 @@ order-every-right : (d : Bool) (a b : List Leaf) → every negatable (inOrder d 
 order-every-right true a b e = every-left negatable b a e
 order-every-right false a b e = every-right negatable a b e
 
-leaf-clean : (x : Leaf) (d : Bool) → refusalNode d (leaf x) ≡ none → every negatable (flatNode undo d (leaf x)) ≡ true → negatable x ≡ true
-unfolding refusalNode flatNode every
-leaf-clean x true r e = go (overflows x) r
+-- a leaf that no inverse refuses can be undone
+pub unrefused : (x : Leaf) → leafRefusal x ≡ none → negatable x ≡ true
+unrefused x r = go (overflows x) r
   where
     go : (t : Bool) → pick t (some OVERFLOW) none ≡ none → not t ≡ true
     go true h = no-some h
     go false h = refl
+
+leaf-clean : (x : Leaf) (d : Bool) → refusalNode d (leaf x) ≡ none → every negatable (flatNode undo d (leaf x)) ≡ true → negatable x ≡ true
+unfolding refusalNode flatNode every
+leaf-clean x true r e = unrefused x r
 leaf-clean x false r e = and-left _ _ e
 
 pub niss-clean : (t : Bool) (q : Option ℕ) → pick t (some NISS) q ≡ none → (not t ≡ true) × (q ≡ none)

@@ -1,7 +1,7 @@
 -- Every step that an accepted tree unrolls to is a well-formed record by itself, and prints as its step. Assumes nothing.
 use Prim.Native.Nat.{ℕ, zero, suc, _≤_, _<_}
 use mathlib.Core.Path.{_≡_, refl, sym, ap, _∙_, subst}
-use mathlib.Core.Bool.{Bool, true, false, not}
+use mathlib.Core.Bool.{Bool, true, false}
 use mathlib.Core.List.{List, [], _∷_, _++_, append-nil}
 use mathlib.Core.Option.{Option, none, some}
 use native.Mathlib.Omega.{arith}
@@ -10,14 +10,14 @@ use lib.Dec.{eqb}
 use lib.IntN.{natAbs}
 use lib.ListN.{length, drop, getElem?, drop-of-length-le}
 use Rattle.notation.specs.Basics.{pick}
-use Rattle.notation.specs.Refusals.{NISS, OVERFLOW}
+use Rattle.notation.specs.Refusals.{NISS}
 use Rattle.notation.specs.Numbers.{fitsBits}
 use Rattle.notation.specs.Tree.{Span, Leaf, rotation, move, pause, pair, slash, megaminx, Node, leaf, block, Body, group, binaryGroup, nil, cons, append, Tree, mapNode, mapNodes}
 use Rattle.notation.specs.Packed.{RECORD, leafRecord, nodeSize, size, packNode, pack, unpack}
 use Rattle.notation.specs.Meaning.{stepOf, unspanned}
 use Rattle.notation.specs.WellFormed.{multiplierOk, leafOk, nodeOk, bodyOk, treeOk}
 use Rattle.notation.specs.Entries.{MAX-TEXT}
-use Rattle.notation.specs.Invert.{undo, overflows}
+use Rattle.notation.specs.Invert.{undo}
 use Rattle.notation.specs.Unroll.{copies, turned, isNiss}
 use Rattle.notation.specs.Print.{putStep, putNode, putNodes, putOthers}
 use Rattle.notation.specs.declared.common.BinaryGroupKind.{BinaryGroupKind}
@@ -33,8 +33,8 @@ use Rattle.laws.specs.Inverted.{inverted}
 use Rattle.laws.proofs.WellFormedInverses.{inverted-ok}
 use Rattle.laws.specs.Unrolled.{ifReached, firstInOrder, inOrder, flatBinary, refusalBinary, flatNode, flatBody, flat, refusalNode, refusalBody, firstRefusal}
 use Rattle.laws.proofs.Counting.{count-is}
-use Rattle.laws.proofs.Reached.{negatable, cleanNode, cleanNodes, first-left, first-right}
-use Rattle.laws.proofs.DemandThree.{inverted-fits}
+use Rattle.laws.proofs.Reached.{negatable, first-left, first-right, unrefused}
+use Rattle.laws.proofs.KeptByInverses.{undo-fits}
 use Rattle.expand.specs.Places.{stepIn, found}
 use Rattle.checked.specs.Checked.{Counted}
 
@@ -64,22 +64,17 @@ leaf-fits slash h = refl
 leaf-fits (megaminx k) h = refl
 
 module _ (text : List ℕ) (short : length text ≤ MAX-TEXT) where
-  undone-good : (x : Leaf) → overflows x ≡ false → Good text x → Good text (undo x)
-  unfolding inverted append treeOk nodeOk treeFits nodeFits cleanNodes cleanNode FitsTree FitsNode nodeSize size
-  undone-good x o g =
+  undone-good : (x : Leaf) → negatable x ≡ true → Good text x → Good text (undo x)
+  unfolding inverted append treeOk nodeOk treeFits nodeFits FitsTree FitsNode nodeSize size
+  undone-good x n g =
       let ok : treeOk text (cons (leaf (undo x)) nil) ≡ true = inverted-ok text (cons (leaf x) nil) (and-both (leafOk text x) true (g .ok) refl) in
-      let clean : cleanNodes negatable (cons (leaf x) nil) ≡ true = and-both (negatable x) true (ap not o) refl in
-      let fits : treeFits (cons (leaf (undo x)) nil) ≡ true = inverted-fits (cons (leaf x) nil) clean (and-both (leafFits x) true (leaf-fits x (g .fits)) refl) in
+      let fits : treeFits (cons (leaf (undo x)) nil) ≡ true = and-both (leafFits (undo x)) true (undo-fits x n (leaf-fits x (g .fits))) refl in
       record { ok = and-left (leafOk text (undo x)) true ok; fits = tree-fits text short (cons (leaf (undo x)) nil) ok fits (omega arith) .0 }
 
   leaf-good : (x : Leaf) (d : Bool) → Good text x → refusalNode d (leaf x) ≡ none → Good text (pick d (undo x) x)
   unfolding refusalNode
   leaf-good x false g r = g
-  leaf-good x true g r = undone-good x (go (overflows x) r) g
-    where
-      go : (b : Bool) → pick b (some OVERFLOW) none ≡ none → b ≡ false
-      go true h = no-some h
-      go false h = refl
+  leaf-good x true g r = undone-good x (unrefused x r) g
 
   -- Lists put together.
   all-append : {a b : List Leaf} → All text a → All text b → All text (a ++ b)

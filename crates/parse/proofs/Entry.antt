@@ -11,7 +11,7 @@ use lib.ListN.{length, drop, length-take, drop-of-length-le}
 use lib.Seq.{drop-cons, take-all, take-at, drop-at}
 use Rattle.laws.proofs.Packing.{length-pack}
 use Rattle.laws.proofs.Parens.{parens-depth}
-use Rattle.laws.proofs.DemandThree.{tidy, tidy-fits}
+use Rattle.laws.proofs.Tidy.{tidy, tidy-fits}
 use Rattle.notation.specs.Utf8.{utf8}
 use Rattle.notation.specs.Tree.{Tree}
 use Rattle.notation.specs.Packed.{RECORD, pack}

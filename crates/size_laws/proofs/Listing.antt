@@ -2,7 +2,7 @@
 -- have at most 22,272 bytes each. Assumes nothing.
 use Prim.Native.Nat.{ℕ, zero, suc, _+_, _*_, _≤_}
 use mathlib.Core.Path.{_≡_, refl, _∙_, subst}
-use mathlib.Core.Bool.{Bool, true, false, not}
+use mathlib.Core.Bool.{Bool, true, false}
 use mathlib.Core.List.{List, [], _∷_, _++_}
 use mathlib.Core.Option.{Option, none, some}
 use native.Mathlib.Omega.{arith}
@@ -12,29 +12,25 @@ use lib.ListN.{length, take, drop, length-append}
 use Rattle.notation.specs.Basics.{pick, choose, sameList}
 use Rattle.notation.specs.Features.{WCA, MAXIMAL}
 use Rattle.notation.specs.Numbers.{show}
-use Rattle.notation.specs.Refusals.{Outcome, refusal, result, _>>=_, _>>_, unless, TOO-MANY-STEPS, OVERFLOW}
-use Rattle.notation.specs.Tree.{Leaf, leaf, block, nil, cons, append, Tree}
+use Rattle.notation.specs.Refusals.{Outcome, refusal, result, _>>=_, _>>_, unless, TOO-MANY-STEPS}
+use Rattle.notation.specs.Tree.{Leaf, Tree}
 use Rattle.notation.specs.Packed.{size, pack}
 use Rattle.notation.specs.Meaning.{stepOf}
-use Rattle.notation.specs.WellFormed.{treeOk, depth}
-use Rattle.notation.specs.Invert.{undo, overflows}
 use Rattle.notation.specs.Unroll.{flatten}
 use Rattle.notation.specs.Print.{put, putStep, printed}
 use Rattle.notation.specs.Entries.{MAX-STEPS, reading, checked, inverse, display, steps}
 use Rattle.notation.specs.Lister.{MAX-INPUT, line, field, stepLines, stepsPart, treePart, listing, lister}
 use Rattle.notation.specs.declared.features.Features.{Features}
-use Rattle.laws.proofs.Bools.{and-left, and-right, and-both, no-some}
 use Rattle.laws.proofs.Unrolling.{verdict}
-use Rattle.laws.proofs.Fits.{leafFits, nodeFits, bodyFits, treeFits}
-use Rattle.laws.proofs.Packing.{tree-fits, unpack-pack, packed-well-formed}
-use Rattle.laws.specs.Inverted.{inverted, invertedNode, leafRefusal, invRefusal}
+use Rattle.laws.specs.Inverted.{inverted, invRefusal}
 use Rattle.laws.proofs.Inverses.{inv-is}
 use Rattle.laws.proofs.WellFormedInverses.{inverted-ok, inverted-size, inverted-depth}
-use Rattle.laws.proofs.Reached.{negatable, cleanNode, cleanNodes, first-left, first-right, unrolled-list}
+use Rattle.laws.proofs.Reached.{unrolled-list}
 use Rattle.laws.proofs.Parens.{parens-depth}
-use Rattle.laws.proofs.Accepting.{accepted-tree, checks}
+use Rattle.laws.proofs.Accepting.{accepted-tree}
 use Rattle.laws.proofs.ReadingYields.{reading-size}
-use Rattle.laws.proofs.DemandThree.{Tidy, tidy, inverted-fits}
+use Rattle.laws.proofs.KeptByInverses.{inverted-fits}
+use Rattle.laws.proofs.Tidy.{Tidy, tidy, fits-over, checks-over, tidy-checks}
 use Rattle.size_laws.proofs.Digits.{ten-digits}
 use Rattle.size_laws.proofs.Bytes.{bytes, leafBytes, inverted-bytes, reading-bytes}
 use Rattle.size_laws.proofs.Printed.{printed-step, printed-tree}
@@ -68,63 +64,32 @@ steps-long text (refusal r) h = omega (arith, line-long (put "steps" []) (field 
 steps-long text (result l) h =
     omega (arith, line-long (put "steps" []) (show (length l) []) (stepLines text 1000 0 l), ten-digits (length l), step-lines-long text 1000 0 (h l refl))
 
--- The shallow inverse of a tree that fits its records, where it is not refused, fits them too.
-undo-fits : (x : Leaf) → leafRefusal x ≡ none → leafFits x ≡ true → leafFits (undo x) ≡ true
-unfolding inverted append treeFits nodeFits cleanNodes cleanNode
-undo-fits x r h =
-    and-left (leafFits (undo x)) true
-    (inverted-fits (cons (leaf x) nil) (and-both (negatable x) true (go (overflows x) r) refl) (and-both (leafFits x) true h refl))
-  where
-    go : (b : Bool) → pick b (some OVERFLOW) none ≡ none → not b ≡ true
-    go true h = no-some h
-    go false h = refl
-
-fits-append : (a b : Tree) → treeFits a ≡ true → treeFits b ≡ true → treeFits (append a b) ≡ true
-unfolding append treeFits
-fits-append nil b p q = q
-fits-append (cons n a) b p q = and-both (nodeFits n) _ (and-left _ _ p) (fits-append a b (and-right (nodeFits n) _ p) q)
-
-inverse-fits : (t : Tree) → invRefusal t ≡ none → treeFits t ≡ true → treeFits (inverted t) ≡ true
-unfolding inverted invRefusal treeFits nodeFits
-inverse-fits nil r h = refl
-inverse-fits (cons (leaf x) l) r h =
-    fits-append (inverted l) (cons (leaf (undo x)) nil) (inverse-fits l (first-left _ _ r) (and-right (leafFits x) _ h))
-    (and-both (leafFits (undo x)) true (undo-fits x (first-right (invRefusal l) _ r) (and-left _ _ h)) refl)
-inverse-fits (cons (block b m) l) r h =
-    fits-append (inverted l) (cons (invertedNode (block b m)) nil) (inverse-fits l (first-left _ _ r) (and-right (bodyFits b) _ h))
-    (and-both (bodyFits b) true (and-left _ _ h) refl)
-
 -- What an accepted text's tree and its inverse print.
 module _ (f : Features) (text : List ℕ) (t : Tree) (short : length text ≤ MAX-INPUT) (good : Tidy f text t) where
-  checks-as : (t′ : Tree) → treeOk text t′ ≡ true → treeFits t′ ≡ true → size t′ ≡ size t → depth t′ ≡ depth t → checked text (pack t′) ≡ result t′
-  checks-as t′ o h z d =
-      let fits = tree-fits text (good .accepted .short) t′ o h (omega (arith, good .small)) in
-      checks text (pack t′) t′ (good .accepted .short) (good .accepted .isUtf8)
-      (packed-well-formed text t′ fits o (omega (arith, parens-depth t, good .nested))) (unpack-pack t′ fits)
-
-  tree-checks : checked text (pack t) ≡ result t
-  tree-checks = checks-as t (good .inBounds) (good .fits) refl refl
+  inverse-checks : invRefusal t ≡ none → checked text (pack (inverted t)) ≡ result (inverted t)
+  inverse-checks r =
+      let ok = inverted-ok text t (good .inBounds) in
+      let fits = fits-over good (inverted t) ok (inverted-fits t r (good .fits)) (inverted-size t) in
+      checks-over (good .accepted) (inverted t) ok fits (omega (arith, inverted-depth t, parens-depth t, good .nested))
 
   tree-long : (t′ : Tree) → bytes t′ ≡ bytes t → size t′ ≡ size t → length (printed text t′) ≤ 22272
   tree-long t′ b z =
       omega (arith, printed-tree text t′, reading-bytes f text t (good .accepted .reads), reading-size f text t (good .accepted .reads))
 
   text-long : length (field (display text (pack t))) ≤ 22272
-  text-long = rw tree-checks (tree-long t refl refl)
+  text-long = rw (tidy-checks good) (tree-long t refl refl)
 
   inverse-long : length (field (do t′ ← inverse text (pack t); display text t′)) ≤ 22272
-  inverse-long = rw (tree-checks, inv-is t) (go (invRefusal t) refl)
+  inverse-long = rw (tidy-checks good, inv-is t) (go (invRefusal t) refl)
     where
       go : (r : Option ℕ) → invRefusal t ≡ r →
           length (field (_>>=_ (_>>=_ (verdict r (inverted t)) (λ t′. result (pack t′))) (λ l. display text l))) ≤ 22272
       go (some r) i = omega (arith, refused-long r)
-      go none i =
-          let c = checks-as (inverted t) (inverted-ok text t (good .inBounds)) (inverse-fits t i (good .fits)) (inverted-size t) (inverted-depth t) in
-          rw c (tree-long (inverted t) (inverted-bytes t) (inverted-size t))
+      go none i = rw (inverse-checks i) (tree-long (inverted t) (inverted-bytes t) (inverted-size t))
 
   steps-within : (l : List Leaf) → steps text (pack t) ≡ result l → Within MAX-INPUT l
   unfolding steps
-  steps-within l i = go (flatten t) refl (rw tree-checks at i)
+  steps-within l i = go (flatten t) refl (rw (tidy-checks good) at i)
     where
       after : Bool → List Leaf → Outcome (List Leaf)
       after b l′ = do unless TOO-MANY-STEPS b; result l′
