@@ -10,21 +10,17 @@ use lib.Dec.{ltb}
 use lib.ListN.{length, take, drop, length-append, length-drop}
 use lib.Seq.{take-at, drop-length, drop-at, drop-drop, length-take-le}
 use Rattle.notation.specs.Tree.{Leaf, Node, leaf, block, group, binaryGroup, nil, cons, append, Tree}
-use Rattle.notation.specs.Packed.{RECORD, packNode, pack, unpack, headAt, nodeHead}
+use Rattle.notation.specs.Packed.{RECORD, pack, unpack, headAt, nodeHead}
 use Rattle.record.specs.Meaning.{field, kindAt}
 use Rattle.record.proofs.KindTests.{no-leaf-low}
 use Rattle.laws.specs.Unrolled.{first}
 use Rattle.laws.specs.Inverted.{inverted, invRefusal, deeply, deeplyNode, deepRefusal}
 use Rattle.laws.specs.Packed.{Packed}
+use Rattle.laws.proofs.Packing.{pack-append}
 use Rattle.laws.proofs.Walking.{no-node}
 use Rattle.nodes.specs.Nodes.{IsNode, part, FirstNode}
 use Rattle.nodes.proofs.Nodes.{part-length, length-part, part-front, alone, first-low, first-head, FirstLeaf, leaf-node}
 use Rattle.invert.specs.Nodes.{inverse, over, headRefusal}
-
-pack-append : (a b : Tree) → pack (append a b) ≡ pack a ++ pack b
-unfolding pack append
-pack-append nil b = refl
-pack-append (cons n a) b = ap (λ (s : List ℕ). packNode n ++ s) (pack-append a b) ∙ sym (append-assoc (packNode n) (pack a) (pack b))
 
 -- An inverse: the last node's comes first, and a leaf is inverted alike by both.
 pub record Reverses (f : Tree → Tree) : Type 0 where

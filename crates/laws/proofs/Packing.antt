@@ -13,7 +13,7 @@ use lib.Seq.{take-at, drop-at, drop-drop}
 use Rattle.notation.specs.Basics.{sameList}
 use Rattle.notation.specs.Numbers.{fitsBits}
 use Rattle.notation.specs.Tree.{
-  Span, Layers, noLayers, singleLayer, layerRange, layerSet, Leaf, rotation, move, pause, pair, slash, megaminx, Node, leaf, block, Body, group, binaryGroup, nil, cons, Tree
+  Span, Layers, noLayers, singleLayer, layerRange, layerSet, Leaf, rotation, move, pause, pair, slash, megaminx, Node, leaf, block, Body, group, binaryGroup, nil, cons, append, Tree
 }
 use Rattle.notation.specs.WellFormed.{
   inside, familyOk, constraintsOk, layersOk, multiplierOk, leafOk, nodeOk, bodyOk, treeOk, depth, wellFormed, MAX-NESTING
@@ -47,6 +47,11 @@ mutual
   pub length-pack : (t : Tree) → length (pack t) ≡ RECORD * size t
   length-pack nil = refl
   length-pack (cons n l) = length-append (packNode n) (pack l) ∙ omega (arith, length-packNode n, length-pack l)
+
+pub pack-append : (a b : Tree) → pack (append a b) ≡ pack a ++ pack b
+unfolding pack append
+pack-append nil b = refl
+pack-append (cons n a) b = ap (λ (s : List ℕ). packNode n ++ s) (pack-append a b) ∙ sym (append-assoc (packNode n) (pack a) (pack b))
 
 -- One step of unpacking.
 abbrev pub opened : ℕ → List ℕ → Head → Tree

@@ -1,2 +1,3 @@
 -- What the proofs of the walkers use.
 pub mod Nodes
+pub mod Parting
