@@ -1,20 +1,15 @@
 -- A group's contents made whole: the lists of a commutator or a conjugate followed by their inverses, and turned round where they are inverted. Assumes nothing.
-use Prim.Native.Nat.{ℕ, zero, suc, _+_, _-_, _*_, _≤_}
+use Prim.Native.Nat.{ℕ, _+_, _-_, _*_, _≤_}
 use mathlib.Core.Path.{_≡_, refl, sym, ap, ap₂, _∙_, subst}
 use mathlib.Core.Bool.{Bool, true, false}
 use mathlib.Core.List.{List, [], _++_, append-assoc, append-nil}
-use native.Mathlib.Nat.{mul-assoc, mul-comm}
 use native.Mathlib.Omega.{arith}
 use borrow.Rule.Slice.PartMut.{putMid}
-use lib.IntN.{ℤ, pos, negsuc, natAbs}
 use lib.ListN.{length, take, drop, length-append, length-drop, take-append-drop}
-use lib.Seq.{take-at, drop-at, take-all, take-add, take-append-add, drop-drop, length-take-le}
-use Rattle.notation.specs.Tree.{Leaf}
+use lib.Seq.{take-at, take-all, take-add, take-append-add, length-take-le}
 use Rattle.notation.specs.Packed.{RECORD}
 use Rattle.notation.specs.Entries.{records}
-use Rattle.notation.specs.Unroll.{copies, turned}
-use Rattle.notation.proofs.Marked.{length-copies}
-use Rattle.numbers.specs.Sign.{isNegative}
+use Rattle.notation.specs.Unroll.{copies}
 use Rattle.laws.specs.Unrolled.{backwards}
 use Rattle.laws.proofs.Unrolling.{long-backwards}
 use Rattle.notation.specs.Counts.{countBinary}
@@ -23,7 +18,7 @@ use Rattle.expand.specs.Meaning.{binaryKind}
 use Rattle.nodes.specs.Nodes.{part}
 use Rattle.expand.specs.Steps.{asSteps, AreSteps, WroteSteps, either, completed, BothLists, Front}
 use Rattle.expand.proofs.Parts.{Three, the-part, put-part}
-use Rattle.expand.proofs.Steps.{length-records, records-append, records-copies}
+use Rattle.expand.proofs.Steps.{length-records, records-append}
 
 -- what `repeat` leaves of s
 abbrev pub Repeated : List ℕ → ℕ → ℕ → List ℕ → Type 0

@@ -12,7 +12,7 @@ use Rattle.notation.specs.Basics.{pick}
 use Rattle.notation.specs.Numbers.{fromBits}
 use Rattle.notation.specs.Unroll.{isNiss}
 use Rattle.notation.specs.Invert.{undo}
-use Rattle.notation.specs.Tree.{Leaf, Node, leaf, block, Body, group, binaryGroup, nil, Tree}
+use Rattle.notation.specs.Tree.{Leaf, Node, leaf, block, group, binaryGroup, Tree}
 use Rattle.notation.specs.Counts.{times, countBinary, countNode, countBody, count, stored}
 use Rattle.notation.specs.Entries.{MAX-STEPS}
 use Rattle.notation.specs.Packed.{groupNumber, binaryNumber, unpack}

@@ -58,7 +58,7 @@ pub record IsGroup (bs : List ℕ) : Type 0 where
   pub isNode : IsNode bs node
   pub low : kindAt bs ≤ 5
 
--- what a group plays once, also a NISS group; a leaf is none and has nothing
+-- what a group plays as often as its multiplier says, of a NISS group its list; a leaf, which is no group, has nothing to play
 abbrev pub bodyOf : Node Leaf → Body Leaf
 bodyOf (leaf x) = group Simple nil
 bodyOf (block b m) = b

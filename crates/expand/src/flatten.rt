@@ -58,8 +58,8 @@ pub fn flatten_either(list: &[u8], inverted: bool, out: &mut [u8]) -> usize
     requires { ⌜ recordSize * count (unpack (now list)) ≤ length (now out) ⌝ }
     ensures { λ r. ⌜ WroteSteps (now (out .entry)) (now (out .exit)) (flat undo inverted (unpack (now (list .entry)))) r ⌝ }
 {
-    let size = flatten(list, out);
-    turn_if(out, size, inverted)
+    let written = flatten(list, out);
+    turn_if(out, written, inverted)
 }
 
 // Writes the steps of a group, given its bytes, that has some, and answers their size in bytes.
