@@ -3,9 +3,9 @@ ghost use Rattle.laws.specs.Packed.{Packed};
 ghost use Rattle.nodes.specs.Parted.{Middle};
 use crate::walk::node_end;
 
-// Where a node ends, within the list, nearest to the middle of its bytes: the later place of two that are as near. Of a
-// list of one node or none: the list's end. By bytes and not by nodes, so that halves of halves soon are short whatever
-// the groups among them hold.
+// Where the list is best parted: the place between two of its nodes that is nearest the middle of its bytes, the later
+// of two that are as near. Of a list of one node or none it is the list's end. Bytes count and not nodes, since a node
+// may be a group with most of the list in it.
 pub fn middle(list: &[u8]) -> usize
     requires { ⌜ Packed (now list) ⌝ }
     ensures { λ r. ⌜ Middle (now (list .entry)) r ⌝ }
@@ -14,7 +14,7 @@ pub fn middle(list: &[u8]) -> usize
     let mut at = 0;
     while 0 < t.len() {
         let end = node_end(t);
-        // A node is passed while no more stands before it than follows it: its end then is as near as its start.
+        // A node is passed while no more stands before it than behind it: then its end is at least as near as its start.
         if t.len() - end < at {
             return at;
         }
