@@ -4,18 +4,16 @@ use Prim.Native.Nat.{ℕ}
 use mathlib.Core.Path.{_≡_, refl, sym, ap, ap₂, _∙_, subst}
 use mathlib.Core.Bool.{Bool, true, false}
 use mathlib.Core.List.{List, [], _∷_, _++_, map, reverse-cons}
-use lib.IntN.{ℤ, natAbs}
 use Rattle.notation.specs.Tree.{Leaf, leaf, nil, cons, Tree}
 use Rattle.notation.specs.Packed.{leafRecord, packNode, pack}
 use Rattle.notation.specs.Entries.{records}
 use Rattle.notation.specs.Invert.{undo}
-use Rattle.notation.specs.Unroll.{copies, turned}
 use Rattle.record.specs.Range.{FitsLeaf}
 use Rattle.laws.specs.Packed.{FitsNode, FitsTree}
 use Rattle.laws.proofs.Packing.{unpack-pack}
 use Rattle.laws.specs.Unrolled.{backwards, flatNode, flat}
-use Rattle.expand.specs.Steps.{Undoable, All, none, one, asSteps, AreSteps, either, completed, repeats}
-use Rattle.expand.proofs.Steps.{records-append, records-copies}
+use Rattle.expand.specs.Steps.{Undoable, All, none, one, asSteps, AreSteps, either, completed}
+use Rattle.expand.proofs.Steps.{records-append}
 use Rattle.expand.proofs.Undoing.{wrapped, wrapped-fits, wrapped-record, wrapped-undone-record}
 
 -- steps as a tree
@@ -74,12 +72,6 @@ module _ {bs : List ℕ} {l : List Leaf} (e : bs ≡ records l) (u : All Undoabl
   pub same-either : (d : Bool) → records (either (asSteps bs) d) ≡ records (either l d)
   same-either true = ap (λ (k : List Leaf). records (backwards k)) asSteps-wrapped ∙ backwards-wrapped u
   same-either false = ap records asSteps-wrapped ∙ records-wrapped u
-
-  pub same-repeats : (m : ℤ) → records (repeats m (asSteps bs)) ≡ records (repeats m l)
-  same-repeats m =
-      records-copies (natAbs m) (either (asSteps bs) (turned m false))
-      ∙ ap (copies (natAbs m)) (same-either (turned m false))
-      ∙ sym (records-copies (natAbs m) (either l (turned m false)))
 
 -- the same of two lists
 pub same-completed : (k : Bool) {xs ys : List ℕ} {l m : List Leaf} → xs ≡ records l → All Undoable l → ys ≡ records m → All Undoable m →

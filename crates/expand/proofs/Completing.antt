@@ -1,32 +1,27 @@
--- A group's contents made whole: the lists of a commutator or a conjugate followed by their inverses, and the repeats. Assumes nothing.
-use Prim.Native.Nat.{ℕ, zero, suc, _+_, _-_, _*_, _≤_}
+-- A group's contents made whole: the lists of a commutator or a conjugate followed by their inverses, and turned round where they are inverted. Assumes nothing.
+use Prim.Native.Nat.{ℕ, _+_, _-_, _*_, _≤_}
 use mathlib.Core.Path.{_≡_, refl, sym, ap, ap₂, _∙_, subst}
 use mathlib.Core.Bool.{Bool, true, false}
 use mathlib.Core.List.{List, [], _++_, append-assoc, append-nil}
-use native.Mathlib.Nat.{mul-assoc, mul-comm}
 use native.Mathlib.Omega.{arith}
 use borrow.Rule.Slice.PartMut.{putMid}
-use lib.IntN.{ℤ, pos, negsuc, natAbs}
 use lib.ListN.{length, take, drop, length-append, length-drop, take-append-drop}
-use lib.Seq.{take-at, drop-at, take-all, take-add, take-append-add, drop-drop, length-take-le}
-use Rattle.notation.specs.Tree.{Leaf}
+use lib.Seq.{take-at, take-all, take-add, take-append-add, length-take-le}
 use Rattle.notation.specs.Packed.{RECORD}
 use Rattle.notation.specs.Entries.{records}
-use Rattle.notation.specs.Unroll.{copies, turned}
-use Rattle.notation.proofs.Marked.{length-copies}
-use Rattle.numbers.specs.Sign.{isNegative}
+use Rattle.notation.specs.Unroll.{copies}
 use Rattle.laws.specs.Unrolled.{backwards}
 use Rattle.laws.proofs.Unrolling.{long-backwards}
 use Rattle.notation.specs.Counts.{countBinary}
 use Rattle.notation.specs.declared.common.BinaryGroupKind.the-variants.{Commutator}
 use Rattle.expand.specs.Meaning.{binaryKind}
 use Rattle.nodes.specs.Nodes.{part}
-use Rattle.expand.specs.Steps.{asSteps, AreSteps, WroteSteps, completed, repeats, BothLists, Room}
+use Rattle.expand.specs.Steps.{asSteps, AreSteps, WroteSteps, either, completed, BothLists, Front}
 use Rattle.expand.proofs.Parts.{Three, the-part, put-part}
-use Rattle.expand.proofs.Steps.{length-records, records-append, records-copies}
+use Rattle.expand.proofs.Steps.{length-records, records-append}
 
 -- what `repeat` leaves of s
-abbrev Repeated : List ℕ → ℕ → ℕ → List ℕ → Type 0
+abbrev pub Repeated : List ℕ → ℕ → ℕ → List ℕ → Type 0
 Repeated s size total s₁ = (n : ℕ) → total ≤ n * size → s₁ ≡ take total (copies n (take size s)) ++ drop total s
 
 -- what `turn` leaves of x
@@ -137,25 +132,13 @@ module _ {s : List ℕ} {k : Bool} {a b : ℕ} (p : BothLists s k a b) where
             ∙ simp (records-append, append-assoc);
       })
 
--- The repeats of a block.
-module _ {s : List ℕ} {size n : ℕ} (r : Room s size n) where
-  pub one-repeat : size ≤ size * n
-  one-repeat = go n (r .some)
-    where
-      go : (n : ℕ) → 1 ≤ n → size ≤ size * n
-      go zero h = absurd (omega arith)
-      go (suc n) h = omega (arith, mul-comm size (suc n), mul-comm n size)
-
+-- The steps in the first bytes, turned round or not.
+module _ {s : List ℕ} {size : ℕ} (r : Front s size) where
   long-front : length (take size s) ≡ size
-  long-front = length-take-le size s (omega (arith, one-repeat, r .room))
+  long-front = length-take-le size s (r .within)
 
   contents-long : RECORD * length (asSteps (take size s)) ≡ size
   contents-long = asSteps-long (r .contents) ∙ long-front
-
-  total-is : size * n ≡ RECORD * (n * length (asSteps (take size s)))
-  total-is =
-      ap (λ (z : ℕ). z * n) (sym contents-long) ∙ mul-assoc RECORD (length (asSteps (take size s))) n
-      ∙ ap (λ (z : ℕ). RECORD * z) (mul-comm (length (asSteps (take size s))) n)
 
   contents : Three s [] (take size s) (drop size s) 0 size
   contents = record { bytes = sym (take-append-drop size s); start = refl; end = omega (arith, long-front) }
@@ -163,48 +146,12 @@ module _ {s : List ℕ} {size n : ℕ} (r : Room s size n) where
   pub contents-asSteps : AreSteps (part 0 size s)
   contents-asSteps = subst AreSteps (sym (the-part contents)) (r .contents)
 
-  block-written : (l : List Leaf) (s₁ : List ℕ) {s₂ : List ℕ} → length l ≡ length (asSteps (take size s)) → s₁ ≡ records l ++ drop size s → Repeated s₁ size (size * n) s₂ →
-      WroteSteps s s₂ (copies n l) (size * n)
-  block-written l s₁ {s₂} h e c =
-      record {
-        size = whole;
-        bytes = c n (omega (arith, mul-comm size n))
-            ∙ ap₂ (λ (x y : List ℕ). x ++ y)
-            (ap (λ (z : List ℕ). take (size * n) (copies n z)) (ap (take size) e ∙ take-at (records l) (drop size s) size long)
-            ∙ ap (take (size * n)) (sym (records-copies n l))
-            ∙ take-all (size * n) (records (copies n l)) (omega (arith, length-records (copies n l), whole)))
-            (after s₁ ∙ ap (drop (size * n - size)) (ap (drop size) e ∙ drop-at (records l) (drop size s) size long) ∙ sym (after s));
-      }
-    where
-      long : length (records l) ≡ size
-      long = length-records l ∙ ap (λ (z : ℕ). RECORD * z) h ∙ contents-long
+  pub turned-written : {d : Bool} {y : List ℕ} → d ≡ true → y ≡ Backward (part 0 size s) → WroteSteps s (putMid 0 (size - 0) s y) (either (asSteps (take size s)) d) size
+  turned-written {d} {y} e h =
+      rw e (record {
+        size = sym (ap (λ (n : ℕ). RECORD * n) (long-backwards (asSteps (take size s))) ∙ contents-long);
+        bytes = put-part contents y ∙ ap (λ (z : List ℕ). z ++ drop size s) (h ∙ ap Backward (the-part contents));
+      })
 
-      whole : size * n ≡ RECORD * length (copies n l)
-      whole = total-is ∙ ap (λ (z : ℕ). RECORD * z) (sym (length-copies n l ∙ ap (λ (z : ℕ). n * z) h))
-
-      after : (z : List ℕ) → drop (size * n) z ≡ drop (size * n - size) (drop size z)
-      after z =
-          let q : size + (size * n - size) ≡ size * n = omega (arith, one-repeat) in
-          sym (drop-drop (size * n - size) size z ∙ ap (λ (j : ℕ). drop j z) q)
-
-turns : (m : ℤ) → isNegative m ≡ true → turned m false ≡ true
-turns (pos n) g = absurd (let y : _≡_ {A = ℕ} 0 1 = cc in omega arith)
-turns (negsuc n) g = refl
-
-keeps : (m : ℤ) → isNegative m ≡ false → turned m false ≡ false
-keeps (pos n) g = refl
-keeps (negsuc n) g = absurd (let y : _≡_ {A = ℕ} 0 1 = cc in omega arith)
-
-module _ (m : ℤ) {s : List ℕ} {size times : ℕ} (e : times ≡ natAbs m) (r : Room s size (natAbs m)) where
-  pub turned-written : isNegative m ≡ true → {s₁ y s₂ : List ℕ} → y ≡ Backward (part 0 size s) → s₁ ≡ putMid 0 (size - 0) s y → Repeated s₁ size (size * times) s₂ →
-      WroteSteps s s₂ (repeats m (asSteps (take size s))) (size * times)
-  turned-written g {s₁} {y} {s₂} h p c =
-      rw (turns m g, e)
-      (block-written r (backwards (asSteps (take size s))) s₁ (long-backwards (asSteps (take size s)))
-      (p ∙ put-part (contents r) y ∙ ap (λ (z : List ℕ). z ++ drop size s) (h ∙ ap Backward (the-part (contents r))))
-      (rw e at c))
-
-  pub kept-written : isNegative m ≡ false → {s₂ : List ℕ} → Repeated s size (size * times) s₂ → WroteSteps s s₂ (repeats m (asSteps (take size s))) (size * times)
-  kept-written g c =
-      rw (keeps m g, e)
-      (block-written r (asSteps (take size s)) s refl (contents r .bytes ∙ ap (λ (z : List ℕ). z ++ drop size s) (sym (r .contents .bytes))) (rw e at c))
+  pub kept-written : {d : Bool} → d ≡ false → WroteSteps s s (either (asSteps (take size s)) d) size
+  kept-written e = rw e (record { size = sym contents-long; bytes = contents .bytes ∙ ap (λ (z : List ℕ). z ++ drop size s) (sym (r .contents .bytes)) })

@@ -7,9 +7,9 @@ use native.Mathlib.Nat.{mul-assoc, mul-comm}
 use native.Mathlib.Omega.{arith}
 use borrow.Rule.Slice.PartMut.{putMid, midOf, same-len-mid}
 use lib.Dec.{eqb}
-use lib.IntN.{natAbs}
+use lib.IntN.{ℤ, pos, negsuc, natAbs}
 use lib.ListN.{length, take, drop, length-append, length-drop}
-use lib.Seq.{take-at, drop-at, drop-length, drop-drop}
+use lib.Seq.{take-at, drop-at, take-all, drop-length, drop-drop}
 use Rattle.notation.specs.Numbers.{fromBits}
 use Rattle.notation.specs.Tree.{Leaf, Node, leaf, block, Body, group, binaryGroup, nil, Tree}
 use Rattle.notation.specs.Packed.{RECORD, leafRecord, packNode, unpack}
@@ -19,19 +19,22 @@ use Rattle.notation.specs.Unroll.{copies, turned}
 use Rattle.notation.specs.Counts.{countBinary, countNode, countBody, count}
 use Rattle.notation.specs.declared.common.GroupKind.the-variants.{Simple}
 use Rattle.record.specs.Meaning.{field, kindAt, NUMBER, COUNT}
+use Rattle.numbers.specs.Sign.{isNegative}
+use Rattle.notation.proofs.Marked.{length-copies}
 use Rattle.laws.specs.Packed.{FitsNode, FitsBody, FitsTree}
 use Rattle.laws.specs.Packed.{Packed}
 use Rattle.laws.proofs.Walking.{no-node}
 use Rattle.laws.specs.Unrolled.{flatBinary, flatNode, flatBody, flat}
-use Rattle.laws.proofs.Unrolling.{flatBody-backwards, flat-backwards}
+use Rattle.laws.proofs.Unrolling.{long-backwards, flatBody-backwards, flat-backwards}
 use Rattle.laws.proofs.Counting.{countNode-is, countBody-is, count-is, stored-none}
 use Rattle.expand.specs.Meaning.{binaryKind}
 use Rattle.nodes.specs.Nodes.{IsNode, part, FirstNode, firstList, secondList, Lists}
-use Rattle.expand.specs.Steps.{Undoable, All, asSteps, WroteSteps, IsGroup, either, completed, repeats, BothLists, Room}
-use Rattle.nodes.proofs.Nodes.{part-rest, part-length, FirstLeaf, leaf-node}
-use Rattle.expand.proofs.Shapes.{Shape, shape-of, bodyOf, at-least, both-within, block-is, group-body, binary-body, times-are, steps-are, repeats-some, first-stored, one-count, one-flat}
-use Rattle.expand.proofs.Steps.{length-records, records-append, all-flat, all-flatBody}
-use Rattle.expand.proofs.AsSteps.{holds, same-repeats, same-completed}
+use Rattle.expand.specs.Steps.{Undoable, All, asSteps, WroteSteps, IsGroup, bodyOf, firstBody, either, completed, BothLists, Front}
+use Rattle.nodes.proofs.Nodes.{part-rest, part-length, alone, FirstLeaf, leaf-node}
+use Rattle.expand.proofs.Shapes.{Shape, shape-of, at-least, both-within, block-is, group-body, binary-body, times-are, steps-are, repeats-some, first-stored, one-count, one-flat}
+use Rattle.expand.proofs.Steps.{length-records, records-append, records-copies, all-flat, all-flatBody}
+use Rattle.expand.proofs.AsSteps.{holds, same-either, same-completed}
+use Rattle.expand.proofs.Completing.{Repeated}
 
 -- Writing after writing: over what was written, or behind it.
 written-front : {s s₁ : List ℕ} {l : List Leaf} {a : ℕ} → WroteSteps s s₁ l a → take a s₁ ≡ records l
@@ -100,74 +103,83 @@ leaf-written {bs} {out} {out′} l q =
 pub node-written : {bs s s₁ : List ℕ} {n : Node Leaf} {r : ℕ} → IsNode bs n → WroteSteps s s₁ (flat undo false (unpack bs)) r → WroteSteps s s₁ (flatNode undo false n) r
 node-written {bs} {s} {s₁} {n} {r} i w = subst (λ (l : List Leaf). WroteSteps s s₁ l r) (one-flat i) w
 
--- A group that has steps: it is repeated at least once.
-module _ {bs : List ℕ} (g : IsGroup bs) (some : 0 < count (unpack bs)) {k m : ℕ} (e : k ≡ kindAt bs) (f : m ≡ field NUMBER bs) where
-  shape : Shape k (fromBits 32 m) (g .node)
-  shape = rw (e, f) (shape-of (g .isNode))
+-- What is written, in either direction.
+either-long : (l : List Leaf) (d : Bool) → length (either l d) ≡ length l
+either-long l true = long-backwards l
+either-long l false = refl
 
-  low : k ≤ 5
-  low = omega (arith, g .low)
+module _ {s s₁ : List ℕ} {l : List Leaf} {a : ℕ} (w : WroteSteps s s₁ l a) (u : All Undoable l) where
+  written-steps : Front s₁ a
+  written-steps = record { within = wrote-fits w; contents = holds (written-front w) u }
 
-  node-some : 0 < countNode (g .node)
-  node-some = omega (arith, one-count (g .isNode))
+  either-written : (d : Bool) {s₂ : List ℕ} {r : ℕ} → WroteSteps s₁ s₂ (either (asSteps (take a s₁)) d) r → WroteSteps s s₂ (either l d) r
+  either-written d w′ = let v = wrote-same (same-either (written-front w) u d) w′ in over w v (omega (arith, w .size, v .size, either-long l d))
 
-  repeated : 1 ≤ natAbs (fromBits 32 m)
-  repeated = repeats-some shape low node-some
+-- the steps of a list
+module _ {list s s₁ : List ℕ} {a : ℕ} (p : Packed list) (w : WroteSteps s s₁ (flat undo false (unpack list)) a) where
+  pub list-steps : Front s₁ a
+  list-steps = written-steps w (all-flat (unpack list) false (p .fits))
 
-  block-flat : flat undo false (unpack bs) ≡ copies (natAbs (fromBits 32 m)) (flatBody undo (turned (fromBits 32 m) false) (bodyOf (g .node)))
-  unfolding flatNode
-  block-flat =
-      one-flat (g .isNode) ∙ ap (flatNode undo false) (block-is shape low)
-      ∙ ap (λ (j : ℕ). copies j (flatBody undo (turned (fromBits 32 m) false) (bodyOf (g .node)))) (times-are shape low node-some)
+  pub list-written : (d : Bool) {s₂ : List ℕ} {r : ℕ} → WroteSteps s₁ s₂ (either (asSteps (take a s₁)) d) r → WroteSteps s s₂ (flat undo d (unpack list)) r
+  list-written d {s₂} {r} w′ = subst (λ (l : List Leaf). WroteSteps s s₂ l r) (either-flat (unpack list) d) (either-written w (all-flat (unpack list) false (p .fits)) d w′)
 
-  block-count : count (unpack bs) ≡ natAbs (fromBits 32 m) * countBody (bodyOf (g .node))
-  block-count = one-count (g .isNode) ∙ steps-are shape low node-some
+-- the direction of a group that is played forward
+direction : (m : ℤ) → turned m false ≡ isNegative m
+direction (pos n) = refl
+direction (negsuc n) = refl
 
-  body-undoable : All Undoable (flatBody undo false (bodyOf (g .node)))
+-- What is written, n times.
+repeated-written : {s s₁ s₂ : List ℕ} {l : List Leaf} {size n : ℕ} → WroteSteps s s₁ l size → 1 ≤ n → Repeated s₁ size (size * n) s₂ → WroteSteps s s₂ (copies n l) (size * n)
+repeated-written {s} {s₁} {s₂} {l} {size} {n} w h c =
+    over w (record {
+      size = whole;
+      bytes = c n (omega (arith, mul-comm size n)) ∙ ap (λ (x : List ℕ). x ++ drop (size * n) s₁)
+          (ap (λ (x : List ℕ). take (size * n) (copies n x)) (written-front w) ∙ ap (take (size * n)) (sym (records-copies n l))
+          ∙ take-all (size * n) (records (copies n l)) (omega (arith, length-records (copies n l), whole)));
+    }) (omega (arith, at-least n size h, mul-comm size n))
+  where
+    whole : size * n ≡ RECORD * length (copies n l)
+    whole = ap (λ (z : ℕ). z * n) (w .size) ∙ mul-assoc RECORD (length l) n ∙ ap (λ (z : ℕ). RECORD * z) (mul-comm (length l) n ∙ sym (length-copies n l))
+
+-- A group, and its body played once.
+module _ {bs : List ℕ} (g : IsGroup bs) where
+  abbrev body : Body Leaf
+  body = firstBody (unpack bs)
+
+  body-is : body ≡ bodyOf (g .node)
+  body-is = ap firstBody (alone (g .isNode))
+
+  shape : {k : ℕ} → k ≡ kindAt bs → Shape k (fromBits 32 (field NUMBER bs)) (g .node)
+  shape e = rw e (shape-of (g .isNode))
+
+  low : {k : ℕ} → k ≡ kindAt bs → k ≤ 5
+  low e = omega (arith, g .low)
+
+  body-undoable : All Undoable (flatBody undo false body)
   unfolding FitsNode FitsBody FitsTree
-  body-undoable = go (g .node) (g .isNode .fits)
+  body-undoable = subst (λ (b : Body Leaf). All Undoable (flatBody undo false b)) (sym body-is) (go (g .node) (g .isNode .fits))
     where
       go : (n : Node Leaf) → FitsNode n → All Undoable (flatBody undo false (bodyOf n))
       go (leaf x) q = all-flatBody (group Simple nil) false tt
       go (block b m) q = all-flatBody b false (q .1)
 
-  lists-count : count (firstList (g .node)) + count (secondList (g .node)) ≤ countBody (bodyOf (g .node))
+  lists-count : count (firstList (g .node)) + count (secondList (g .node)) ≤ countBody body
   unfolding countBody count
-  lists-count = go (g .node)
+  lists-count = subst (λ (b : Body Leaf). count (firstList (g .node)) + count (secondList (g .node)) ≤ countBody b) (sym body-is) (go (g .node))
     where
       go : (n : Node Leaf) → count (firstList n) + count (secondList n) ≤ countBody (bodyOf n)
       go (leaf x) = omega arith
       go (block (group g a) m) = omega arith
       go (block (binaryGroup g a b) m) = both-within g (count a) (count b)
 
-  body-room : {out : ℕ} → RECORD * count (unpack bs) ≤ out → RECORD * countBody (bodyOf (g .node)) ≤ out
-  body-room r = omega (arith, block-count, at-least (natAbs (fromBits 32 m)) (countBody (bodyOf (g .node))) repeated)
-
-  -- its contents, written once, and their repeats
-  module _ {out s₁ : List ℕ} {l : List Leaf} {a : ℕ} (w : WroteSteps out s₁ l a) (q : l ≡ flatBody undo false (bodyOf (g .node))) (r : RECORD * count (unpack bs) ≤ length out) where
+  -- its contents, written forward
+  module _ {out s₁ : List ℕ} {l : List Leaf} {a : ℕ} (w : WroteSteps out s₁ l a) (q : l ≡ flatBody undo false body) where
     l-undoable : All Undoable l
     l-undoable = subst (All Undoable) (sym q) body-undoable
 
-    l-count : length l ≡ countBody (bodyOf (g .node))
-    l-count = ap length q ∙ countBody-is (bodyOf (g .node)) false
-
-    block-room : Room s₁ a (natAbs (fromBits 32 m))
-    block-room =
-        record {
-          contents = holds (written-front w) l-undoable;
-          some = repeated;
-          room = omega (arith, wrote-longer w, block-count, total);
-        }
-      where
-        total : a * natAbs (fromBits 32 m) ≡ RECORD * (natAbs (fromBits 32 m) * countBody (bodyOf (g .node)))
-        total = ap (λ (j : ℕ). j * natAbs (fromBits 32 m)) (w .size ∙ ap (λ (j : ℕ). RECORD * j) l-count) ∙ mul-assoc RECORD (countBody (bodyOf (g .node))) (natAbs (fromBits 32 m))
-            ∙ ap (λ (j : ℕ). RECORD * j) (mul-comm (countBody (bodyOf (g .node))) (natAbs (fromBits 32 m)))
-
-    block-done : {s₂ : List ℕ} {r₂ : ℕ} → WroteSteps s₁ s₂ (repeats (fromBits 32 m) (asSteps (take a s₁))) r₂ → WroteSteps out s₂ (flat undo false (unpack bs)) r₂
-    block-done {s₂} {r₂} w′ =
-        let c = ap (copies (natAbs (fromBits 32 m))) (ap (λ (x : List Leaf). either x (turned (fromBits 32 m) false)) q ∙ either-body (bodyOf (g .node)) (turned (fromBits 32 m) false)) ∙ sym block-flat in
-        let w″ = subst (λ (x : List Leaf). WroteSteps s₁ s₂ x r₂) c (wrote-same (same-repeats (written-front w) l-undoable (fromBits 32 m)) w′) in
-        over w w″ (omega (arith, w .size, w″ .size, l-count, count-is (unpack bs) false, block-count, at-least (natAbs (fromBits 32 m)) (countBody (bodyOf (g .node))) repeated))
+    body-written : (d : Bool) {s₂ : List ℕ} {r : ℕ} → WroteSteps s₁ s₂ (either (asSteps (take a s₁)) d) r → WroteSteps out s₂ (flatBody undo d body) r
+    body-written d {s₂} {r} w′ =
+        subst (λ (x : List Leaf). WroteSteps out s₂ x r) (ap (λ (x : List Leaf). either x d) q ∙ either-body body d) (either-written w l-undoable d w′)
 
   -- given where its lists lie
   module _ {mid : ℕ} (p : Lists bs mid) where
@@ -183,89 +195,135 @@ module _ {bs : List ℕ} (g : IsGroup bs) (some : 0 < count (unpack bs)) {k m : 
     second-is : t′ ≡ secondList (g .node)
     second-is = p .unpacksSecond (g .node) (g .isNode)
 
-    counts : count t + count t′ ≤ countBody (bodyOf (g .node))
+    counts : count t + count t′ ≤ countBody body
     counts = omega (arith, lists-count, ap count first-is, ap count second-is)
 
-    pub first-room : {out : ℕ} → RECORD * count (unpack bs) ≤ out → RECORD * count t ≤ out
-    first-room r = omega (arith, body-room r, counts)
+    pub first-room : {out : ℕ} → RECORD * countBody body ≤ out → RECORD * count t ≤ out
+    first-room r = omega (arith, counts)
 
-    module _ {out s₁ : List ℕ} {a : ℕ} (w : WroteSteps out s₁ (flat undo false t) a) (r : RECORD * count (unpack bs) ≤ length out) where
+    module _ {k : ℕ} (e : k ≡ kindAt bs) {out s₁ : List ℕ} {a : ℕ} (w : WroteSteps out s₁ (flat undo false t) a) where
       -- a plain group
       module _ (l : k < 4) where
-        group-flat : flat undo false t ≡ flatBody undo false (bodyOf (g .node))
+        group-flat : flat undo false t ≡ flatBody undo false body
         unfolding flatBody
-        group-flat = ap (flat undo false) first-is ∙ sym (ap (flatBody undo false) (group-body shape l .1))
+        group-flat = ap (flat undo false) first-is ∙ sym (ap (flatBody undo false) (body-is ∙ group-body (shape e) l .1))
 
-        pub group-room : Room s₁ a (natAbs (fromBits 32 m))
-        group-room = block-room w group-flat r
+        pub group-steps : Front s₁ a
+        group-steps = written-steps w (l-undoable w group-flat)
 
-        pub group-written : {s₂ : List ℕ} {r₂ : ℕ} → WroteSteps s₁ s₂ (repeats (fromBits 32 m) (asSteps (take a s₁))) r₂ → WroteSteps out s₂ (flat undo false (unpack bs)) r₂
-        group-written w′ = block-done w group-flat r w′
+        pub group-written : (d : Bool) {s₂ : List ℕ} {r : ℕ} → WroteSteps s₁ s₂ (either (asSteps (take a s₁)) d) r → WroteSteps out s₂ (flatBody undo d body) r
+        group-written d w′ = body-written w group-flat d w′
 
       -- a commutator or a conjugate
-      pub second-room : RECORD * count t′ ≤ length (part a (length s₁) s₁)
-      second-room = omega (arith, body-room r, counts, w .size, count-is t false, wrote-longer w, ap length (part-rest a s₁), length-drop a s₁)
+      module _ (r : RECORD * countBody body ≤ length out) where
+        pub second-room : RECORD * count t′ ≤ length (part a (length s₁) s₁)
+        second-room = omega (arith, r, counts, w .size, count-is t false, wrote-longer w, ap length (part-rest a s₁), length-drop a s₁)
 
-      module _ (l : 4 ≤ k) {y : List ℕ} {b : ℕ} (w′ : WroteSteps (part a (length s₁) s₁) y (flat undo false t′) b) where
-        abbrev s₂ : List ℕ
-        s₂ = putMid a (length s₁ - a) s₁ y
+        module _ (l : 4 ≤ k) {y : List ℕ} {b : ℕ} (w′ : WroteSteps (part a (length s₁) s₁) y (flat undo false t′) b) where
+          abbrev s₂ : List ℕ
+          s₂ = putMid a (length s₁ - a) s₁ y
 
-        both-wrote : WroteSteps out s₂ (flat undo false t ++ flat undo false t′) (a + b)
-        both-wrote = behind (wrote-fits w) w w′
+          both-wrote : WroteSteps out s₂ (flat undo false t ++ flat undo false t′) (a + b)
+          both-wrote = behind (wrote-fits w) w w′
 
-        binary-count : countBody (bodyOf (g .node)) ≡ countBinary (binaryKind (eqb k 4)) (count t) (count t′)
-        unfolding countBody
-        binary-count = ap countBody (binary-body shape l low) ∙ sym (ap₂ (countBinary (binaryKind (eqb k 4))) (ap count first-is) (ap count second-is))
+          binary-is : body ≡ binaryGroup (binaryKind (eqb k 4)) t t′
+          binary-is = body-is ∙ binary-body (shape e) l (low e) ∙ sym (ap₂ (binaryGroup (binaryKind (eqb k 4))) first-is second-is)
 
-        binary-flat : completed (eqb k 4) (flat undo false t) (flat undo false t′) ≡ flatBody undo false (bodyOf (g .node))
-        unfolding flatBody
-        binary-flat =
-            ap₂ (λ (x x′ : Bool → List Leaf). flatBinary (binaryKind (eqb k 4)) false x x′) (fun-ext λ d. either-flat t d) (fun-ext λ d. either-flat t′ d)
-            ∙ ap₂ (λ (x x′ : Tree). flatBody undo false (binaryGroup (binaryKind (eqb k 4)) x x′)) first-is second-is
-            ∙ sym (ap (flatBody undo false) (binary-body shape l low))
+          binary-count : countBody body ≡ countBinary (binaryKind (eqb k 4)) (count t) (count t′)
+          unfolding countBody
+          binary-count = ap countBody binary-is
 
-        both-bytes : s₂ ≡ records (flat undo false t) ++ (records (flat undo false t′) ++ drop (a + b) out)
-        both-bytes =
-            both-wrote .bytes ∙ ap (λ (x : List ℕ). x ++ drop (a + b) out) (records-append (flat undo false t) (flat undo false t′))
-            ∙ append-assoc (records (flat undo false t)) (records (flat undo false t′)) (drop (a + b) out)
+          binary-flat : completed (eqb k 4) (flat undo false t) (flat undo false t′) ≡ flatBody undo false body
+          unfolding flatBody
+          binary-flat =
+              ap₂ (λ (x x′ : Bool → List Leaf). flatBinary (binaryKind (eqb k 4)) false x x′) (fun-ext λ d. either-flat t d) (fun-ext λ d. either-flat t′ d)
+              ∙ sym (ap (flatBody undo false) binary-is)
 
-        first-bytes : take a s₂ ≡ records (flat undo false t)
-        first-bytes = ap (take a) both-bytes ∙ take-at (records (flat undo false t)) _ a (length-records (flat undo false t) ∙ sym (w .size))
+          both-bytes : s₂ ≡ records (flat undo false t) ++ (records (flat undo false t′) ++ drop (a + b) out)
+          both-bytes =
+              both-wrote .bytes ∙ ap (λ (x : List ℕ). x ++ drop (a + b) out) (records-append (flat undo false t) (flat undo false t′))
+              ∙ append-assoc (records (flat undo false t)) (records (flat undo false t′)) (drop (a + b) out)
 
-        second-bytes : take b (drop a s₂) ≡ records (flat undo false t′)
-        second-bytes =
-            ap (λ (x : List ℕ). take b (drop a x)) both-bytes ∙ ap (take b) (drop-at (records (flat undo false t)) _ a (length-records (flat undo false t) ∙ sym (w .size)))
-            ∙ take-at (records (flat undo false t′)) (drop (a + b) out) b (length-records (flat undo false t′) ∙ sym (w′ .size))
+          first-bytes : take a s₂ ≡ records (flat undo false t)
+          first-bytes = ap (take a) both-bytes ∙ take-at (records (flat undo false t)) _ a (length-records (flat undo false t) ∙ sym (w .size))
 
-        first-undoable : All Undoable (flat undo false t)
-        first-undoable = all-flat t false (p .packedFirst .fits)
+          second-bytes : take b (drop a s₂) ≡ records (flat undo false t′)
+          second-bytes =
+              ap (λ (x : List ℕ). take b (drop a x)) both-bytes ∙ ap (take b) (drop-at (records (flat undo false t)) _ a (length-records (flat undo false t) ∙ sym (w .size)))
+              ∙ take-at (records (flat undo false t′)) (drop (a + b) out) b (length-records (flat undo false t′) ∙ sym (w′ .size))
 
-        second-undoable : All Undoable (flat undo false t′)
-        second-undoable = all-flat t′ false (p .packedSecond .fits)
+          first-undoable : All Undoable (flat undo false t)
+          first-undoable = all-flat t false (p .packedFirst .fits)
 
-        pub binary-pair : BothLists s₂ (eqb k 4) a b
-        binary-pair =
-            record {
-              first = holds first-bytes first-undoable;
-              second = holds second-bytes second-undoable;
-              room = omega (arith, body-room r, binary-count, wrote-longer both-wrote, in-bytes (eqb k 4), w .size, w′ .size, count-is t false, count-is t′ false);
-            }
-          where
-            in-bytes : (h : Bool) → countBinary (binaryKind h) a b ≡ RECORD * countBinary (binaryKind h) (count t) (count t′)
-            in-bytes true = omega (arith, w .size, w′ .size, count-is t false, count-is t′ false)
-            in-bytes false = omega (arith, w .size, w′ .size, count-is t false, count-is t′ false)
+          second-undoable : All Undoable (flat undo false t′)
+          second-undoable = all-flat t′ false (p .packedSecond .fits)
 
-        module _ {s₃ : List ℕ} {size : ℕ} (c : WroteSteps s₂ s₃ (completed (eqb k 4) (asSteps (take a s₂)) (asSteps (take b (drop a s₂)))) size) where
-          body-wrote : WroteSteps out s₃ (flatBody undo false (bodyOf (g .node))) size
-          body-wrote =
-              let d = subst (λ (x : List Leaf). WroteSteps s₂ s₃ x size) binary-flat (wrote-same (same-completed (eqb k 4) first-bytes first-undoable second-bytes second-undoable) c) in
-              over both-wrote d (omega (arith, w .size, w′ .size, d .size, count-is t false, count-is t′ false, countBody-is (bodyOf (g .node)) false, counts))
+          pub binary-pair : BothLists s₂ (eqb k 4) a b
+          binary-pair =
+              record {
+                first = holds first-bytes first-undoable;
+                second = holds second-bytes second-undoable;
+                room = omega (arith, r, binary-count, wrote-longer both-wrote, in-bytes (eqb k 4), w .size, w′ .size, count-is t false, count-is t′ false);
+              }
+            where
+              in-bytes : (h : Bool) → countBinary (binaryKind h) a b ≡ RECORD * countBinary (binaryKind h) (count t) (count t′)
+              in-bytes true = omega (arith, w .size, w′ .size, count-is t false, count-is t′ false)
+              in-bytes false = omega (arith, w .size, w′ .size, count-is t false, count-is t′ false)
 
-          pub binary-room : Room s₃ size (natAbs (fromBits 32 m))
-          binary-room = block-room body-wrote refl r
+          module _ {s₃ : List ℕ} {size : ℕ} (c : WroteSteps s₂ s₃ (completed (eqb k 4) (asSteps (take a s₂)) (asSteps (take b (drop a s₂)))) size) where
+            body-wrote : WroteSteps out s₃ (flatBody undo false body) size
+            body-wrote =
+                let d = subst (λ (x : List Leaf). WroteSteps s₂ s₃ x size) binary-flat (wrote-same (same-completed (eqb k 4) first-bytes first-undoable second-bytes second-undoable) c) in
+                over both-wrote d (omega (arith, w .size, w′ .size, d .size, count-is t false, count-is t′ false, countBody-is body false, counts))
 
-          pub binary-written : {s₄ : List ℕ} {r₄ : ℕ} → WroteSteps s₃ s₄ (repeats (fromBits 32 m) (asSteps (take size s₃))) r₄ → WroteSteps out s₄ (flat undo false (unpack bs)) r₄
-          binary-written c′ = block-done body-wrote refl r c′
+            pub binary-steps : Front s₃ size
+            binary-steps = written-steps body-wrote body-undoable
+
+            pub binary-written : (d : Bool) {s₄ : List ℕ} {r₄ : ℕ} → WroteSteps s₃ s₄ (either (asSteps (take size s₃)) d) r₄ → WroteSteps out s₄ (flatBody undo d body) r₄
+            binary-written d c′ = body-written body-wrote refl d c′
+
+  -- One that has steps: it is repeated at least once.
+  module _ (some : 0 < count (unpack bs)) {m : ℕ} (f : m ≡ field NUMBER bs) where
+    node-shape : Shape (kindAt bs) (fromBits 32 m) (g .node)
+    node-shape = rw f (shape-of (g .isNode))
+
+    node-some : 0 < countNode (g .node)
+    node-some = omega (arith, one-count (g .isNode))
+
+    repeated : 1 ≤ natAbs (fromBits 32 m)
+    repeated = repeats-some node-shape (g .low) node-some
+
+    block-flat : flat undo false (unpack bs) ≡ copies (natAbs (fromBits 32 m)) (flatBody undo (turned (fromBits 32 m) false) body)
+    unfolding flatNode
+    block-flat =
+        one-flat (g .isNode) ∙ ap (flatNode undo false) (block-is node-shape (g .low))
+        ∙ ap₂ (λ (j : ℕ) (b : Body Leaf). copies j (flatBody undo (turned (fromBits 32 m) false) b)) (times-are node-shape (g .low) node-some) (sym body-is)
+
+    block-count : count (unpack bs) ≡ natAbs (fromBits 32 m) * countBody body
+    block-count = one-count (g .isNode) ∙ steps-are node-shape (g .low) node-some ∙ ap (λ (b : Body Leaf). natAbs (fromBits 32 m) * countBody b) (sym body-is)
+
+    pub body-room : {out : ℕ} → RECORD * count (unpack bs) ≤ out → RECORD * countBody body ≤ out
+    body-room r = omega (arith, block-count, at-least (natAbs (fromBits 32 m)) (countBody body) repeated)
+
+    -- what is repeated is its body in the direction of its multiplier
+    module _ {d : Bool} (e : d ≡ isNegative (fromBits 32 m)) {times : ℕ} (q : times ≡ natAbs (fromBits 32 m))
+        {out s₁ : List ℕ} {size : ℕ} (w : WroteSteps out s₁ (flatBody undo d body) size) (r : RECORD * count (unpack bs) ≤ length out) where
+      total : size * times ≡ RECORD * count (unpack bs)
+      total =
+          ap₂ _*_ (w .size ∙ ap (λ (j : ℕ). RECORD * j) (countBody-is body d)) q ∙ mul-assoc RECORD (countBody body) (natAbs (fromBits 32 m))
+          ∙ ap (λ (j : ℕ). RECORD * j) (mul-comm (countBody body) (natAbs (fromBits 32 m)) ∙ sym block-count)
+
+      pub total-fits : size * times ≤ length out
+      total-fits = omega (arith, total)
+
+      pub repeat-room : (size ≤ size * times) × (size * times ≤ length s₁)
+      repeat-room = (omega (arith, at-least times size (omega (arith, repeated)), mul-comm size times), omega (arith, total, wrote-longer w))
+
+      pub repeats-written : {s₂ : List ℕ} → Repeated s₁ size (size * times) s₂ → WroteSteps out s₂ (flat undo false (unpack bs)) (size * times)
+      repeats-written {s₂} c =
+          subst (λ (x : List Leaf). WroteSteps out s₂ x (size * times))
+          (ap₂ (λ (j : ℕ) (b : Bool). copies j (flatBody undo b body)) q (e ∙ sym (direction (fromBits 32 m))) ∙ sym block-flat)
+          (repeated-written w (omega (arith, repeated)) c)
 
 none-or-some : (n : ℕ) → ((n ≡ 0) → ⊥) → 0 < n
 none-or-some zero h = absurd (h refl)

@@ -32,11 +32,11 @@ use Rattle.laws.proofs.Counting.{countNode-is}
 use Rattle.laws.specs.Unrolled.{undoIf}
 use Rattle.laws.proofs.Seeking.{undo-none, undo-again, in-repeat, from-end, in-A, in-B, in-A′, in-B′}
 use Rattle.expand.specs.Meaning.{binaryKind}
-use Rattle.expand.specs.Steps.{Undoable, IsGroup}
+use Rattle.expand.specs.Steps.{Undoable, IsGroup, bodyOf}
 use Rattle.expand.specs.Places.{stepIn, found, Has, Sought}
 use Rattle.nodes.specs.Nodes.{IsNode, part, FirstNode, Lists}
 use Rattle.nodes.proofs.Nodes.{part-length, record-room, node-packed, FirstLeaf, leaf-node}
-use Rattle.expand.proofs.Shapes.{Shape, shape-of, bodyOf, at-least, positive-right, both-within, block-is, group-body, binary-body, steps-are, repeats-some, first-counted, leaf-steps, one-count, one-flat}
+use Rattle.expand.proofs.Shapes.{Shape, shape-of, at-least, positive-right, both-within, block-is, group-body, binary-body, steps-are, repeats-some, first-counted, leaf-steps, one-count, one-flat}
 use Rattle.expand.proofs.Steps.{fits-undoable}
 use Rattle.expand.proofs.Undoing.{step-starts, step-undone}
 

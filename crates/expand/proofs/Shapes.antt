@@ -12,7 +12,7 @@ use Rattle.notation.specs.Basics.{pick}
 use Rattle.notation.specs.Numbers.{fromBits}
 use Rattle.notation.specs.Unroll.{isNiss}
 use Rattle.notation.specs.Invert.{undo}
-use Rattle.notation.specs.Tree.{Leaf, Node, leaf, block, Body, group, binaryGroup, nil, Tree}
+use Rattle.notation.specs.Tree.{Leaf, Node, leaf, block, group, binaryGroup, Tree}
 use Rattle.notation.specs.Counts.{times, countBinary, countNode, countBody, count, stored}
 use Rattle.notation.specs.Entries.{MAX-STEPS}
 use Rattle.notation.specs.Packed.{groupNumber, binaryNumber, unpack}
@@ -27,7 +27,7 @@ use Rattle.laws.proofs.Walking.{head-stored}
 use Rattle.nodes.specs.Nodes.{IsNode, part, FirstNode, firstList, secondList}
 use Rattle.nodes.proofs.Nodes.{alone, fields-of, front-field, first-low, kind-of, leaf-kind, multiplier-of, FirstLeaf}
 use Rattle.expand.specs.Meaning.{binaryKind}
-use Rattle.expand.specs.Steps.{IsGroup}
+use Rattle.expand.specs.Steps.{IsGroup, bodyOf}
 
 -- What a node is, by the kind and the multiplier in its record.
 pub data Shape : ℕ → ℤ → Node Leaf → Type 0 where
@@ -57,11 +57,6 @@ shape-of {n} {bs} s = shapes n bs s
 
 pub group-of : {bs : List ℕ} {e : ℕ} {r : Bool} → FirstNode bs e → r ≡ ltb 5 (kindAt bs) → r ≡ false → IsGroup (part 0 e bs)
 group-of f q left = record { node = f .node; isNode = f .isNode; low = first-low f refl (no-leaf-low q left) }
-
--- A group is its body repeated; a leaf has none.
-abbrev pub bodyOf : Node Leaf → Body Leaf
-bodyOf (leaf x) = group Simple nil
-bodyOf (block b m) = b
 
 pub at-least : (n c : ℕ) → 1 ≤ n → c ≤ n * c
 at-least zero c h = absurd (omega arith)

@@ -29,9 +29,9 @@ use Rattle.nodes.specs.Nodes.{IsNode, part, FirstNode, firstList, secondList, L
 use Rattle.nodes.proofs.Nodes.{part-length, fields-of, kind-of, alone, front-field, FirstLeaf, leaf-node}
 use Rattle.expand.specs.Meaning.{refusalOf, refuses, leafRefuses, binaryKind}
 use Rattle.record.specs.Undone.{overflowsAt}
-use Rattle.expand.specs.Steps.{IsGroup}
+use Rattle.expand.specs.Steps.{IsGroup, bodyOf}
 use Rattle.expand.specs.declared.visit.Refusals.{Refusals}
-use Rattle.expand.proofs.Shapes.{Shape, isLeaf, isGroup, isBinary, shape-of, bodyOf, block-is, group-body, binary-body}
+use Rattle.expand.proofs.Shapes.{Shape, isLeaf, isGroup, isBinary, shape-of, block-is, group-body, binary-body}
 
 -- the first refusals, by direction
 abbrev ofNode : Node Leaf → Bool → Option ℕ

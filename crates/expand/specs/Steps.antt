@@ -6,16 +6,16 @@ use mathlib.Core.List.{List, [], _∷_, _++_}
 use lib.IntN.{ℤ, natAbs}
 use lib.ListN.{length, take, drop}
 use Rattle.notation.specs.Basics.{pick}
-use Rattle.notation.specs.Tree.{Leaf, rotation, move, pause, pair, slash, megaminx, Node}
+use Rattle.notation.specs.Tree.{Leaf, rotation, move, pause, pair, slash, megaminx, Node, leaf, block, Body, group, nil, cons, Tree}
 use Rattle.notation.specs.Packed.{RECORD, headRecord, headAt, unpack}
 use Rattle.notation.specs.Entries.{records}
 use Rattle.notation.specs.Invert.{undo}
-use Rattle.notation.specs.Unroll.{copies, turned}
 use Rattle.record.specs.Meaning.{field, kindAt}
 use Rattle.record.specs.Range.{FitsFamily, FitsConstraints, FitsLayers, FitsLeaf}
 use Rattle.record.specs.Undone.{undoneHead}
 use Rattle.laws.specs.Unrolled.{backwards, flatBinary, flat}
 use Rattle.notation.specs.Counts.{countBinary}
+use Rattle.notation.specs.declared.common.GroupKind.the-variants.{Simple}
 use Rattle.nodes.specs.Nodes.{IsNode}
 use Rattle.expand.specs.Meaning.{binaryKind}
 
@@ -58,6 +58,16 @@ pub record IsGroup (bs : List ℕ) : Type 0 where
   pub isNode : IsNode bs node
   pub low : kindAt bs ≤ 5
 
+-- what a group plays as often as its multiplier says, of a NISS group its list; a leaf, which is no group, has nothing to play
+abbrev pub bodyOf : Node Leaf → Body Leaf
+bodyOf (leaf x) = group Simple nil
+bodyOf (block b m) = b
+
+-- the same of the first node of a list
+abbrev pub firstBody : Tree → Body Leaf
+firstBody nil = group Simple nil
+firstBody (cons n l) = bodyOf n
+
 -- a list of steps in either direction
 abbrev pub either : List Leaf → Bool → List Leaf
 either l inverted = pick inverted (backwards l) l
@@ -66,21 +76,16 @@ either l inverted = pick inverted (backwards l) l
 abbrev pub completed : Bool → List Leaf → List Leaf → List Leaf
 completed commutator l m = flatBinary (binaryKind commutator) false (either l) (either m)
 
--- the contents of a group with the multiplier m
-abbrev pub repeats : ℤ → List Leaf → List Leaf
-repeats m l = copies (natAbs m) (either l (turned m false))
-
 -- The lists of a commutator or a conjugate in the first bytes of a buffer that has room for the whole.
 pub record BothLists (out : List ℕ) (commutator : Bool) (a b : ℕ) : Type 0 where
   pub first : AreSteps (take a out)
   pub second : AreSteps (take b (drop a out))
   pub room : countBinary (binaryKind commutator) a b ≤ length out
 
--- The contents of a group in the first bytes of a buffer that has room for n repeats, at least one.
-pub record Room (out : List ℕ) (size n : ℕ) : Type 0 where
+-- A buffer whose first bytes are the records of steps.
+pub record Front (out : List ℕ) (size : ℕ) : Type 0 where
+  pub within : size ≤ length out
   pub contents : AreSteps (take size out)
-  pub some : 1 ≤ n
-  pub room : size * n ≤ length out
 
 -- the last of some records, and a record undone
 abbrev pub lastOf : List ℕ → List ℕ

@@ -1,23 +1,20 @@
-// Unrolling a tree into a buffer, forward only: what stands inverted is written forward, turned round where it lies and
-// undone.
+// Unrolling a tree into a buffer: what stands inverted is written forward, turned round where it lies and undone.
 ghost use mathlib.Core.Path.{_≡_};
 ghost use mathlib.Core.Bool.{false};
 ghost use mathlib.Core.List.{_++_};
 ghost use Prim.Native.Nat.{ℕ, _+_, _-_, _*_, _≤_, _<_};
-ghost use lib.IntN.{natAbs};
 ghost use lib.ListN.{length, take, drop};
 ghost use Rattle.notation.specs.Invert.{undo};
-ghost use Rattle.notation.specs.Numbers.{fromBits};
 ghost use Rattle.notation.specs.Packed.{RECORD as recordSize, unpack};
 ghost use Rattle.notation.specs.Entries.{records};
 ghost use Rattle.notation.specs.Unroll.{copies};
 ghost use Rattle.record.specs.Undone.{StartsRecord};
 ghost use Rattle.laws.specs.Packed.{Packed};
-ghost use Rattle.laws.specs.Unrolled.{backwards, flat};
-ghost use Rattle.notation.specs.Counts.{count};
+ghost use Rattle.laws.specs.Unrolled.{backwards, flat, flatBody};
+ghost use Rattle.notation.specs.Counts.{count, countBody};
 ghost use Rattle.nodes.specs.Nodes.{part};
-ghost use Rattle.expand.specs.Steps.{asSteps, AreSteps, BothLists, IsGroup, Room, WroteSteps};
-ghost use Rattle.expand.specs.Steps.{completed, lastOf, repeats, undoneRecord};
+ghost use Rattle.expand.specs.Steps.{asSteps, AreSteps, BothLists, Front, IsGroup, WroteSteps};
+ghost use Rattle.expand.specs.Steps.{completed, either, firstBody, lastOf, undoneRecord};
 use nodes::first_end;
 use nodes::node_end;
 use numbers::signed::is_negative;
@@ -55,6 +52,16 @@ pub fn flatten(tree: &[u8], out: &mut [u8]) -> usize
     at
 }
 
+// Writes the steps of a list in either direction to the front of out and answers their size in bytes.
+pub fn flatten_either(list: &[u8], inverted: bool, out: &mut [u8]) -> usize
+    requires { ⌜ Packed (now list) ⌝ }
+    requires { ⌜ recordSize * count (unpack (now list)) ≤ length (now out) ⌝ }
+    ensures { λ r. ⌜ WroteSteps (now (out .entry)) (now (out .exit)) (flat undo inverted (unpack (now (list .entry)))) r ⌝ }
+{
+    let written = flatten(list, out);
+    turn_if(out, written, inverted)
+}
+
 // Writes the steps of a group, given its bytes, that has some, and answers their size in bytes.
 fn flatten_node(node: &[u8], out: &mut [u8]) -> usize
     requires { ⌜ IsGroup (now node) ⌝ }
@@ -62,16 +69,30 @@ fn flatten_node(node: &[u8], out: &mut [u8]) -> usize
     requires { ⌜ recordSize * count (unpack (now node)) ≤ length (now out) ⌝ }
     ensures { λ r. ⌜ WroteSteps (now (out .entry)) (now (out .exit)) (flat undo false (unpack (now (node .entry)))) r ⌝ }
 {
-    let kind = fields::kind(node);
     let multiplier = fields::number(node);
+    let size = flatten_body(node, is_negative(multiplier), out);
+    let total = size * (magnitude(multiplier) as usize);
+    repeat(out, size, total);
+    total
+}
+
+// Writes the contents of a group, given its bytes, played once in either direction, and answers their size in bytes. The
+// multiplier is not looked at, and of a NISS group it is the list that is written.
+pub fn flatten_body(node: &[u8], inverted: bool, out: &mut [u8]) -> usize
+    requires { ⌜ IsGroup (now node) ⌝ }
+    requires { ⌜ recordSize * countBody (firstBody (unpack (now node))) ≤ length (now out) ⌝ }
+    ensures { λ r. ⌜ WroteSteps (now (out .entry)) (now (out .exit))
+        (flatBody undo inverted (firstBody (unpack (now (node .entry))))) r ⌝ }
+{
+    let kind = fields::kind(node);
     let middle = first_end(node);
     let a = flatten(&node[RECORD..middle], out);
     if kind < kinds::COMMUTATOR {
-        return repeat_block(out, a, multiplier);
+        return turn_if(out, a, inverted);
     }
     let b = flatten(&node[middle..], &mut out[a..]);
     let size = complete_binary(out, kind == kinds::COMMUTATOR, a, b);
-    repeat_block(out, size, multiplier)
+    turn_if(out, size, inverted)
 }
 
 // Completes a binary group whose lists A and B stand at the front: writes A' and, of a commutator, B' behind them.
@@ -94,21 +115,15 @@ fn complete_binary(out: &mut [u8], commutator: bool, a: usize, b: usize) -> usiz
     third
 }
 
-// The contents of a group stand in the first `size` bytes: turns them round if the multiplier is negative, and repeats
-// them.
-fn repeat_block(out: &mut [u8], size: usize, multiplier: u32) -> usize
-    requires { ⌜ Room (now out) size (natAbs (fromBits 32 multiplier)) ⌝ }
-    ensures { λ r. ⌜ WroteSteps (now (out .entry)) (now (out .exit))
-        (repeats (fromBits 32 multiplier) (asSteps (take size (now (out .entry))))) r ⌝ }
+// Turns the steps in the first `size` bytes round where they are to be inverted, and answers their size.
+fn turn_if(out: &mut [u8], size: usize, inverted: bool) -> usize
+    requires { ⌜ Front (now out) size ⌝ }
+    ensures { λ r. ⌜ WroteSteps (now (out .entry)) (now (out .exit)) (either (asSteps (take size (now (out .entry)))) inverted) r ⌝ }
 {
-    let total = size * (magnitude(multiplier) as usize);
-    if is_negative(multiplier) {
+    if inverted {
         turn(&mut out[0..size]);
-        repeat(out, size, total);
-        return total;
     }
-    repeat(out, size, total);
-    total
+    size
 }
 
 // Repeats the first `size` bytes up to `total`.
@@ -125,7 +140,7 @@ fn repeat(out: &mut [u8], size: usize, total: usize)
 }
 
 // Turns a run of steps round and undoes each, from both ends inwards.
-fn turn(steps: &mut [u8])
+pub fn turn(steps: &mut [u8])
     requires { ⌜ AreSteps (now steps) ⌝ }
     ensures { λ _. ⌜ now (steps .exit) ≡ records (backwards (asSteps (now (steps .entry)))) ⌝ }
 {

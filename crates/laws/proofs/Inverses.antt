@@ -94,7 +94,7 @@ invertedNode-twice : (n : Node Leaf) → invertedNode (invertedNode n) ≡ n
 invertedNode-twice (leaf x) = ap leaf (undo-undo x)
 invertedNode-twice (block b m) = ap (block b) (negℤ-negℤ m)
 
-append-assoc-nodes : (a b c : Tree) → append (append a b) c ≡ append a (append b c)
+pub append-assoc-nodes : (a b c : Tree) → append (append a b) c ≡ append a (append b c)
 unfolding append
 append-assoc-nodes nil b c = refl
 append-assoc-nodes (cons n a) b c = ap (cons n) (append-assoc-nodes a b c)
