@@ -2,3 +2,6 @@
 pub mod Unrolled
 pub mod Inverted
 pub mod Packed
+pub mod Heads
+-- What holds throughout a list.
+pub mod All
