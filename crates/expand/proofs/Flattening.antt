@@ -19,6 +19,7 @@ use Rattle.notation.specs.Unroll.{copies, turned}
 use Rattle.notation.specs.Counts.{countBinary, countNode, countBody, count}
 use Rattle.notation.specs.declared.common.GroupKind.the-variants.{Simple}
 use Rattle.record.specs.Meaning.{field, kindAt, NUMBER, COUNT}
+use Rattle.laws.specs.All.{All}
 use Rattle.laws.specs.Packed.{FitsNode, FitsBody, FitsTree}
 use Rattle.laws.specs.Packed.{Packed}
 use Rattle.laws.proofs.Walking.{no-node}
@@ -27,7 +28,7 @@ use Rattle.laws.proofs.Unrolling.{flatBody-backwards, flat-backwards}
 use Rattle.laws.proofs.Counting.{countNode-is, countBody-is, count-is, stored-none}
 use Rattle.expand.specs.Meaning.{binaryKind}
 use Rattle.nodes.specs.Nodes.{IsNode, part, FirstNode, firstList, secondList, Lists}
-use Rattle.expand.specs.Steps.{Undoable, All, asSteps, WroteSteps, IsGroup, either, completed, repeats, BothLists, Room}
+use Rattle.expand.specs.Steps.{Undoable, asSteps, WroteSteps, IsGroup, either, completed, repeats, BothLists, Room}
 use Rattle.nodes.proofs.Nodes.{part-rest, part-length, FirstLeaf, leaf-node}
 use Rattle.expand.proofs.Shapes.{Shape, shape-of, bodyOf, at-least, both-within, block-is, group-body, binary-body, times-are, steps-are, repeats-some, first-stored, one-count, one-flat}
 use Rattle.expand.proofs.Steps.{length-records, records-append, all-flat, all-flatBody}

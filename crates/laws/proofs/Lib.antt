@@ -17,6 +17,7 @@ pub mod WellFormedInverses
 pub mod Walking
 pub mod Stored
 pub mod Heads
+pub mod GoodSteps
 -- What reading yields.
 pub mod InRange
 pub mod Readers
