@@ -1,8 +1,8 @@
--- What holds throughout lists holds throughout their parts and what they are put together to, and at each place. Assumes nothing.
+-- What holds throughout lists holds throughout their parts and throughout lists made of them, and at each place. Assumes nothing.
 use Prim.Native.Nat.{ℕ, zero, suc}
 use mathlib.Core.Path.{_≡_, sym, subst}
 use mathlib.Core.List.{List, [], _∷_, _++_}
-use mathlib.Core.Option.{some}
+use mathlib.Core.Option.{some, Option·some-injective}
 use lib.ListN.{getElem?}
 use Rattle.notation.specs.Unroll.{copies}
 use Rattle.laws.specs.All.{All, empty, one}
@@ -34,8 +34,5 @@ module _ {A : Type 0} {P : A → Type 0} where
 
   pub all-at : {l : List A} {x : A} (k : ℕ) → All P l → getElem? l k ≡ some x → P x
   all-at k empty e = no-some (sym e)
-  all-at zero (one h p) e = subst P (some-same e) h
-    where
-      some-same : {a b : A} → some a ≡ some b → a ≡ b
-      some-same e = cc
+  all-at {x = x} zero (one {x = y} h p) e = subst P (Option·some-injective y x e) h
   all-at (suc k) (one h p) e = all-at k p e

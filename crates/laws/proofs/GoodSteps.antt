@@ -34,7 +34,7 @@ pub record Good (text : List ℕ) (x : Leaf) : Type 0 where
   pub ok : leafOk text x ≡ true
   pub fits : FitsLeaf x
 
--- What holds throughout the lists of a tree that is not refused holds throughout what they are put together to.
+-- What holds throughout the lists of a tree that is not refused holds throughout what they unroll to together.
 module _ {L : Type 0} {P : L → Type 0} where
   all-reached : (n : ℕ) (q : Option ℕ) {l : List L} → ifReached n q ≡ none → (q ≡ none → All P l) → All P (copies n l)
   unfolding copies

@@ -1,7 +1,7 @@
 -- Records in reading order: a packed tree is the records of its heads, the record at each number is the head at that place, and what holds of
 -- every node holds of every head. Assumes nothing.
 use Prim.Native.Nat.{ℕ, zero, suc, _+_, _*_, _/_, _≤_, _<_}
-use mathlib.Core.Path.{_≡_, refl, sym, ap, _∙_, subst}
+use mathlib.Core.Path.{_≡_, sym, ap, _∙_, subst}
 use mathlib.Core.Bool.{true}
 use mathlib.Core.List.{List, [], _∷_, _++_, append-assoc, append-nil}
 use mathlib.Core.Option.{some}
@@ -86,7 +86,7 @@ head-at {tree} p k h =
     let long : length tree ≡ RECORD * size (unpack tree) = sym (ap length (p .whole)) ∙ length-pack (unpack tree) in
     run-at (tree-run p) k (omega (arith, heads-long (unpack tree)))
 
--- What a well-formed tree says of each of its records.
+-- what a well-formed tree's heads are: leaves that are well formed, and groups, of which nothing is asked here
 abbrev pub HeadOk : List ℕ → Head → Type 0
 HeadOk text (leafHead x) = leafOk text x ≡ true
 HeadOk text (groupHead k n m c) = Unit {0}
