@@ -2,14 +2,12 @@
 use Prim.Native.Nat.{ℕ, _+_, _-_, _/_, _%_, _≤_, _<_}
 use mathlib.Core.Path.{_≡_, sym, ap, _∙_, subst}
 use mathlib.Core.Bool.{true}
-use mathlib.Core.List.{List, [], _∷_, _++_, append-assoc, append-nil}
+use mathlib.Core.List.{List, [], _∷_, _++_}
 use native.Mathlib.Omega.{arith}
 use lib.ListN.{length, getD, take, length-append, length-drop}
 use lib.Seq.{drop-at}
 use Rattle.notation.specs.Tree.{Leaf, Step, Node, leaf, block, Body, group, binaryGroup, NodeList, nil, cons, Tree, mapNode, mapBody, mapNodes}
-use Rattle.notation.specs.Packed.{
-  RECORD, widths, cut, Head, leafHead, headFields, headRecord, bodyHead, packNode, packBody, pack, unpack
-}
+use Rattle.notation.specs.Packed.{RECORD, widths, cut, Head, leafHead, headFields, headRecord, bodyHead, unpack}
 use Rattle.notation.specs.Meaning.{stepOf, unspanned}
 use Rattle.notation.specs.WellFormed.{multiplierOk, nodeOk, bodyOk, treeOk}
 use Rattle.notation.specs.Print.{putMultiplier, putPrefix, putSeparator, putNode, putBody, putNodes, putOthers, printed}
@@ -17,52 +15,16 @@ use Rattle.notation.specs.declared.common.GroupKind.{GroupKind}
 use Rattle.notation.specs.declared.common.GroupKind.the-variants.{Simple, Macro, Simultaneous, Niss}
 use Rattle.notation.specs.declared.common.BinaryGroupKind.{BinaryGroupKind}
 use Rattle.notation.specs.declared.common.BinaryGroupKind.the-variants.{Commutator, Conjugate}
-use Rattle.record.specs.Range.{FitsHead}
-use Rattle.record.specs.Meaning.{field, formAt}
+use Rattle.record.specs.Meaning.{formAt}
 use Rattle.record.proofs.RoundTrip.{length-headRecord, cut-headRecord}
 use Rattle.laws.proofs.Bools.{and-left, and-right}
-use Rattle.laws.specs.Packed.{FitsNode, FitsBody, FitsTree}
-use Rattle.laws.specs.Packed.{Packed}
+use Rattle.laws.specs.Packed.{FitsNode, FitsBody, FitsTree, Packed}
+use Rattle.laws.specs.Heads.{nodeHeads, bodyHeads, heads}
+use Rattle.laws.proofs.Heads.{Run, ended, record-then, tree-run, run-room}
 use Rattle.display.specs.Bound.{allowed}
 use Rattle.nodes.specs.Nodes.{part}
 use Rattle.nodes.proofs.Nodes.{part-rest}
 use Rattle.display.proofs.Sizes.{formOf, leaf-size, body-size}
-
--- The records of a tree in reading order, in front of others.
-unfoldable mutual
-  nodeHeads : Node Leaf → List Head → List Head
-  nodeHeads (leaf x) hs = leafHead x ∷ hs
-  nodeHeads (block b m) hs = bodyHead b m ∷ bodyHeads b hs
-
-  bodyHeads : Body Leaf → List Head → List Head
-  bodyHeads (group k a) hs = heads a hs
-  bodyHeads (binaryGroup k a b) hs = heads a (heads b hs)
-
-  heads : Tree → List Head → List Head
-  heads nil hs = hs
-  heads (cons n l) hs = nodeHeads n (heads l hs)
-
--- bytes that are these records
-data Run : List Head → List ℕ → Type 0 where
-  ended : Run [] []
-  record-then : {h : Head} {hs : List Head} {bs : List ℕ} → FitsHead h → Run hs bs → Run (h ∷ hs) (headRecord h ++ bs)
-
-mutual
-  unfolding nodeHeads bodyHeads heads packNode packBody pack FitsNode FitsBody FitsTree
-  node-run : (n : Node Leaf) {hs : List Head} {bs : List ℕ} → FitsNode n → Run hs bs → Run (nodeHeads n hs) (packNode n ++ bs)
-  node-run (leaf x) f r = record-then f r
-  node-run (block b m) {hs} {bs} f r =
-      subst (Run (bodyHead b m ∷ bodyHeads b hs)) (sym (append-assoc (headRecord (bodyHead b m)) (packBody b) bs)) (record-then (f .0) (body-run b (f .1) r))
-
-  body-run : (b : Body Leaf) {hs : List Head} {bs : List ℕ} → FitsBody b → Run hs bs → Run (bodyHeads b hs) (packBody b ++ bs)
-  body-run (group k a) f r = list-run a f r
-  body-run (binaryGroup k a b) {hs} {bs} f r =
-      subst (Run (heads a (heads b hs))) (sym (append-assoc (pack a) (pack b) bs)) (list-run a (f .0) (list-run b (f .1) r))
-
-  list-run : (l : Tree) {hs : List Head} {bs : List ℕ} → FitsTree l → Run hs bs → Run (heads l hs) (pack l ++ bs)
-  list-run nil f r = r
-  list-run (cons n l) {hs} {bs} f r =
-      subst (Run (nodeHeads n (heads l hs))) (sym (append-assoc (packNode n) (pack l) bs)) (node-run n (f .0) (list-run l (f .1) r))
 
 -- None of the records has a layer set, and what is allowed for all of them is within so many bytes.
 unfoldable Sure : List Head → ℕ → Type 0
@@ -145,13 +107,9 @@ pub going-starts : (tree : List ℕ) (room : ℕ) → Packed tree → Going tree
 going-starts tree room p =
     record {
       rest = heads (unpack tree) [];
-      run = subst (Run (heads (unpack tree) [])) (append-nil (pack (unpack tree)) ∙ p .whole) (list-run (unpack tree) (p .fits) ended);
+      run = tree-run p;
       onward = λ s. s;
     }
-
-run-room : {hs : List Head} {bs : List ℕ} → Run hs bs → 0 < length bs → RECORD ≤ length bs
-run-room ended h = absurd (omega arith)
-run-room (record-then {h} {hs} {bs} f r) l = omega (arith, length-append (headRecord h) bs, length-headRecord h)
 
 module _ {tree t : List ℕ} {room left : ℕ} (g : Going tree t room left) where
   pub going-room : 0 < length t → RECORD ≤ length t

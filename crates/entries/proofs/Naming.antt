@@ -20,9 +20,10 @@ use Rattle.notation.specs.Entries.{
 use Rattle.record.specs.Meaning.{field, layersAt, kindAt, tildeAt, FAMILY, FAMILY-SIZE}
 use Rattle.record.proofs.Packed.{by-kind}
 use Rattle.laws.proofs.Bools.{and-left, and-right}
+use Rattle.laws.proofs.Heads.{HeadOk}
 use Rattle.checked.specs.Checked.{Accepted}
 use Rattle.checked.proofs.Outcomes.{Checks, refused}
-use Rattle.checked.proofs.Records.{HeadOk, prefix-ok, record-ok}
+use Rattle.checked.proofs.Records.{prefix-ok, record-ok}
 
 -- What a record names, by its kind: 6 is a rotation, 7 a move.
 module _ (bs : List ℕ) (k : ℕ) (e : k ≡ kindAt bs) where

@@ -12,7 +12,8 @@ use Rattle.record.specs.Range.{FitsLeaf}
 use Rattle.laws.specs.Packed.{FitsNode, FitsTree}
 use Rattle.laws.proofs.Packing.{unpack-pack}
 use Rattle.laws.specs.Unrolled.{backwards, flatNode, flat}
-use Rattle.expand.specs.Steps.{Undoable, All, none, one, asSteps, AreSteps, either, completed}
+use Rattle.laws.specs.All.{All, empty, one}
+use Rattle.expand.specs.Steps.{Undoable, asSteps, AreSteps, either, completed}
 use Rattle.expand.proofs.Steps.{records-append}
 use Rattle.expand.proofs.Undoing.{wrapped, wrapped-fits, wrapped-record, wrapped-undone-record}
 
@@ -28,7 +29,7 @@ listed-bytes (x ∷ l) = ap (λ (s : List ℕ). leafRecord x ++ s) (listed-bytes
 
 listed-fits : {l : List Leaf} → All FitsLeaf l → FitsTree (listed l)
 unfolding listed FitsTree FitsNode
-listed-fits none = tt
+listed-fits empty = tt
 listed-fits (one h p) = (h, listed-fits p)
 
 listed-flat : (l : List Leaf) → flat undo false (listed l) ≡ l
@@ -41,12 +42,12 @@ asSteps-records {l} p = ap asSteps (sym (listed-bytes l)) ∙ ap (flat undo fals
 
 -- steps that can be undone, as the records have them
 all-wrapped : {l : List Leaf} → All Undoable l → All FitsLeaf (map wrapped l)
-all-wrapped none = none
+all-wrapped empty = empty
 all-wrapped (one {x = x} h p) = one (wrapped-fits x h) (all-wrapped p)
 
 records-wrapped : {l : List Leaf} → All Undoable l → records (map wrapped l) ≡ records l
 unfolding records
-records-wrapped none = refl
+records-wrapped empty = refl
 records-wrapped (one {x = x} h p) = ap₂ (λ (a b : List ℕ). a ++ b) (wrapped-record x h) (records-wrapped p)
 
 -- the records of a step and more, backwards
@@ -55,7 +56,7 @@ unfolding records
 records-backwards x l = ap records (reverse-cons (undo x) (map undo l)) ∙ records-append (backwards l) (undo x ∷ [])
 
 backwards-wrapped : {l : List Leaf} → All Undoable l → records (backwards (map wrapped l)) ≡ records (backwards l)
-backwards-wrapped none = refl
+backwards-wrapped empty = refl
 backwards-wrapped (one {x = x} {l = l} h p) =
     records-backwards (wrapped x) (map wrapped l)
     ∙ ap₂ (λ (a b : List ℕ). a ++ (b ++ [])) (backwards-wrapped p) (wrapped-undone-record x h)

@@ -21,6 +21,7 @@ use Rattle.notation.specs.declared.common.GroupKind.the-variants.{Simple}
 use Rattle.record.specs.Meaning.{field, kindAt, NUMBER, COUNT}
 use Rattle.numbers.specs.Sign.{isNegative}
 use Rattle.notation.proofs.Marked.{length-copies}
+use Rattle.laws.specs.All.{All}
 use Rattle.laws.specs.Packed.{FitsNode, FitsBody, FitsTree}
 use Rattle.laws.specs.Packed.{Packed}
 use Rattle.laws.proofs.Walking.{no-node}
@@ -29,7 +30,7 @@ use Rattle.laws.proofs.Unrolling.{long-backwards, flatBody-backwards, flat-back
 use Rattle.laws.proofs.Counting.{countNode-is, countBody-is, count-is, stored-none}
 use Rattle.expand.specs.Meaning.{binaryKind}
 use Rattle.nodes.specs.Nodes.{IsNode, part, FirstNode, firstList, secondList, Lists}
-use Rattle.expand.specs.Steps.{Undoable, All, asSteps, WroteSteps, IsGroup, bodyOf, firstBody, either, completed, BothLists, Front}
+use Rattle.expand.specs.Steps.{Undoable, asSteps, WroteSteps, IsGroup, bodyOf, firstBody, either, completed, BothLists, Front}
 use Rattle.nodes.proofs.Nodes.{part-rest, part-length, alone, FirstLeaf, leaf-node}
 use Rattle.expand.proofs.Shapes.{Shape, shape-of, at-least, both-within, block-is, group-body, binary-body, times-are, steps-are, repeats-some, first-stored, one-count, one-flat}
 use Rattle.expand.proofs.Steps.{length-records, records-append, records-copies, all-flat, all-flatBody}

@@ -20,7 +20,9 @@ use Rattle.record.specs.Range.{FitsNumber, FitsLeaf}
 use Rattle.record.proofs.RoundTrip.{length-headRecord}
 use Rattle.laws.specs.Packed.{FitsNode, FitsBody, FitsTree}
 use Rattle.laws.specs.Unrolled.{flatBinary, flatNode, flatBody, flat}
-use Rattle.expand.specs.Steps.{Small, Undoable, All, none, one}
+use Rattle.laws.specs.All.{All, empty, one}
+use Rattle.laws.proofs.All.{all-append, all-copies}
+use Rattle.expand.specs.Steps.{Small, Undoable}
 
 pub length-records : (l : List Leaf) → length (records l) ≡ RECORD * length l
 unfolding records
@@ -36,30 +38,6 @@ pub records-copies : (n : ℕ) (l : List Leaf) → records (copies n l) ≡ copi
 unfolding records copies
 records-copies zero l = refl
 records-copies (suc n) l = records-append l (copies n l) ∙ ap (λ (s : List ℕ). records l ++ s) (records-copies n l)
-
--- Lists of which something holds throughout.
-pub all-append : {P : Leaf → Type 0} {a b : List Leaf} → All P a → All P b → All P (a ++ b)
-all-append none q = q
-all-append (one h p) q = one h (all-append p q)
-
-pub all-head : {P : Leaf → Type 0} {x : Leaf} {l : List Leaf} → All P (x ∷ l) → P x
-all-head (one h p) = h
-
-pub all-tail : {P : Leaf → Type 0} {x : Leaf} {l : List Leaf} → All P (x ∷ l) → All P l
-all-tail (one h p) = p
-
-pub all-left : {P : Leaf → Type 0} (a b : List Leaf) → All P (a ++ b) → All P a
-all-left [] b p = none
-all-left (x ∷ a) b (one h p) = one h (all-left a b p)
-
-pub all-right : {P : Leaf → Type 0} (a : List Leaf) {b : List Leaf} → All P (a ++ b) → All P b
-all-right [] p = p
-all-right (x ∷ a) (one h p) = all-right a p
-
-all-copies : {P : Leaf → Type 0} (n : ℕ) {l : List Leaf} → All P l → All P (copies n l)
-unfolding copies
-all-copies zero p = none
-all-copies (suc n) p = all-append p (all-copies n p)
 
 -- Steps that can be undone.
 pub small-opposite : {z : ℤ} → Small z → Small (negℤ z)
@@ -96,8 +74,8 @@ all-binary Commutator true a b p q = all-append (q false) (all-append (p false) 
 all-binary Conjugate d a b p q = all-append (p false) (all-append (q d) (p true))
 
 all-leaf : (d : Bool) (x : Leaf) → FitsLeaf x → All Undoable (pick d (undo x) x ∷ [])
-all-leaf true x f = one (undo-undoable x (fits-undoable x f)) none
-all-leaf false x f = one (fits-undoable x f) none
+all-leaf true x f = one (undo-undoable x (fits-undoable x f)) empty
+all-leaf false x f = one (fits-undoable x f) empty
 
 mutual
   unfolding FitsNode FitsBody FitsTree flatNode flatBody flat
@@ -111,6 +89,6 @@ mutual
   all-flatBody (binaryGroup k a b) d f = all-binary k d (λ e. flat undo e a) (λ e. flat undo e b) (λ e. all-flat a e (f .0)) (λ e. all-flat b e (f .1))
 
   pub all-flat : (t : Tree) (d : Bool) → FitsTree t → All Undoable (flat undo d t)
-  all-flat nil d f = none
+  all-flat nil d f = empty
   all-flat (cons n l) true f = all-append (all-flat l true (f .1)) (all-flatNode n true (f .0))
   all-flat (cons n l) false f = all-append (all-flatNode n false (f .0)) (all-flat l false (f .1))

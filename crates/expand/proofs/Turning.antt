@@ -14,12 +14,14 @@ use Rattle.record.specs.Range.{FitsLeaf}
 use Rattle.record.specs.Undone.{StartsRecord, undoneHead}
 use Rattle.record.proofs.RoundTrip.{length-headRecord}
 use Rattle.record.proofs.Undoing.{Undone, head-with, starts-with, undone-with}
+use Rattle.laws.specs.All.{All}
+use Rattle.laws.proofs.All.{all-head, all-tail, all-left, all-right}
 use Rattle.laws.specs.Unrolled.{backwards}
 use Rattle.laws.proofs.Unrolling.{backwards-append, long-backwards}
 use Rattle.nodes.specs.Nodes.{part}
-use Rattle.expand.specs.Steps.{All, asSteps, AreSteps, lastOf, undoneRecord}
+use Rattle.expand.specs.Steps.{asSteps, AreSteps, lastOf, undoneRecord}
 use Rattle.expand.proofs.Parts.{Three, from-part, the-part, put-part}
-use Rattle.expand.proofs.Steps.{length-records, records-append, all-head, all-tail, all-left, all-right}
+use Rattle.expand.proofs.Steps.{length-records, records-append}
 use Rattle.expand.proofs.AsSteps.{records-backwards}
 
 -- Bytes with a record at either end.

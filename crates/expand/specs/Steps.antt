@@ -2,7 +2,7 @@
 use Prim.Native.Nat.{ℕ, _-_, _*_, _/_, _≤_}
 use mathlib.Core.Path.{_≡_}
 use mathlib.Core.Bool.{Bool, false}
-use mathlib.Core.List.{List, [], _∷_, _++_}
+use mathlib.Core.List.{List, _++_}
 use lib.IntN.{ℤ, natAbs}
 use lib.ListN.{length, take, drop}
 use Rattle.notation.specs.Basics.{pick}
@@ -13,6 +13,7 @@ use Rattle.notation.specs.Invert.{undo}
 use Rattle.record.specs.Meaning.{field, kindAt}
 use Rattle.record.specs.Range.{FitsFamily, FitsConstraints, FitsLayers, FitsLeaf}
 use Rattle.record.specs.Undone.{undoneHead}
+use Rattle.laws.specs.All.{All}
 use Rattle.laws.specs.Unrolled.{backwards, flatBinary, flat}
 use Rattle.notation.specs.Counts.{countBinary}
 use Rattle.notation.specs.declared.common.GroupKind.the-variants.{Simple}
@@ -31,11 +32,6 @@ Undoable pause = Unit {0}
 Undoable (pair u d) = Small u × Small d
 Undoable slash = Unit {0}
 Undoable (megaminx k) = Unit {0}
-
--- something that holds of every step
-pub data All (P : Leaf → Type 0) : List Leaf → Type 0 where
-  none : All P []
-  one : {x : Leaf} {l : List Leaf} → P x → All P l → All P (x ∷ l)
 
 -- the steps whose records bytes are, with the numbers that the records have: what the bytes unroll into, since a list of steps
 -- unrolls into itself

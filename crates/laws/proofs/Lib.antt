@@ -2,6 +2,7 @@
 pub mod Outcomes
 pub mod Bools
 pub mod ListEntries
+pub mod All
 -- Unrolling, inverses, counting, seeking.
 pub mod Unrolling
 pub mod Inverses
@@ -19,6 +20,8 @@ pub mod Packing
 pub mod WellFormedInverses
 pub mod Walking
 pub mod Stored
+pub mod Heads
+pub mod GoodSteps
 -- What reading yields.
 pub mod InRange
 pub mod Readers

@@ -153,6 +153,13 @@ unpackFrom-pack (suc k) t = deeper k (λ t. unpackFrom-pack k t) t
 pub unpack-pack : (t : Tree) → FitsTree t → unpack (pack t) ≡ t
 unpack-pack t f = unpackFrom-pack (length (pack t)) t f (omega (arith, length-pack t))
 
+-- A multiplier in bounds fits its field.
+pub number-fits : (m : ℤ) → multiplierOk m ≡ true → FitsNumber m
+number-fits (pos n) h = h
+number-fits (negsuc n) h =
+    let e : suc n < 2147483648 = ltb-true (suc n) 2147483648 h in
+    lt-ltb n 2147483648 (omega arith)
+
 -- A tree in bounds over a text within the limit fits its records.
 module _ (text : List ℕ) (short : length text ≤ MAX-TEXT) where
   span-fits : (p : Span) → inside text p ≡ true → FitsSpan p
@@ -183,12 +190,6 @@ module _ (text : List ℕ) (short : length text ≤ MAX-TEXT) where
       let d : i ≤ j = leb-true i j (and-right (leb 1 i) _ (and-left _ _ h)) in
       (omega arith, omega arith)
   layers-fit (layerSet p) h = span-fits p (and-left _ _ h)
-
-  number-fits : (m : ℤ) → multiplierOk m ≡ true → FitsNumber m
-  number-fits (pos n) h = h
-  number-fits (negsuc n) h =
-      let e : suc n < 2147483648 = ltb-true (suc n) 2147483648 h in
-      lt-ltb n 2147483648 (omega arith)
 
   leaf-fits : (x : Leaf) → leafOk text x ≡ true → leafFits x ≡ true → FitsLeaf x
   unfolding leafOk leafFits

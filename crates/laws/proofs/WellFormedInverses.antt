@@ -1,30 +1,44 @@
 -- The inverses of a well-formed tree are well formed over the same text: leaves and multipliers stay in bounds, sizes, nesting and step counts
--- stay as they are. Assumes nothing.
-use Prim.Native.Nat.{ℕ, suc, _+_, _*_, max}
+-- stay as they are. Leaves that do not overflow keep fitting their records. Assumes nothing.
+use Prim.Native.Nat.{ℕ, suc, _+_, _*_, _<_, max}
 use mathlib.Core.Path.{_≡_, refl, ap, ap₂, _∙_}
-use mathlib.Core.Bool.{Bool, true}
+use mathlib.Core.Bool.{Bool, true, false, _&&_}
 use mathlib.Core.List.{List}
 use native.Mathlib.Omega.{arith}
+use borrow.Author.Tests.{ltb-true, lt-ltb, eqb-false}
 use lib.Dec.{ltb}
-use lib.IntN.{ℤ, negℤ, natAbs}
+use lib.IntN.{ℤ, pos, negsuc, negℤ, natAbs}
 use Rattle.notation.specs.Basics.{pick}
 use Rattle.notation.specs.Tree.{Leaf, rotation, move, pause, pair, slash, megaminx, Node, leaf, block, Body, group, binaryGroup, nil, cons, append, Tree}
 use Rattle.notation.specs.Packed.{nodeSize, bodySize, size}
-use Rattle.notation.specs.WellFormed.{multiplierOk, leafOk, nodeOk, bodyOk, treeOk, nodeDepth, bodyDepth, depth}
-use Rattle.notation.specs.Invert.{undo}
+use Rattle.notation.specs.WellFormed.{familyOk, constraintsOk, layersOk, multiplierOk, leafOk, nodeOk, bodyOk, treeOk, nodeDepth, bodyDepth, depth}
+use Rattle.notation.specs.Invert.{undo, isMin, overflows}
 use Rattle.notation.specs.Unroll.{isNiss}
 use Rattle.notation.specs.Counts.{countNode, countBody, count}
 use Rattle.notation.specs.declared.common.BinaryGroupKind.the-variants.{Commutator, Conjugate}
 use Rattle.numbers.proofs.TwosComplement.{natAbs-neg}
-use Rattle.laws.proofs.Bools.{and-left, and-right, and-both}
+use Rattle.record.specs.Range.{FitsNumber, FitsLeaf}
+use Rattle.laws.proofs.Bools.{and-left, and-right, and-both, or-false}
+use Rattle.laws.proofs.Packing.{number-fits}
 use Rattle.laws.specs.Inverted.{inverted, invertedNode, deeply, deeplyNode, deeplyBody}
 use Rattle.laws.proofs.Inverses.{niss-deeply}
 
 pub multiplier-neg : (m : ℤ) → multiplierOk (negℤ m) ≡ multiplierOk m
 multiplier-neg m = ap (λ (n : ℕ). ltb n 2147483648) (natAbs-neg m)
 
+-- numbers negated fit their field: a multiplier in bounds, and a number of a pair that is not −2147483648, which is in the same bounds
+pub negated-fits : (m : ℤ) → multiplierOk m ≡ true → FitsNumber (negℤ m)
+negated-fits m h = number-fits (negℤ m) (multiplier-neg m ∙ h)
+
+pub not-min-ok : (u : ℤ) → isMin u ≡ false → FitsNumber u → multiplierOk u ≡ true
+not-min-ok (pos n) h f = f
+not-min-ok (negsuc n) h f =
+    let e : n < 2147483648 = ltb-true n 2147483648 f in
+    let d : (n ≡ 2147483647 → ⊥) = eqb-false n 2147483647 h in
+    lt-ltb (suc n) 2147483648 (omega arith)
+
 -- undoing keeps a leaf in bounds
-undo-ok : (text : List ℕ) (x : Leaf) → leafOk text (undo x) ≡ leafOk text x
+pub undo-ok : (text : List ℕ) (x : Leaf) → leafOk text (undo x) ≡ leafOk text x
 unfolding leafOk
 undo-ok text (rotation f c m) = rw (multiplier-neg m)
 undo-ok text (move t l f c m) = rw (multiplier-neg m)
@@ -32,6 +46,19 @@ undo-ok text pause = refl
 undo-ok text (pair u d) = refl
 undo-ok text slash = refl
 undo-ok text (megaminx k) = refl
+
+-- and within its record, where it does not overflow
+pub undone-fits : (text : List ℕ) (x : Leaf) → leafOk text x ≡ true → overflows x ≡ false → FitsLeaf x → FitsLeaf (undo x)
+unfolding leafOk
+undone-fits text (rotation f c m) h o (a, b, n) = (a, b, negated-fits m (and-right (familyOk text 0 f && constraintsOk text c) _ h))
+undone-fits text (move t l f c m) h o (e, a, b, n) =
+    (e, a, b, negated-fits m (and-right (layersOk text l && familyOk text 1 f && constraintsOk text c) _ h))
+undone-fits text pause h o f = tt
+undone-fits text (pair u d) h o (a, b) =
+    let e = or-false (isMin u) (isMin d) o in
+    (negated-fits u (not-min-ok u (e .0) a), negated-fits d (not-min-ok d (e .1) b))
+undone-fits text slash h o f = tt
+undone-fits text (megaminx k) h o f = tt
 
 -- what a list's nodes give one after another, for a sum, a maximum or a test of all of them
 pub ok-append : (text : List ℕ) (a b : Tree) → treeOk text a ≡ true → treeOk text b ≡ true → treeOk text (append a b) ≡ true

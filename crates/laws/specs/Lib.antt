@@ -6,3 +6,6 @@ pub mod Weights
 pub mod Folds
 pub mod Opened
 pub mod Packed
+pub mod Heads
+-- What holds throughout a list.
+pub mod All

@@ -1,6 +1,6 @@
 pub mod Lending
 pub mod Sizes
-pub mod GoodSteps
+pub mod Sought
 pub mod Fields
 pub mod StepLoop
 pub mod FirstLine

@@ -17,8 +17,9 @@ use Rattle.notation.specs.Tilde.{prefixAt, LightsOthers}
 use Rattle.complement_laws.proofs.Complement.{opposite}
 use Rattle.laws.proofs.Bools.{and-left}
 use Rattle.laws.proofs.Outcomes.{same-result, after, test-holds}
+use Rattle.laws.proofs.Heads.{HeadOk}
 use Rattle.checked.proofs.Outcomes.{checked-accepted}
-use Rattle.checked.proofs.Records.{HeadOk, prefix-ok, record-ok}
+use Rattle.checked.proofs.Records.{prefix-ok, record-ok}
 use Rattle.tilde_laws.proofs.OnAxis.{ranges-on-axis, same-ranges}
 
 -- a move of an accepted tree

@@ -9,8 +9,9 @@ use Rattle.notation.specs.Numbers.{show}
 use Rattle.notation.specs.Packed.{RECORD}
 use Rattle.notation.specs.Meaning.{stepOf}
 use Rattle.notation.specs.Print.{putStep}
+use Rattle.checked.proofs.Played.{there}
 use Rattle.listing.proofs.Fields.{wrote-to, wrote-line}
-use Rattle.listing.proofs.GoodSteps.{there, sought}
+use Rattle.listing.proofs.Sought.{sought}
 use Rattle.listing.proofs.lines.step_line.Statement.{statement}
 use Rattle.listing.proofs.lines.step_line.Tie as tie
 
@@ -39,7 +40,7 @@ node-list-requires c κs =
     let a = start .args in
     let p = start .pre .1 in
     let t = there (a .text .now) (a .tree .now) (p .0) (p .1) (a .place) (p .2) in
-    let x = sought (a .text .now) (a .tree .now) (replicate RECORD 0) _ (p .0) (a .place) (p .1) (p .2) (omega (arith, length-replicate {0} {A = ℕ} RECORD 0)) (s .seek .ensures) (t .step) (t .is) in
+    let x = sought (a .text .now) (a .tree .now) (replicate RECORD 0) _ (p .0) (a .place) (p .1) (omega (arith, length-replicate {0} {A = ℕ} RECORD 0)) (s .seek .ensures) (t .step) (t .is) in
     (omega (arith, c .before .before .before .before .put .ensures .counts), (x .packedStep, x .ok))
 
 put-requires-2 : tie.Need-put-requires-2
@@ -58,7 +59,7 @@ returns c = λ x i.
     let start = k .before .before .before .before .before in
     let a = start .args in
     let p = start .pre .1 in
-    let e = sought (a .text .now) (a .tree .now) (replicate RECORD 0) _ (p .0) (a .place) (p .1) (p .2) (omega (arith, length-replicate {0} {A = ℕ} RECORD 0)) (k .seek .ensures) x i in
+    let e = sought (a .text .now) (a .tree .now) (replicate RECORD 0) _ (p .0) (a .place) (p .1) (omega (arith, length-replicate {0} {A = ℕ} RECORD 0)) (k .seek .ensures) x i in
     wrote-line (show (a .place) []) (putStep (stepOf (a .text .now) x) []) (e .prints []) (wrote-to (show (a .place) []) refl (w .put-number .ensures)) (s .put .ensures) (v .node-list .ensures) (n .put2 .ensures)
 
 pub step-line-spec : {M : Type 1} → statement M

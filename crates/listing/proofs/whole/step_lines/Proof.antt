@@ -7,7 +7,7 @@ use Rattle.notation.specs.Packed.{unpack}
 use Rattle.notation.specs.Invert.{undo}
 use Rattle.laws.specs.Unrolled.{flat}
 use Rattle.laws.proofs.Counting.{count-is}
-use Rattle.listing.proofs.GoodSteps.{there}
+use Rattle.checked.proofs.Played.{there}
 use Rattle.listing.proofs.StepLoop.{Listed, listed-starts, listed-goes-on, listed-all}
 use Rattle.listing.proofs.whole.step_lines.Statement.{statement}
 use Rattle.listing.proofs.whole.step_lines.Tie as tie
