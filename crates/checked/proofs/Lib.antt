@@ -1,3 +1,4 @@
 pub mod Outcomes
+pub mod Counting
 pub mod Records
 pub mod Played

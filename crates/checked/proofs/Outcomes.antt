@@ -1,7 +1,7 @@
 -- What every entry comes to, case by case: a text or a tree that is refused, a buffer too short, a result. Assumes nothing.
 use Prim.Native.Nat.{ℕ, _≤_, _<_}
 use mathlib.Core.Path.{_≡_, refl, sym, ap, _∙_}
-use mathlib.Core.Bool.{true, false}
+use mathlib.Core.Bool.{Bool, true, false}
 use mathlib.Core.List.{List, _++_}
 use borrow.Author.Tests.{le-leb, lt-leb}
 use lib.ListN.{length, drop}
@@ -11,31 +11,41 @@ use Rattle.notation.specs.Tree.{Tree}
 use Rattle.notation.specs.Packed.{unpack}
 use Rattle.notation.specs.Counts.{cap, count}
 use Rattle.notation.specs.WellFormed.{wellFormed}
-use Rattle.notation.specs.Entries.{lend, checked, refusalNumber, value, MAX-TEXT}
+use Rattle.notation.specs.Lending.{lend, outcome, refusalNumber, value}
+use Rattle.notation.specs.Entries.{checked, MAX-TEXT}
+use Rattle.notation.specs.declared.answer.Answer.the-variants.{Value, Refused}
 use Rattle.numbers.proofs.Positional.{Below}
 use Rattle.laws.proofs.Bools.{no-refusal}
 use Rattle.laws.proofs.Packing.{well-formed-below}
 use Rattle.laws.proofs.Accepting.{checked-tree}
 use Rattle.well_formed.proofs.Bytes.{accepted as well-formed-tree}
-use Rattle.checked.specs.Checked.{Accepted, checkedSteps}
+use Rattle.laws.specs.Unrolled.{firstRefusal}
+use Rattle.well_formed.specs.Refusing as of
+use Rattle.well_formed.specs.declared.refusals.Refusals.{Refusals}
+use Rattle.checked.specs.declared.Checked.{Checked}
+use Rattle.checked.specs.Checked.{Accepted, Found, Checks, checkedSteps}
 
--- What `check` promises of its answer.
-abbrev pub Checks : List ℕ → List ℕ → Outcome ℕ → Type 0
-Checks text tree o = (o ≡ checkedSteps text tree) × ((n : ℕ) → o ≡ result n → Accepted text tree)
+-- What `check` promises of its answer, in two parts as its contract has them.
+abbrev Answers : List ℕ → List ℕ → Checked → Type 0
+Answers text tree c = (outcome (c .answer) ≡ checkedSteps text tree) × ((n : ℕ) → outcome (c .answer) ≡ result n → Found text tree (c .met))
+
+pub checks : {text tree : List ℕ} {c : Checked} → Answers text tree c → Checks text tree c
+checks a = record { answer = a .0; found = a .1 }
 
 module _ (text tree : List ℕ) where
-  refuses : (r : ℕ) → checked text tree ≡ refusal r → Checks text tree (refusal r)
-  refuses r e = (rw e, λ n q. no-refusal q)
+  refuses : (r : ℕ) → checked text tree ≡ refusal r → (c : Checked) → c .answer ≡ Refused r → Answers text tree c
+  refuses r e c q = (ap outcome q ∙ rw e, λ n z. no-refusal (sym (ap outcome q) ∙ z))
 
-  pub too-long : MAX-TEXT < length text → Checks text tree (refusal TOO-LONG)
+  pub too-long : MAX-TEXT < length text → (c : Checked) → c .answer ≡ Refused TOO-LONG → Answers text tree c
   unfolding checked
   too-long h = refuses TOO-LONG (rw (lt-leb (length text) MAX-TEXT h))
 
-  pub not-utf8 : length text ≤ MAX-TEXT → utf8 text ≡ false → Checks text tree (refusal NOT-UTF8)
+  pub not-utf8 : length text ≤ MAX-TEXT → utf8 text ≡ false → (c : Checked) → c .answer ≡ Refused NOT-UTF8 → Answers text tree c
   unfolding checked
   not-utf8 h u = refuses NOT-UTF8 (rw (le-leb (length text) MAX-TEXT h, u))
 
-  pub not-well-formed : length text ≤ MAX-TEXT → utf8 text ≡ true → wellFormed text tree ≡ false → Checks text tree (refusal NOT-WELL-FORMED)
+  pub not-well-formed : length text ≤ MAX-TEXT → utf8 text ≡ true → wellFormed text tree ≡ false →
+      (c : Checked) → c .answer ≡ Refused NOT-WELL-FORMED → Answers text tree c
   unfolding checked
   not-well-formed h u w = refuses NOT-WELL-FORMED (rw (le-leb (length text) MAX-TEXT h, u, w))
 
@@ -43,11 +53,13 @@ module _ (text tree : List ℕ) where
   unfolding checked
   is-checked h u w = rw (le-leb (length text) MAX-TEXT h, u, w)
 
-  pub is-accepted : Below 256 tree → length text ≤ MAX-TEXT → utf8 text ≡ true → wellFormed text tree ≡ true → (n : ℕ) → n ≡ cap (count (unpack tree)) → Checks text tree (result n)
-  is-accepted b h u w n e =
+  pub is-accepted : Below 256 tree → length text ≤ MAX-TEXT → utf8 text ≡ true → wellFormed text tree ≡ true →
+      (n : ℕ) → n ≡ cap (count (unpack tree)) → (met : Refusals) → of.refuses met ≡ (λ (d : Bool). firstRefusal d (unpack tree)) →
+      Answers text tree (record { answer = Value n; met = met })
+  is-accepted b h u w n e met m =
       let is = is-checked h u w in
       let a = well-formed-tree text tree b w in
-      (rw (is, e), λ k q. record { short = h; packed = a .packed; ok = a .ok; is = is })
+      (rw (is, e), λ k q. record { accepted = record { short = h; packed = a .packed; ok = a .ok; is = is }; meets = m })
 
   -- a tree that the rule accepts is accepted
   pub checked-accepted : (t : Tree) → checked text tree ≡ result t → Accepted text tree
@@ -61,11 +73,14 @@ pub record Known (text tree : List ℕ) (n : ℕ) : Type 0 where
   pub accepted : Accepted text tree
   pub steps : n ≡ cap (count (unpack tree))
 
-module _ {text tree : List ℕ} {o : Outcome ℕ} (c : Checks text tree o) where
+module _ {text tree : List ℕ} {k : Checked} (c : Checks text tree k) where
+  abbrev o : Outcome ℕ
+  o = outcome (k .answer)
+
   pub known : {n : ℕ} → o ≡ result n → Known text tree n
   known {n} q =
-      let s = c .1 n q in
-      let w : o ≡ result (cap (count (unpack tree))) = rw (s .is) at (c .0) in
+      let s = c .found n q .accepted in
+      let w : o ≡ result (cap (count (unpack tree))) = rw (s .is) at (c .answer) in
       record { accepted = s; steps = ap value (sym q ∙ w) }
 
   pub refused : {r : ℕ} → o ≡ refusal r → checked text tree ≡ refusal r
@@ -73,10 +88,10 @@ module _ {text tree : List ℕ} {o : Outcome ℕ} (c : Checks text tree o) where
     where
       go : (p : Outcome Tree) → checked text tree ≡ p → checked text tree ≡ refusal r
       go (refusal k) z =
-          let w : o ≡ refusal k = rw z at (c .0) in
+          let w : o ≡ refusal k = rw z at (c .answer) in
           z ∙ ap refusal (ap refusalNumber (sym w ∙ q))
       go (result t) z =
-          let w : o ≡ result (cap (count t)) = rw z at (c .0) in
+          let w : o ≡ result (cap (count t)) = rw z at (c .answer) in
           no-refusal (sym q ∙ w)
 
 -- Lent buffers.

@@ -1,4 +1,4 @@
--- What counting, unrolling and seeking come to, case by case. Assumes nothing.
+-- What unrolling and seeking come to, case by case. Assumes nothing.
 use Prim.Native.Nat.{ℕ, zero, suc, _*_, _≤_, _<_}
 use mathlib.Core.Path.{_≡_, refl, sym, ap, _∙_}
 use mathlib.Core.Bool.{Bool, true, false}
@@ -19,61 +19,12 @@ use Rattle.laws.proofs.ListEntries.{get-past, get-within}
 use Rattle.laws.specs.Unrolled.{flat, firstRefusal}
 use Rattle.laws.proofs.Unrolling.{flatten-is}
 use Rattle.laws.proofs.Counting.{count-is}
-use Rattle.expand.specs.declared.visit.Refusals.{Refusals}
-use Rattle.expand.specs.Meaning.{refusalOf, refuses}
 use Rattle.expand.specs.Places.{stepIn, found}
 use Rattle.expand.specs.Steps.{WroteSteps}
 use Rattle.expand.proofs.Steps.{length-records}
-use Rattle.checked.specs.Checked.{Accepted, Counted}
+use Rattle.checked.specs.Checked.{Counted}
 use Rattle.laws.proofs.Bools.{no-refusal}
-use Rattle.checked.proofs.Outcomes.{Checks, refused, lend-refused, lend-handed, lend-short, lend-fits}
-
--- What `count_steps` promises of its answer.
-pub record Counts (text tree : List ℕ) (o : Outcome ℕ) : Type 0 where
-  pub answer : o ≡ countSteps text tree
-  pub counted : (n : ℕ) → o ≡ result n → Counted text tree n
-
-refused-as : (text tree : List ℕ) {o : Outcome ℕ} (r : ℕ) → o ≡ refusal r → steps text tree ≡ refusal r → Counts text tree o
-refused-as text tree r q e = record { answer = rw (q, e); counted = λ n p. no-refusal (sym q ∙ p) }
-
-pub count-unaccepted : {text tree : List ℕ} {o : Outcome ℕ} {r : ℕ} → Checks text tree o → o ≡ refusal r → Counts text tree o
-unfolding steps
-count-unaccepted {text} {tree} {o} {r} c q = refused-as text tree r q (rw (refused c q))
-
-module _ (text tree : List ℕ) (accepted : Accepted text tree) (s : Refusals) (e : refuses s ≡ (λ (d : Bool). firstRefusal d (unpack tree))) where
-  met : refusalOf (s .forward) ≡ firstRefusal false (unpack tree)
-  met = ap (λ (f : Bool → Option ℕ). f false) e
-
-  unmet : s .forward ≡ 0 → firstRefusal false (unpack tree) ≡ none
-  unmet z = sym met ∙ ap refusalOf z
-
-  met-some : (s .forward ≡ 0 → ⊥) → firstRefusal false (unpack tree) ≡ some (s .forward)
-  met-some h = sym met ∙ go (s .forward) h
-    where
-      go : (r : ℕ) → (r ≡ 0 → ⊥) → refusalOf r ≡ some r
-      go zero h = absurd (h refl)
-      go (suc r) h = refl
-
-  pub count-refused : (s .forward ≡ 0 → ⊥) → Counts text tree (refusal (s .forward))
-  unfolding steps
-  count-refused h = refused-as text tree (s .forward) refl (rw (accepted .is, flatten-is (unpack tree) false, met-some h))
-
-  module _ (n : ℕ) (capped : n ≡ cap (count (unpack tree))) (z : s .forward ≡ 0) where
-    pub count-many : MAX-STEPS < n → Counts text tree (refusal TOO-MANY-STEPS)
-    unfolding steps
-    count-many h =
-        refused-as text tree TOO-MANY-STEPS refl
-        (rw (accepted .is, flatten-is (unpack tree) false, unmet z, count-is (unpack tree) false, lt-leb (count (unpack tree)) MAX-STEPS (omega arith)))
-
-    pub count-done : n ≤ MAX-STEPS → Counts text tree (result n)
-    unfolding steps
-    count-done h =
-        let most : count (unpack tree) ≤ MAX-STEPS = omega arith in
-        let is : n ≡ count (unpack tree) = omega arith in
-        record {
-          answer = rw (accepted .is, flatten-is (unpack tree) false, unmet z, count-is (unpack tree) false, le-leb (count (unpack tree)) MAX-STEPS most, is) (ap result (sym (count-is (unpack tree) false)));
-          counted = λ m q. record { accepted = accepted; unrefused = unmet z; steps = sym (ap value q) ∙ is; most = let v : n ≡ m = ap value q in omega arith };
-        }
+use Rattle.checked.proofs.Outcomes.{lend-refused, lend-handed, lend-short, lend-fits}
 
 -- Where the count is refused, unrolling and seeking are; the answer is handed on as it is.
 module _ (text tree : List ℕ) (o : Outcome ℕ) (e : o ≡ countSteps text tree) (r : ℕ) (q : o ≡ refusal r) (buffer : List ℕ) where

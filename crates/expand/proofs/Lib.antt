@@ -1,6 +1,5 @@
 -- What the proofs of several functions use.
 pub mod Shapes
-pub mod Visiting
 pub mod Counting
 pub mod Steps
 pub mod Undoing

@@ -18,7 +18,8 @@ use Rattle.notation.specs.declared.common.BinaryGroupKind.{BinaryGroupKind}
 use Rattle.notation.specs.declared.common.BinaryGroupKind.the-variants.{Commutator, Conjugate}
 use Rattle.laws.proofs.Bools.{no-refusal}
 use Rattle.laws.specs.Unrolled.{flatNode, flatBody, flat, refusalNode}
-use Rattle.laws.specs.Weights.{total, weightNode, weightBody, weight}
+use Rattle.notation.specs.Basics.{total}
+use Rattle.laws.specs.Weights.{weightNode, weightBody, weight}
 use Rattle.laws.proofs.Unrolling.{verdict, flattenNode-is}
 use Rattle.laws.proofs.Weights.{weightNode-is, weightBody-is, weight-is}
 

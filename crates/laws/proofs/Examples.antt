@@ -10,7 +10,8 @@ use Rattle.notation.specs.Unroll.{copies, flattenNode, flattenBody, flattenNode
 use Rattle.notation.specs.Counts.{countNode, countBody, count}
 use Rattle.notation.specs.declared.common.GroupKind.the-variants.{Simple, Niss}
 use Rattle.notation.specs.declared.common.BinaryGroupKind.the-variants.{Commutator, Conjugate}
-use Rattle.laws.specs.Weights.{total, weightNode, weightBody, weight}
+use Rattle.notation.specs.Basics.{total}
+use Rattle.laws.specs.Weights.{weightNode, weightBody, weight}
 use Rattle.laws.specs.Folds.{again, foldNode, foldBody, foldNodes}
 use Rattle.laws.specs.Opened.{playedNode, playedBody, played, opened}
 

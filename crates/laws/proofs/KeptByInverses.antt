@@ -17,11 +17,11 @@ use Rattle.notation.specs.Meaning.{stepOf, unspanned}
 use Rattle.notation.specs.Invert.{undo, isMin}
 use Rattle.notation.specs.declared.features.Features.{Features}
 use Rattle.numbers.proofs.TwosComplement.{natAbs-neg}
-use Rattle.laws.proofs.Bools.{and-left, and-right, and-both, not-true, false-true}
+use Rattle.laws.proofs.Bools.{and-left, and-right, and-both, or-false, not-true}
 use Rattle.laws.specs.Inverted.{inverted, invRefusal}
 use Rattle.laws.proofs.Reached.{negatable, cleanNode, cleanNodes, clean, first-left, first-right, unrefused}
 use Rattle.laws.proofs.InRange.{stepInRange, nodeInRange, inRange}
-use Rattle.laws.proofs.WellFormedInverses.{multiplier-neg}
+use Rattle.laws.proofs.WellFormedInverses.{multiplier-neg, negated-fits, not-min-ok}
 use Rattle.laws.proofs.Fits.{leafFits, nodeFits, bodyFits, treeFits}
 
 -- Undoing and meaning.
@@ -45,16 +45,7 @@ step-negatable text (megaminx k) = refl
 
 -- Numbers of 32 bits negated: all but −2147483648 stay in 32 bits, and none becomes it.
 pub neg-fits : (u : ℤ) → isMin u ≡ false → fitsBits 32 u ≡ true → fitsBits 32 (negℤ u) ≡ true
-neg-fits (pos zero) h f = refl
-neg-fits (pos (suc n)) h f =
-    let e : suc n < 2147483648 = ltb-true (suc n) 2147483648 f in
-    lt-ltb n 2147483648 (omega arith)
-neg-fits (negsuc n) h f =
-    let e : n < 2147483648 = ltb-true n 2147483648 f in
-    lt-ltb (suc n) 2147483648 (less n h e)
-  where
-    less : (n : ℕ) → eqb n 2147483647 ≡ false → n < 2147483648 → suc n < 2147483648
-    less n h e = let d : (n ≡ 2147483647 → ⊥) = eqb-false n 2147483647 h in omega arith
+neg-fits u h f = negated-fits u (not-min-ok u h f)
 
 neg-not-min : (u : ℤ) → fitsBits 32 u ≡ true → isMin (negℤ u) ≡ false
 neg-not-min (pos zero) f = refl
@@ -62,10 +53,6 @@ neg-not-min (pos (suc n)) f =
     let e : suc n < 2147483648 = ltb-true (suc n) 2147483648 f in
     ne-eqb n 2147483647 (λ h. omega arith)
 neg-not-min (negsuc n) f = refl
-
-or-false : (a b : Bool) → (a || b) ≡ false → (a ≡ false) × (b ≡ false)
-or-false true b h = absurd (false-true (sym h))
-or-false false b h = (refl, h)
 
 pair-fits : (u d : ℤ) → not (isMin u || isMin d) ≡ true → (fitsBits 32 u && fitsBits 32 d) ≡ true →
     (fitsBits 32 (negℤ u) && fitsBits 32 (negℤ d)) ≡ true

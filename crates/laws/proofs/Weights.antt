@@ -5,14 +5,14 @@ use mathlib.Core.Bool.{Bool, true, false}
 use mathlib.Core.List.{List, [], _∷_, _++_}
 use native.Mathlib.Nat.{zero-mul, mul-le-mul-left}
 use native.Mathlib.Omega.{arith}
-use Rattle.notation.specs.Basics.{pick}
+use Rattle.notation.specs.Basics.{pick, total}
 use Rattle.notation.specs.Tree.{Node, leaf, block, Body, group, binaryGroup, NodeList, nil, cons}
 use Rattle.notation.specs.Counts.{times, countBinary}
 use Rattle.notation.specs.Unroll.{copies, turned}
 use Rattle.notation.specs.declared.common.BinaryGroupKind.{BinaryGroupKind}
 use Rattle.notation.specs.declared.common.BinaryGroupKind.the-variants.{Commutator, Conjugate}
 use Rattle.laws.specs.Unrolled.{inOrder, flatBinary, flatNode, flatBody, flat}
-use Rattle.laws.specs.Weights.{total, weightNode, weightBody, weight}
+use Rattle.laws.specs.Weights.{weightNode, weightBody, weight}
 
 -- Sums over lists.
 module _ {L : Type 0} (w : L → ℕ) where

@@ -1,16 +1,10 @@
--- The sum of a weight over a list, and the same over a tree by multiplication, without unrolling it: `weight-is` (proofs/Weights)
--- says that both come to the same of an unrolled list, for every weight that undoing keeps.
+-- The sum of a weight over an unrolled list, by the tree and by multiplication: `weight-is` (proofs/Weights) says that it is `total` of
+-- that list (specs/Basics of `notation`), for every weight that undoing keeps.
 use Prim.Native.Nat.{ℕ, _+_, _*_}
-use mathlib.Core.List.{List, [], _∷_}
 use Rattle.notation.specs.Tree.{Node, leaf, block, Body, group, binaryGroup, NodeList, nil, cons}
 use Rattle.notation.specs.Counts.{times, countBinary}
 
--- the weights of a list added up
-unfoldable pub total : {L : Type 0} → (L → ℕ) → List L → ℕ
-total w [] = 0
-total w (x ∷ l) = w x + total w l
-
--- the same over a tree: what a group holds weighs as many times as the group plays it
+-- what a group holds weighs as many times as the group plays it
 unfoldable mutual
   pub weightNode : {L : Type 0} → (L → ℕ) → Node L → ℕ
   weightNode w (leaf x) = w x
