@@ -20,7 +20,7 @@ use Rattle.laws.proofs.Counting.{count-is}
 use Rattle.well_formed.specs.Refusing.{refusalOf}
 use Rattle.checked.specs.declared.Checked.{Checked}
 use Rattle.checked.specs.Checked.{Accepted, Found, Checks, Counted}
-use Rattle.checked.proofs.Outcomes.{known, refused}
+use Rattle.checked.proofs.Outcomes.{counted, refused}
 
 -- What `unrolled` promises of its answer.
 pub record Counts (text tree : List ℕ) (o : Outcome ℕ) : Type 0 where
@@ -33,11 +33,11 @@ refused-as text tree r q e = record { answer = rw (q, e); counted = λ n p. no-r
 module _ (text tree : List ℕ) (k : Checked) (c : Checks text tree k) where
   pub count-unaccepted : (r : ℕ) → outcome (k .answer) ≡ refusal r → Counts text tree (outcome (k .answer))
   unfolding steps
-  count-unaccepted r q = refused-as text tree r q (rw (refused c q))
+  count-unaccepted r q = refused-as text tree r q (rw (refused text tree (c .answer) q))
 
   module _ (n : ℕ) (v : outcome (k .answer) ≡ result n) where
     accepted : Accepted text tree
-    accepted = known c v .accepted
+    accepted = c .found n v .accepted
 
     met : refusalOf (k .met .forward) ≡ firstRefusal false (unpack tree)
     met = ap (λ (f : Bool → Option ℕ). f false) (c .found n v .meets)
@@ -58,7 +58,7 @@ module _ (text tree : List ℕ) (k : Checked) (c : Checks text tree k) where
 
     module _ (z : k .met .forward ≡ 0) where
       capped : n ≡ cap (count (unpack tree))
-      capped = known c v .steps
+      capped = counted text tree (c .answer) accepted v
 
       pub count-many : MAX-STEPS < n → Counts text tree (refusal TOO-MANY-STEPS)
       unfolding steps

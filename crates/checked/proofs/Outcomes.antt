@@ -69,29 +69,21 @@ module _ (text tree : List ℕ) where
       record { short = c .short; packed = a .packed; ok = a .ok; is = is-checked (c .short) (c .isUtf8) (c .formed) }
 
 -- What an entry learns by taking that answer apart.
-pub record Known (text tree : List ℕ) (n : ℕ) : Type 0 where
-  pub accepted : Accepted text tree
-  pub steps : n ≡ cap (count (unpack tree))
-
-module _ {text tree : List ℕ} {k : Checked} (c : Checks text tree k) where
-  abbrev o : Outcome ℕ
-  o = outcome (k .answer)
-
-  pub known : {n : ℕ} → o ≡ result n → Known text tree n
-  known {n} q =
-      let s = c .found n q .accepted in
-      let w : o ≡ result (cap (count (unpack tree))) = rw (s .is) at (c .answer) in
-      record { accepted = s; steps = ap value (sym q ∙ w) }
+module _ (text tree : List ℕ) {o : Outcome ℕ} (c : o ≡ checkedSteps text tree) where
+  pub counted : Accepted text tree → {n : ℕ} → o ≡ result n → n ≡ cap (count (unpack tree))
+  counted s {n} q =
+      let w : o ≡ result (cap (count (unpack tree))) = rw (s .is) at c in
+      ap value (sym q ∙ w)
 
   pub refused : {r : ℕ} → o ≡ refusal r → checked text tree ≡ refusal r
   refused {r} q = go (checked text tree) refl
     where
       go : (p : Outcome Tree) → checked text tree ≡ p → checked text tree ≡ refusal r
       go (refusal k) z =
-          let w : o ≡ refusal k = rw z at (c .answer) in
+          let w : o ≡ refusal k = rw z at c in
           z ∙ ap refusal (ap refusalNumber (sym w ∙ q))
       go (result t) z =
-          let w : o ≡ result (cap (count t)) = rw z at (c .answer) in
+          let w : o ≡ result (cap (count t)) = rw z at c in
           no-refusal (sym q ∙ w)
 
 -- Lent buffers.

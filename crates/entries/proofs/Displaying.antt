@@ -10,12 +10,12 @@ use Rattle.notation.specs.Packed.{unpack}
 use Rattle.notation.specs.Print.{printed}
 use Rattle.notation.specs.Entries.{Lent, display, displayEntry}
 use Rattle.display.specs.Written.{MOST}
-use Rattle.checked.specs.Checked.{Accepted}
-use Rattle.checked.proofs.Outcomes.{Checks, refused, lend-handed, lend-short, lend-fits}
+use Rattle.checked.specs.Checked.{Accepted, checkedSteps}
+use Rattle.checked.proofs.Outcomes.{refused, lend-handed, lend-short, lend-fits}
 
 module _ (text tree buffer : List ℕ) where
-  pub display-unaccepted : {a : Outcome ℕ} {r : ℕ} → Checks text tree a → a ≡ refusal r → record { answer = a; buffer = buffer } ≡ displayEntry text tree buffer
-  display-unaccepted c q = lend-handed (display text tree) buffer q (rw (refused c q))
+  pub display-unaccepted : {a : Outcome ℕ} {r : ℕ} → a ≡ checkedSteps text tree → a ≡ refusal r → record { answer = a; buffer = buffer } ≡ displayEntry text tree buffer
+  display-unaccepted c q = lend-handed (display text tree) buffer q (rw (refused text tree c q))
 
   module _ (accepted : Accepted text tree) (size : ℕ) (counts : size ≡ min (length (printed text (unpack tree))) MOST) where
     given : display text tree ≡ result (printed text (unpack tree))

@@ -24,9 +24,9 @@ use Rattle.laws.proofs.Packing.{length-pack}
 use Rattle.laws.proofs.WellFormedInverses.{inverted-size, deeply-size}
 use Rattle.laws.specs.Packed.{Packed}
 use Rattle.invert.specs.Nodes.{over}
-use Rattle.checked.specs.Checked.{Accepted}
+use Rattle.checked.specs.Checked.{Accepted, checkedSteps}
 use Rattle.entries.specs.Inverses.{refusing, written, ruled}
-use Rattle.checked.proofs.Outcomes.{Checks, refused, lend-refused, lend-handed, lend-short, lend-fits}
+use Rattle.checked.proofs.Outcomes.{refused, lend-refused, lend-handed, lend-short, lend-fits}
 
 -- No refusal has the number 0, so 0 can stand for none.
 pub data Numbered : Option ℕ → Type 0 where
@@ -115,8 +115,8 @@ inverting deep text tree =
 
 -- The ways out of an inverse.
 module _ {text tree : List ℕ} {o : Outcome (List ℕ)} {refuses : Option ℕ} {bytes : List ℕ} (i : Inverting text tree o refuses bytes) (buffer : List ℕ) where
-  pub inverse-unaccepted : {a : Outcome ℕ} {r : ℕ} → Checks text tree a → a ≡ refusal r → record { answer = a; buffer = buffer } ≡ lend o buffer
-  inverse-unaccepted {a} {r} c q = lend-handed o buffer q (i .passes r (refused c q))
+  pub inverse-unaccepted : {a : Outcome ℕ} {r : ℕ} → a ≡ checkedSteps text tree → a ≡ refusal r → record { answer = a; buffer = buffer } ≡ lend o buffer
+  inverse-unaccepted {a} {r} c q = lend-handed o buffer q (i .passes r (refused text tree c q))
 
   pub inverse-refused : Accepted text tree → (r : ℕ) → r ≡ over refuses 0 → (r ≡ 0 → ⊥) → record { answer = refusal r; buffer = buffer } ≡ lend o buffer
   inverse-refused s r e h = lend-refused o buffer r (i .is (s .is) ∙ go refuses e)

@@ -21,8 +21,8 @@ use Rattle.record.specs.Meaning.{field, layersAt, kindAt, tildeAt, FAMILY, FAMI
 use Rattle.record.proofs.Packed.{by-kind}
 use Rattle.laws.proofs.Bools.{and-left, and-right}
 use Rattle.laws.proofs.Heads.{HeadOk}
-use Rattle.checked.specs.Checked.{Accepted}
-use Rattle.checked.proofs.Outcomes.{Checks, refused}
+use Rattle.checked.specs.Checked.{Accepted, checkedSteps}
+use Rattle.checked.proofs.Outcomes.{refused}
 use Rattle.checked.proofs.Records.{prefix-ok, record-ok}
 
 -- What a record names, by its kind: 6 is a rotation, 7 a move.
@@ -79,9 +79,9 @@ abbrev pub found : List ℕ → ℕ → List ℕ
 found tree k = take (length tree - RECORD * k) (drop (RECORD * k) tree)
 
 module _ (text tree : List ℕ) (k : ℕ) where
-  pub family-unaccepted : {a : Outcome ℕ} {r : ℕ} → Checks text tree a → a ≡ refusal r → refusal r ≡ familySpan text tree k
+  pub family-unaccepted : {a : Outcome ℕ} {r : ℕ} → a ≡ checkedSteps text tree → a ≡ refusal r → refusal r ≡ familySpan text tree k
   unfolding familySpan
-  family-unaccepted c q = rw (refused c q)
+  family-unaccepted c q = rw (refused text tree c q)
 
   module _ (s : Accepted text tree) where
     pub family-none : length tree / RECORD ≤ k → refusal NO-SUCH-RECORD ≡ familySpan text tree k
@@ -118,10 +118,10 @@ module _ (text tree : List ℕ) (k n : ℕ) (neg : Bool) (buffer : List ℕ) whe
   abbrev Refused : ℕ → Type 0
   Refused r = record { answer = refusal r; buffer = buffer } ≡ simplifyBytes text tree k n neg buffer
 
-  pub simplify-unaccepted : {a : Outcome ℕ} {r : ℕ} → Checks text tree a → a ≡ refusal r →
+  pub simplify-unaccepted : {a : Outcome ℕ} {r : ℕ} → a ≡ checkedSteps text tree → a ≡ refusal r →
       record { answer = a; buffer = buffer } ≡ simplifyBytes text tree k n neg buffer
   unfolding layerRanges
-  simplify-unaccepted c q = rw (q, refused c q)
+  simplify-unaccepted c q = rw (q, refused text tree c q)
 
   module _ (s : Accepted text tree) where
     pub simplify-no-layers : n ≡ 0 → Refused NO-SUCH-LAYER-COUNT

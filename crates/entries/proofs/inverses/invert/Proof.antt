@@ -21,24 +21,24 @@ returns : tie.Need-returns
 returns c =
     let check = c .before .before in
     let a = check .before .before .before .before .args in
-    inverse-unaccepted (inverting (a .deep) (a .text .now) (a .tree .now)) (a .out .now) (check .check .ensures) (ap outcome (c .enum-told2 .given .1))
+    inverse-unaccepted (inverting (a .deep) (a .text .now) (a .tree .now)) (a .out .now) (check .check .ensures .0) (ap outcome (c .enum-told2 .given .1))
 
 refusal-requires : tie.Need-refusal-requires
-refusal-requires c κs = c .before .before .check .ensures .1 _ (ap outcome (c .enum-told .given .1)) .packed
+refusal-requires c κs = c .before .before .check .ensures .1 _ (ap outcome (c .enum-told .given .1)) .accepted .packed
 
 returns-2 : tie.Need-returns-2
 returns-2 c =
     let met = c .before in
     let check = met .before .before .before in
     let a = check .before .before .before .before .args in
-    inverse-refused (inverting (a .deep) (a .text .now) (a .tree .now)) (a .out .now) (check .check .ensures .1 _ (ap outcome (met .before .enum-told .given .1))) _ (met .refusal .ensures) (c .if1 .taken)
+    inverse-refused (inverting (a .deep) (a .text .now) (a .tree .now)) (a .out .now) (check .check .ensures .1 _ (ap outcome (met .before .enum-told .given .1)) .accepted) _ (met .refusal .ensures) (c .if1 .taken)
 
 returns-3 : tie.Need-returns-3
 returns-3 c =
     let met = c .before .before in
     let check = met .before .before .before in
     let a = check .before .before .before .before .args in
-    inverse-short (inverting (a .deep) (a .text .now) (a .tree .now)) (a .out .now) (check .check .ensures .1 _ (ap outcome (met .before .enum-told .given .1))) (sym (met .refusal .ensures) ∙ c .before .if1 .left) (c .if2 .taken)
+    inverse-short (inverting (a .deep) (a .text .now) (a .tree .now)) (a .out .now) (check .check .ensures .1 _ (ap outcome (met .before .enum-told .given .1)) .accepted) (sym (met .refusal .ensures) ∙ c .before .if1 .left) (c .if2 .taken)
 
 sub-write : tie.Need-sub-write
 sub-write c = search needs
@@ -53,7 +53,7 @@ write-requires : tie.Need-write-requires
 write-requires c κs =
     let met = c .before .before .before in
     let check = met .before .before .before in
-    (check .check .ensures .1 _ (ap outcome (met .before .enum-told .given .1)) .packed, simp length-take (omega (arith, c .before .if2 .left)))
+    (check .check .ensures .1 _ (ap outcome (met .before .enum-told .given .1)) .accepted .packed, simp length-take (omega (arith, c .before .if2 .left)))
 
 same-length : tie.Need-same-length
 same-length c = search needs
@@ -64,7 +64,7 @@ returns-4 c =
     let met = call .before .before .before .before in
     let check = met .before .before .before in
     let a = check .before .before .before .before .args in
-    inverse-written (inverting (a .deep) (a .text .now) (a .tree .now)) (a .out .now) (check .check .ensures .1 _ (ap outcome (met .before .enum-told .given .1))) (sym (met .refusal .ensures) ∙ call .before .before .before .if1 .left)
+    inverse-written (inverting (a .deep) (a .text .now) (a .tree .now)) (a .out .now) (check .check .ensures .1 _ (ap outcome (met .before .enum-told .given .1)) .accepted) (sym (met .refusal .ensures) ∙ call .before .before .before .if1 .left)
     (call .before .before .if2 .left) _ (call .write .ensures)
 
 pub invert-spec : {M : Type 1} → statement M

@@ -10,7 +10,6 @@ use Rattle.notation.specs.Packed.{RECORD}
 use Rattle.notation.specs.WellFormed.{inside}
 use Rattle.notation.specs.Entries.{outcome}
 use Rattle.record.proofs.KindTests.{group-low, no-group-high}
-use Rattle.checked.proofs.Outcomes.{known}
 use Rattle.entries.specs.Parts.{partOutcome, Inside, Fits}
 use Rattle.entries.proofs.Naming.{found, family-low, family-high, family-named, family-inside, family-unaccepted, family-none, accepted-record, family-is}
 use Rattle.entries.proofs.parts.family_part.Statement.{statement}
@@ -34,14 +33,14 @@ returns c =
     let a = check .before .before .before .args in
     let q = ap outcome (c .before .enum-told2 .given .1) in
     let is = c .no-part .ensures _ q in
-    (ap partOutcome is ∙ family-unaccepted (a .text .now) (a .tree .now) (a .«record») (check .check .ensures) q, (subst (Inside (a .text .now)) (sym is) tt, subst Fits (sym is) tt))
+    (ap partOutcome is ∙ family-unaccepted (a .text .now) (a .tree .now) (a .«record») (check .check .ensures .0) q, (subst (Inside (a .text .now)) (sym is) tt, subst Fits (sym is) tt))
 
 returns-2 : tie.Need-returns-2
 returns-2 c =
     let value = c .before in
     let check = value .before .before in
     let a = check .before .before .before .args in
-    let k = known (check .check .ensures) (ap outcome (value .enum-told .given .1)) in
+    let k = check .check .ensures .1 _ (ap outcome (value .enum-told .given .1)) in
     (family-none (a .text .now) (a .tree .now) (a .«record») (k .accepted) (omega (arith, c .if1 .taken)), (tt, tt))
 
 mul-from : tie.Need-mul-from
@@ -66,7 +65,7 @@ returns-3 c =
     let value = few .before in
     let check = value .before .before in
     let a = check .before .before .before .args in
-    let k = known (check .check .ensures) (ap outcome (value .enum-told .given .1)) in
+    let k = check .check .ensures .1 _ (ap outcome (value .enum-told .given .1)) in
     (family-low (found (a .tree .now) (a .«record»)) _ refl (group-low (group .is-group .ensures) (c .if2 .taken))
       ∙ family-is (a .text .now) (a .tree .now) (a .«record») (k .accepted) (omega (arith, few .if1 .left)), (tt, tt))
 
@@ -80,7 +79,7 @@ returns-4 c =
     let value = few .before in
     let check = value .before .before in
     let a = check .before .before .before .args in
-    let k = known (check .check .ensures) (ap outcome (value .enum-told .given .1)) in
+    let k = check .check .ensures .1 _ (ap outcome (value .enum-told .given .1)) in
     (family-high (found (a .tree .now) (a .«record»)) (kind .kind .result) (kind .kind .ensures) (c .if3 .taken)
       ∙ family-is (a .text .now) (a .tree .now) (a .«record») (k .accepted) (omega (arith, few .if1 .left)), (tt, tt))
 
@@ -96,7 +95,7 @@ returns-5 c =
     let value = few .before in
     let check = value .before .before in
     let a = check .before .before .before .args in
-    let k = known (check .check .ensures) (ap outcome (value .enum-told .given .1)) in
+    let k = check .check .ensures .1 _ (ap outcome (value .enum-told .given .1)) in
     let less : a .«record» < length (a .tree .now) / RECORD = omega (arith, few .if1 .left) in
     let low = subst (λ (k : ℕ). 6 ≤ k) (sym (kind .kind .ensures)) (no-group-high (group .is-group .ensures) (kind .before .if2 .left)) in
     (ap result (c .family-of .ensures .0) ∙ family-named (found (a .tree .now) (a .«record»)) (kind .kind .result) (kind .kind .ensures) low (high .if3 .left) ∙ family-is (a .text .now) (a .tree .now) (a .«record») (k .accepted) less,

@@ -11,7 +11,6 @@ use Rattle.notation.specs.Packed.{RECORD}
 use Rattle.notation.specs.WellFormed.{layersOk}
 use Rattle.notation.specs.Entries.{outcome}
 use Rattle.record.specs.Meaning.{layersAt}
-use Rattle.checked.proofs.Outcomes.{known}
 use Rattle.entries.proofs.Naming.{
   found, accepted-record, no-prefix, some-prefix, layers-inside, simplify-unaccepted, simplify-no-layers, simplify-many-layers, simplify-none, simplify-no-move, simplify-move
 }
@@ -31,14 +30,14 @@ returns : tie.Need-returns
 returns c =
     let check = c .before .before in
     let a = check .before .before .before .before .args in
-    simplify-unaccepted (a .text .now) (a .tree .now) (a .«record») (a .max-layer) (a .allow-negatives) (a .out .now) (check .check .ensures) (ap outcome (c .enum-told2 .given .1))
+    simplify-unaccepted (a .text .now) (a .tree .now) (a .«record») (a .max-layer) (a .allow-negatives) (a .out .now) (check .check .ensures .0) (ap outcome (c .enum-told2 .given .1))
 
 returns-2 : tie.Need-returns-2
 returns-2 c =
     let value = c .before in
     let check = value .before .before in
     let a = check .before .before .before .before .args in
-    let k = known (check .check .ensures) (ap outcome (value .enum-told .given .1)) in
+    let k = check .check .ensures .1 _ (ap outcome (value .enum-told .given .1)) in
     simplify-no-layers (a .text .now) (a .tree .now) (a .«record») (a .max-layer) (a .allow-negatives) (a .out .now) (k .accepted) (c .if1 .taken)
 
 returns-3 : tie.Need-returns-3
@@ -46,7 +45,7 @@ returns-3 c =
     let value = c .before .before in
     let check = value .before .before in
     let a = check .before .before .before .before .args in
-    let k = known (check .check .ensures) (ap outcome (value .enum-told .given .1)) in
+    let k = check .check .ensures .1 _ (ap outcome (value .enum-told .given .1)) in
     simplify-many-layers (a .text .now) (a .tree .now) (a .«record») (a .max-layer) (a .allow-negatives) (a .out .now) (k .accepted) (c .if2 .taken)
 
 returns-4 : tie.Need-returns-4
@@ -54,7 +53,7 @@ returns-4 c =
     let value = c .before .before .before in
     let check = value .before .before in
     let a = check .before .before .before .before .args in
-    let k = known (check .check .ensures) (ap outcome (value .enum-told .given .1)) in
+    let k = check .check .ensures .1 _ (ap outcome (value .enum-told .given .1)) in
     simplify-none (a .text .now) (a .tree .now) (a .«record») (a .max-layer) (a .allow-negatives) (a .out .now) (k .accepted) (c .before .before .if1 .left) (c .before .if2 .left) (omega (arith, c .if3 .taken))
 
 mul-from : tie.Need-mul-from
@@ -79,7 +78,7 @@ returns-5 c =
     let value = few .before .before .before in
     let check = value .before .before in
     let a = check .before .before .before .before .args in
-    let k = known (check .check .ensures) (ap outcome (value .enum-told .given .1)) in
+    let k = check .check .ensures .1 _ (ap outcome (value .enum-told .given .1)) in
     let less : a .«record» < length (a .tree .now) / RECORD = omega (arith, few .if3 .left) in
     simplify-no-move (a .text .now) (a .tree .now) (a .«record») (a .max-layer) (a .allow-negatives) (a .out .now) (k .accepted) (few .before .before .if1 .left) (few .before .if2 .left) less
     (no-prefix (found (a .tree .now) (a .«record»)) (kind .kind .result) (kind .kind .ensures) (c .if4 .taken))
@@ -101,7 +100,7 @@ simplify-requires c κs =
     let value = few .before .before .before in
     let check = value .before .before in
     let a = check .before .before .before .before .args in
-    let k = known (check .check .ensures) (ap outcome (value .enum-told .given .1)) in
+    let k = check .check .ensures .1 _ (ap outcome (value .enum-told .given .1)) in
     let less : a .«record» < length (a .tree .now) / RECORD = omega (arith, few .if3 .left) in
     let ok = accepted-record (a .text .now) (a .tree .now) (a .«record») (k .accepted) less in
     (record { low = omega (arith, few .before .before .if1 .left); high = few .before .if2 .left },
@@ -120,7 +119,7 @@ returns-6 c =
     let value = few .before .before .before in
     let check = value .before .before in
     let a = check .before .before .before .before .args in
-    let k = known (check .check .ensures) (ap outcome (value .enum-told .given .1)) in
+    let k = check .check .ensures .1 _ (ap outcome (value .enum-told .given .1)) in
     let less : a .«record» < length (a .tree .now) / RECORD = omega (arith, few .if3 .left) in
     simplify-move (a .text .now) (a .tree .now) (a .«record») (a .max-layer) (a .allow-negatives) (a .out .now) (k .accepted) (few .before .before .if1 .left) (few .before .if2 .left) less
     (named .before .tilde .result) _

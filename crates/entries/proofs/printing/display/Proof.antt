@@ -20,15 +20,15 @@ returns : tie.Need-returns
 returns c =
     let check = c .before .before in
     let a = check .before .before .before .before .args in
-    display-unaccepted (a .text .now) (a .tree .now) (a .out .now) (check .check .ensures) (ap outcome (c .enum-told2 .given .1))
+    display-unaccepted (a .text .now) (a .tree .now) (a .out .now) (check .check .ensures .0) (ap outcome (c .enum-told2 .given .1))
 
 fits-requires : tie.Need-fits-requires
-fits-requires c κs = c .before .before .check .ensures .1 _ (ap outcome (c .enum-told .given .1)) .packed
+fits-requires c κs = c .before .before .check .ensures .1 _ (ap outcome (c .enum-told .given .1)) .accepted .packed
 
 display-requires : tie.Need-display-requires
 display-requires c κs =
     let checked = c .before .before .before in
-    let accepted = checked .before .before .check .ensures .1 _ (ap outcome (checked .enum-told .given .1)) in
+    let accepted = checked .before .before .check .ensures .1 _ (ap outcome (checked .enum-told .given .1)) .accepted in
     (accepted .packed, accepted .ok)
 
 same-length : tie.Need-same-length
@@ -41,7 +41,7 @@ returns-2 c =
     let checked = fits .before .before in
     let start = checked .before .before .before .before .before .before in
     let a = start .args in
-    let accepted = checked .before .before .check .ensures .1 _ (ap outcome (checked .enum-told .given .1)) in
+    let accepted = checked .before .before .check .ensures .1 _ (ap outcome (checked .enum-told .given .1)) .accepted in
     let room = fits .before .fits2 .ensures (fits .if1 .taken) (a .text .now) (accepted .ok) in
     display-at-once (a .text .now) (a .tree .now) (a .out .now) accepted _ (write .display .ensures .0) (omega (arith, start .good)) room _ (write .display .ensures .1 room)
 
@@ -51,7 +51,7 @@ slice-aggregate-display c = search needs
 display-requires-2 : tie.Need-display-requires-2
 display-requires-2 c κs =
     let checked = c .before .before .before in
-    let accepted = checked .before .before .check .ensures .1 _ (ap outcome (checked .enum-told .given .1)) in
+    let accepted = checked .before .before .check .ensures .1 _ (ap outcome (checked .enum-told .given .1)) .accepted in
     (accepted .packed, accepted .ok)
 
 returns-3 : tie.Need-returns-3
@@ -60,7 +60,7 @@ returns-3 c =
     let checked = measure .before .before .before .before in
     let check = checked .before .before in
     let a = check .before .before .before .before .args in
-    display-short (a .text .now) (a .tree .now) (a .out .now) (check .check .ensures .1 _ (ap outcome (checked .enum-told .given .1))) _ (measure .display2 .ensures .0) (c .if2 .taken)
+    display-short (a .text .now) (a .tree .now) (a .out .now) (check .check .ensures .1 _ (ap outcome (checked .enum-told .given .1)) .accepted) _ (measure .display2 .ensures .0) (c .if2 .taken)
 
 sub-display : tie.Need-sub-display
 sub-display c = search needs
@@ -74,7 +74,7 @@ part-display-end c = search needs
 display-requires-3 : tie.Need-display-requires-3
 display-requires-3 c κs =
     let checked = c .before .before .before .before .before .before .before in
-    let accepted = checked .before .before .check .ensures .1 _ (ap outcome (checked .enum-told .given .1)) in
+    let accepted = checked .before .before .check .ensures .1 _ (ap outcome (checked .enum-told .given .1)) .accepted in
     (accepted .packed, accepted .ok)
 
 same-length-2 : tie.Need-same-length-2
@@ -88,7 +88,7 @@ returns-4 c =
     let check = checked .before .before in
     let start = check .before .before .before .before in
     let a = start .args in
-    display-measured (a .text .now) (a .tree .now) (a .out .now) (check .check .ensures .1 _ (ap outcome (checked .enum-told .given .1))) _ (measure .display2 .ensures .0) (omega (arith, start .good))
+    display-measured (a .text .now) (a .tree .now) (a .out .now) (check .check .ensures .1 _ (ap outcome (checked .enum-told .given .1)) .accepted) _ (measure .display2 .ensures .0) (omega (arith, start .good))
     (write .before .before .if2 .left) _ (write .display3 .ensures .1)
 
 pub display-spec : {M : Type 1} → statement M

@@ -26,7 +26,7 @@ node-list-requires : tie.Need-node-list-requires
 node-list-requires c κs =
     let s = c .before .before .before in
     let told = s .before .before .before .before .before .before in
-    let accepted = told .before .before .check .ensures .1 _ (ap outcome (told .enum-told .given .1)) in
+    let accepted = told .before .before .check .ensures .1 _ (ap outcome (told .enum-told .given .1)) .accepted in
     (omega (arith, s .put .ensures .counts), (accepted .packed, accepted .ok))
 
 put-requires-2 : tie.Need-put-requires-2
@@ -50,7 +50,7 @@ returns c =
     let told = w .before .before in
     let check = told .before .before in
     let a = check .before .before .before .before .before .args in
-    let accepted = check .check .ensures .1 _ (ap outcome (told .enum-told .given .1)) in
+    let accepted = check .check .ensures .1 _ (ap outcome (told .enum-told .given .1)) .accepted in
     wrote-line (a .label .now) (field (display (a .text .now) (a .tree .now))) (display-given (a .text .now) (a .tree .now) (unpack (a .tree .now)) (accepted .is))
     (w .put-bytes .ensures) (s .put .ensures) (v .node-list .ensures) (n .put2 .ensures)
 
@@ -63,7 +63,7 @@ returns-2 c =
     let number = call .before .before .before in
     let check = number .before .before in
     let a = check .before .before .before .before .before .args in
-    wrote-field (a .label .now) (display-refused (a .text .now) (a .tree .now) _ (refused (check .check .ensures) (ap outcome (number .number .given .1)))) (call .refused-line .ensures)
+    wrote-field (a .label .now) (display-refused (a .text .now) (a .tree .now) _ (refused (a .text .now) (a .tree .now) (check .check .ensures .0) (ap outcome (number .number .given .1)))) (call .refused-line .ensures)
 
 pub tree-line-spec : {M : Type 1} → statement M
 tree-line-spec =
