@@ -12,8 +12,8 @@ ghost use Rattle.record.specs.Undone.{StartsRecord, undoneHead, overflow
 use crate::fields;
 use crate::kinds;
 use crate::layout;
-use numbers::big_endian::read_u32;
 use numbers::big_endian::read_u8;
+use numbers::big_endian::read_u32;
 use numbers::signed::MIN;
 use numbers::signed::negate;
 

@@ -32,8 +32,8 @@ node-list-requires c κs =
 put-requires-2 : tie.Need-put-requires-2
 put-requires-2 c κs = search needs
 
-enum-known-number : tie.Need-enum-known-number
-enum-known-number c = search needs
+enum-known-checked : tie.Need-enum-known-checked
+enum-known-checked c = search needs
 
 refused-line-requires : tie.Need-refused-line-requires
 refused-line-requires c κs = search needs
@@ -63,7 +63,7 @@ returns-2 c =
     let number = call .before .before .before in
     let check = number .before .before in
     let a = check .before .before .before .before .before .args in
-    wrote-field (a .label .now) (display-refused (a .text .now) (a .tree .now) _ (refused (a .text .now) (a .tree .now) (check .check .ensures .0) (ap outcome (number .number .given .1)))) (call .refused-line .ensures)
+    wrote-field (a .label .now) (display-refused (a .text .now) (a .tree .now) _ (refused (a .text .now) (a .tree .now) (check .check .ensures .0) (ap outcome (number .checked .given .1)))) (call .refused-line .ensures)
 
 pub tree-line-spec : {M : Type 1} → statement M
 tree-line-spec =
@@ -75,7 +75,7 @@ tree-line-spec =
     put-requires
     node-list-requires
     put-requires-2
-    enum-known-number
+    enum-known-checked
     refused-line-requires
     same-length
     returns
