@@ -22,7 +22,7 @@ use Rattle.checked.specs.declared.Checked.{Checked}
 use Rattle.checked.specs.Checked.{Accepted, Found, Checks, Counted}
 use Rattle.checked.proofs.Outcomes.{counted, refused}
 
--- What `unrolled` promises of its answer.
+-- What `count_checked` promises of its answer.
 pub record Counts (text tree : List ℕ) (o : Outcome ℕ) : Type 0 where
   pub answer : o ≡ countSteps text tree
   pub counted : (n : ℕ) → o ≡ result n → Counted text tree n

@@ -58,9 +58,10 @@ fn refused(number: u8) -> Checked
 
 // How many steps a tree unrolls into, by what `check` found of it: after 1, 2 and 6 come 7 or 8 and then 9. Entries that
 // have a refusal of their own between 6 and 7 put it between the two calls.
-pub fn unrolled(checked: Checked) -> Answer
+pub fn count_checked(checked: Checked) -> Answer
     ensures { λ r. ⌜ ((text tree : List ℕ) → Checks text tree checked → outcome r ≡ rule.countSteps text tree) ⌝ }
-    ensures { λ r. ⌜ ((text tree : List ℕ) → Checks text tree checked → (n : ℕ) → outcome r ≡ result n → Counted text tree n) ⌝ }
+    ensures { λ r. ⌜ ((text tree : List ℕ) → Checks text tree checked →
+        (n : ℕ) → outcome r ≡ result n → Counted text tree n) ⌝ }
 {
     let answer = checked.answer;
     let Answer::Value(steps) = answer else {

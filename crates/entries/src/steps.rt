@@ -5,7 +5,7 @@ ghost use Rattle.notation.specs.Refusals.{result};
 ghost use Rattle.notation.specs.Entries as rule;
 ghost use Rattle.checked.specs.Checked.{Counted};
 use checked::check;
-use checked::unrolled;
+use checked::count_checked;
 use notation::answer::Answer;
 use notation::refusals::NO_ROOM;
 use notation::refusals::NO_SUCH_PLACE;
@@ -16,7 +16,7 @@ pub fn count_steps(text: &[u8], tree: &[u8]) -> Answer
     ensures { λ r. ⌜ rule.outcome r ≡ rule.countSteps (now (text .entry)) (now (tree .entry)) ⌝ }
     ensures { λ r. ⌜ ((n : ℕ) → rule.outcome r ≡ result n → Counted (now (text .entry)) (now (tree .entry)) n) ⌝ }
 {
-    unrolled(check(text, tree))
+    count_checked(check(text, tree))
 }
 
 // The unrolled list, a record for each step: refusals 1, 2, 6, 7 or 8, 9, 5.

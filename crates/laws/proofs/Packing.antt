@@ -60,14 +60,14 @@ append-fits nil b f g = g
 append-fits (cons n a) b f g = (f .0, append-fits a b (f .1) g)
 
 -- One step of unpacking.
-abbrev pub opened : ℕ → List ℕ → Head → Tree
-opened k bs h =
+abbrev pub unpackedBy : ℕ → List ℕ → Head → Tree
+unpackedBy k bs h =
     openHead h
     (λ n. unpackFrom k (take (RECORD * n) (drop RECORD bs)))
     (λ n n′. unpackFrom k (take (RECORD * n′) (drop (RECORD + RECORD * n) bs)))
     (λ n. unpackFrom k (drop (RECORD + RECORD * n) bs))
 
-pub unpack-step : (k : ℕ) (bs : List ℕ) → 0 < length bs → unpackFrom (suc k) bs ≡ opened k bs (headAt bs)
+pub unpack-step : (k : ℕ) (bs : List ℕ) → 0 < length bs → unpackFrom (suc k) bs ≡ unpackedBy k bs (headAt bs)
 unfolding unpackFrom
 unpack-step k [] h = absurd (omega arith)
 unpack-step k (b ∷ bs) h = refl
@@ -77,12 +77,12 @@ record-step : (k : ℕ) (h : Head) (rest : List ℕ) → FitsHead h →
     ≡ openHead h (λ n. unpackFrom k (take (RECORD * n) rest)) (λ n n′. unpackFrom k (take (RECORD * n′) (drop (RECORD * n) rest))) (λ n. unpackFrom k (drop (RECORD * n) rest))
 record-step k h rest f =
     unpack-step k (headRecord h ++ rest) (rw (length-append (headRecord h) rest, length-headRecord h) (omega arith))
-    ∙ ap (opened k (headRecord h ++ rest)) (headAt-headRecord h rest f)
+    ∙ ap (unpackedBy k (headRecord h ++ rest)) (headAt-headRecord h rest f)
     ∙ dropped h
   where
     past : (n : ℕ) → drop (RECORD + n) (headRecord h ++ rest) ≡ drop n rest
     past n = sym (drop-drop n RECORD (headRecord h ++ rest)) ∙ ap (drop n) (drop-at (headRecord h) rest RECORD (length-headRecord h))
-    dropped : (g : Head) → opened k (headRecord h ++ rest) g
+    dropped : (g : Head) → unpackedBy k (headRecord h ++ rest) g
         ≡ openHead g (λ n. unpackFrom k (take (RECORD * n) rest)) (λ n n′. unpackFrom k (take (RECORD * n′) (drop (RECORD * n) rest))) (λ n. unpackFrom k (drop (RECORD * n) rest))
     dropped (leafHead x) = ap (λ (s : List ℕ). cons (leaf x) (unpackFrom k s)) (past 0)
     dropped (groupHead g n m c) =

@@ -19,7 +19,7 @@ use Rattle.record.specs.Meaning.{field, placeWidth, spanAt, constraintsAt, laye
 use Rattle.record.specs.Range.{FitsSpan, FitsFamily, FitsConstraints, FitsLayers, FitsNumber, FitsHead}
 use Rattle.record.proofs.Packed.{field-lt, Numbered, numbered-at, byKind, headAt-kind}
 use Rattle.laws.specs.Packed.{FitsNode, FitsBody, FitsTree}
-use Rattle.laws.proofs.Packing.{opened, well-formed-packed, well-formed-ok, well-formed-depth}
+use Rattle.laws.proofs.Packing.{unpackedBy, well-formed-packed, well-formed-ok, well-formed-depth}
 use Rattle.laws.specs.Packed.{Packed}
 
 pub fromBits-fits : (n : ℕ) → n < 4294967296 → fitsBits 32 (fromBits 32 n) ≡ true
@@ -102,15 +102,15 @@ module _ (bs : List ℕ) (h : Below 256 bs) where
 abbrev Few : ℕ → Type 0
 Few k = (bs : List ℕ) → RECORD * size (unpackFrom k bs) ≤ length bs + (RECORD - 1)
 
-opened-few : (k : ℕ) → Few k → (bs : List ℕ) → 0 < length bs → (h : Head) → RECORD * size (opened k bs h) ≤ length bs + (RECORD - 1)
+unpacked-few : (k : ℕ) → Few k → (bs : List ℕ) → 0 < length bs → (h : Head) → RECORD * size (unpackedBy k bs h) ≤ length bs + (RECORD - 1)
 unfolding size nodeSize bodySize
-opened-few k ih bs p (leafHead x) =
+unpacked-few k ih bs p (leafHead x) =
     let r = rw (length-drop RECORD bs) at (ih (drop RECORD bs)) in omega arith
-opened-few k ih bs p (groupHead g n m c) =
+unpacked-few k ih bs p (groupHead g n m c) =
     let a = simp (length-take, length-drop) at (ih (take (RECORD * n) (drop RECORD bs))) in
     let r = simp length-drop at (ih (drop (RECORD + RECORD * n) bs)) in
     omega arith
-opened-few k ih bs p (binaryHead g n n′ m c) =
+unpacked-few k ih bs p (binaryHead g n n′ m c) =
     let a = simp (length-take, length-drop) at (ih (take (RECORD * n) (drop RECORD bs))) in
     let b = simp (length-take, length-drop) at (ih (take (RECORD * n′) (drop (RECORD + RECORD * n) bs))) in
     let r = simp length-drop at (ih (drop (RECORD + RECORD * (n + n′)) bs)) in
@@ -120,7 +120,7 @@ few : (k : ℕ) → Few k
 unfolding unpackFrom size
 few zero bs = omega arith
 few (suc k) [] = omega arith
-few (suc k) (b ∷ bs) = opened-few k (few k) (b ∷ bs) (omega arith) (headAt (b ∷ bs))
+few (suc k) (b ∷ bs) = unpacked-few k (few k) (b ∷ bs) (omega arith) (headAt (b ∷ bs))
 
 pub size-most : (k n : ℕ) (bs : List ℕ) → size (unpackFrom k (take (RECORD * n) bs)) ≤ n
 size-most k n bs =
@@ -132,13 +132,13 @@ size-most k n bs =
 abbrev AllFit : ℕ → Type 0
 AllFit k = (bs : List ℕ) → Below 256 bs → FitsTree (unpackFrom k bs)
 
-opened-fits : (k : ℕ) → AllFit k → (bs : List ℕ) → Below 256 bs → (h : Head) → FitsHead h → FitsTree (opened k bs h)
+unpacked-fits : (k : ℕ) → AllFit k → (bs : List ℕ) → Below 256 bs → (h : Head) → FitsHead h → FitsTree (unpackedBy k bs h)
 unfolding FitsTree FitsNode FitsBody
-opened-fits k ih bs b (leafHead x) f = (f, ih (drop (RECORD + RECORD * 0) bs) (below-drop 256 (RECORD + RECORD * 0) bs b))
-opened-fits k ih bs b (groupHead g n m c) f =
+unpacked-fits k ih bs b (leafHead x) f = (f, ih (drop (RECORD + RECORD * 0) bs) (below-drop 256 (RECORD + RECORD * 0) bs b))
+unpacked-fits k ih bs b (groupHead g n m c) f =
     let z = size-most k n (drop RECORD bs) in
     (((omega arith, f .1, omega arith), ih _ (below-take 256 (RECORD * n) _ (lit< tt) (below-drop 256 RECORD bs b))), ih _ (below-drop 256 (RECORD + RECORD * n) bs b))
-opened-fits k ih bs b (binaryHead g n n′ m c) f =
+unpacked-fits k ih bs b (binaryHead g n n′ m c) f =
     let z = size-most k n (drop RECORD bs) in
     let z′ = size-most k n′ (drop (RECORD + RECORD * n) bs) in (
       (
@@ -155,7 +155,7 @@ all-fit : (k : ℕ) → AllFit k
 unfolding unpackFrom FitsTree
 all-fit zero bs b = tt
 all-fit (suc k) [] b = tt
-all-fit (suc k) (x ∷ bs) b = opened-fits k (all-fit k) (x ∷ bs) b (headAt (x ∷ bs)) (head-fits (x ∷ bs) b)
+all-fit (suc k) (x ∷ bs) b = unpacked-fits k (all-fit k) (x ∷ bs) b (headAt (x ∷ bs)) (head-fits (x ∷ bs) b)
 
 pub unpack-fits : (bs : List ℕ) → Below 256 bs → FitsTree (unpack bs)
 unpack-fits bs b = all-fit (length bs) bs b

@@ -10,7 +10,7 @@ use Rattle.notation.specs.Tree.{Leaf, Node, leaf, block, group, binaryGroup, co
 use Rattle.notation.specs.Counts.{stored}
 use Rattle.notation.specs.Packed.{RECORD, Head, leafHead, groupHead, binaryHead, size, headAt, unpackFrom, unpack}
 use Rattle.well_formed.specs.Formed.{first, second, both, firstBytes, secondBytes, restBytes, nodeOf, countOk}
-use Rattle.laws.proofs.Packing.{opened, unpack-nil, unpack-step}
+use Rattle.laws.proofs.Packing.{unpackedBy, unpack-nil, unpack-step}
 
 pub both-sum : (h : Head) → both h ≡ first h + second h
 both-sum (leafHead x) = refl
@@ -39,12 +39,12 @@ shorter-rest : (m : ℕ) (bs : List ℕ) → 0 < length bs → length (drop (REC
 shorter-rest m bs h = simp length-drop (omega arith)
 
 -- fuel beyond the length changes nothing
-opened-same : (k j : ℕ) (bs : List ℕ) (h : Head) → 0 < length bs → ((xs : List ℕ) → length xs < length bs → unpackFrom k xs ≡ unpackFrom j xs) →
-    opened k bs h ≡ opened j bs h
-opened-same k j bs (leafHead x) p f = ap (cons (leaf x)) (f _ (shorter-rest (RECORD * 0) bs p))
-opened-same k j bs (groupHead g n m c) p f =
+unpacked-same : (k j : ℕ) (bs : List ℕ) (h : Head) → 0 < length bs → ((xs : List ℕ) → length xs < length bs → unpackFrom k xs ≡ unpackFrom j xs) →
+    unpackedBy k bs h ≡ unpackedBy j bs h
+unpacked-same k j bs (leafHead x) p f = ap (cons (leaf x)) (f _ (shorter-rest (RECORD * 0) bs p))
+unpacked-same k j bs (groupHead g n m c) p f =
     ap₂ (λ (a r : Tree). cons (block (group g a) m) r) (f _ (shorter-list (RECORD * n) 0 bs p)) (f _ (shorter-rest (RECORD * n) bs p))
-opened-same k j bs (binaryHead g n n′ m c) p f =
+unpacked-same k j bs (binaryHead g n n′ m c) p f =
     let a = f (take (RECORD * n) (drop RECORD bs)) (shorter-list (RECORD * n) 0 bs p) in
     let b = f (take (RECORD * n′) (drop (RECORD + RECORD * n) bs)) (shorter-list (RECORD * n′) (RECORD * n) bs p) in
     let r = f (drop (RECORD + RECORD * (n + n′)) bs) (shorter-rest (RECORD * (n + n′)) bs p) in
@@ -62,7 +62,7 @@ same-more k ih j [] hk hj = unpack-nil (suc k) ∙ sym (unpack-nil j)
 same-more k ih zero (b ∷ bs) hk hj = absurd (omega arith)
 same-more k ih (suc j) (b ∷ bs) hk hj =
     unpack-step k (b ∷ bs) (omega arith)
-    ∙ opened-same k j (b ∷ bs) (headAt (b ∷ bs)) (omega arith) (λ xs l. ih j xs (omega arith) (omega arith))
+    ∙ unpacked-same k j (b ∷ bs) (headAt (b ∷ bs)) (omega arith) (λ xs l. ih j xs (omega arith) (omega arith))
     ∙ sym (unpack-step j (b ∷ bs) (omega arith))
 
 pub unpack-fuel : (k j : ℕ) (bs : List ℕ) → length bs ≤ k → length bs ≤ j → unpackFrom k bs ≡ unpackFrom j bs
@@ -73,7 +73,7 @@ unpack-fuel (suc k) = same-more k (unpack-fuel k)
 abbrev pub viewed : List ℕ → Head → Tree
 viewed bs h = cons (nodeOf h (unpack (firstBytes h bs)) (unpack (secondBytes h bs))) (unpack (restBytes h bs))
 
-view-head : (k : ℕ) (bs : List ℕ) (h : Head) → length bs ≤ suc k → 0 < length bs → opened k bs h ≡ viewed bs h
+view-head : (k : ℕ) (bs : List ℕ) (h : Head) → length bs ≤ suc k → 0 < length bs → unpackedBy k bs h ≡ viewed bs h
 view-head k bs h e p = go h
   where
     list : (n m : ℕ) → unpackFrom k (take n (drop (RECORD + m) bs)) ≡ unpack (take n (drop (RECORD + m) bs))
@@ -82,7 +82,7 @@ view-head k bs h e p = go h
     rest : (m : ℕ) → unpackFrom k (drop (RECORD + m) bs) ≡ unpack (drop (RECORD + m) bs)
     rest m = let z = shorter-rest m bs p in unpack-fuel k _ _ (omega arith) (omega arith)
 
-    go : (h : Head) → opened k bs h ≡ viewed bs h
+    go : (h : Head) → unpackedBy k bs h ≡ viewed bs h
     go (leafHead x) = ap (cons (leaf x)) (rest (RECORD * 0))
     go (groupHead g n m c) = ap₂ (λ (a r : Tree). cons (block (group g a) m) r) (list (RECORD * n) 0) (rest (RECORD * n))
     go (binaryHead g n n′ m c) =

@@ -1,10 +1,10 @@
--- `unrolled` meets its contract: each way out is one case of the rule. Assumes nothing.
+-- `count_checked` meets its contract: each way out is one case of the rule. Assumes nothing.
 use mathlib.Core.Path.{ap}
 use borrow.Author.Needs.{needs}
 use Rattle.notation.specs.Lending.{outcome}
 use Rattle.checked.proofs.Counting.{count-unaccepted, count-refused, count-many, count-done}
-use Rattle.checked.proofs.unrolled.Statement.{statement}
-use Rattle.checked.proofs.unrolled.Tie as tie
+use Rattle.checked.proofs.count_checked.Statement.{statement}
+use Rattle.checked.proofs.count_checked.Tie as tie
 
 enum-known-answer : tie.Need-enum-known-answer
 enum-known-answer c = search needs
@@ -38,6 +38,6 @@ returns-4 c =
     (λ text tree p. count-done text tree k p _ e (c .before .if1 .left) (c .if2 .left) .answer,
     λ text tree p. count-done text tree k p _ e (c .before .if1 .left) (c .if2 .left) .counted)
 
-pub unrolled-spec : {M : Type 1} → statement M
-unrolled-spec =
+pub count-checked-spec : {M : Type 1} → statement M
+count-checked-spec =
     tie.close (tie.spec enum-known-answer enum-told returns returns-2 returns-3 returns-4)
