@@ -10,4 +10,5 @@ pub mod WellFormed
 pub mod Ranges
 pub mod Lending
 pub mod Entries
+pub mod Sizes
 pub mod Adversarial

@@ -32,3 +32,4 @@ pub mod Lister
 pub mod Demands
 pub mod Marked
 pub mod Host
+pub mod Sizes
