@@ -1,35 +1,32 @@
-/* Notation texts of twisty puzzles: reading, counting, seeking, and what a player shows of them.
+/* hypuz_notation: written solutions of twisty puzzles, for a host in C or C++.
  *
- * Link with target/staticlib/libhypuz_notation.a, made by `rt staticlib hypuz_notation`. The functions need no library, no heap and no
- * start-up call, keep no state and may be called from any number of threads, each with its own buffers.
+ * A text such as [R: U2 F]' is read into a tree, which is a run of records. From a text and its tree the other functions
+ * count the steps, list them, find any one of them, invert the tree, print it, and tell of a move which layers its prefix
+ * names and where its family stands. This header is all that a host author has to read; examples/card.c is a host to copy
+ * from.
  *
- * Every function answers one number: a refusal's number times 2^56, plus the value modulo 2^56 (0 when refused). No value reaches 2^56 where
- * no buffer has so many bytes, so nothing is lost. Take it apart with hypuz_refusal and hypuz_value. A refusal leaves every byte of a lent
- * buffer as it was; after success the bytes past the used part are as they were.
+ * Linking. `rt staticlib hypuz_notation` makes target/staticlib/libhypuz_notation.a for x86-64. Of its platform the archive
+ * asks for memcpy and memset and nothing else: no library, no heap, no start-up call. The functions keep no state and may be
+ * called from any number of threads, each with its own buffers. A stack of 256 KB is enough.
  *
- * A buffer is a pointer and a length in bytes. The pointer may not be null, also when the length is 0; a text, a tree and a buffer that is
- * written may not overlap. A text is UTF-8 of at most 16,777,215 bytes. A tree is a run of records of HYPUZ_RECORD bytes over its
- * text, as hypuz_parse_notation writes it; any bytes may be given as a tree, and are refused with 6 if they are not one. The bytes of a text
- * times HYPUZ_RECORD hold any tree of it.
+ * Answers. Every function answers one number, which holds a refusal and a value. Ask hypuz_refusal first: 0 says that the
+ * call did its job, and any other number says why it did not (enum hypuz_refused, hypuz_refusal_text). After that hypuz_value
+ * is what the function gives. The value beside a refusal is 0, and so is what an empty text gives, so a value of 0 alone says
+ * nothing. The number is the refusal times 2^56 plus the value modulo 2^56; no value reaches 2^56 where no buffer has so many
+ * bytes.
  *
- * The fields of a record by their bits, most significant first; those that a record does not use are 0. A group stands before what it holds.
- *   4         kind: 0 group, 1 macro !, 2 simultaneous &, 3 NISS ^, 4 commutator, 5 conjugate, 6 rotation, 7 move, 8 pause, 9 Square-1 pair,
- *             10 slash, 11 R++, 12 R--, 13 D++, 14 D--
- *   1, 2, 1   tilde; form of the layers (0 none, 1 single, 2 range, 3 set); whether there are constraints
- *   24, 24    records in the first list of a group, nested ones included, and in the second
- *   32        multiplier, or u of a pair (signed)
- *   32        d of a pair (signed), or low and high layer, 16 each
- *   6 by 24   offset and length in the text of: family, constraints with braces, layer set with braces
- *   40        count: how many steps the record unrolls into, repeats included; 4,294,967,296 if they are more than 4,294,967,295. It is 1 in a
- *             leaf, whatever its multiplier, and so in every step that is handed over; 0 in a group of multiplier 0 and in a NISS group, which
- *             adds 0 to what holds it. What stands inside such a group has its own count all the same.
- * Reading and both inverses write the count. A tree with a wrong one anywhere is refused with 6: whoever puts records together by hand has to
- * see to the counts of the groups around. One record with all that it holds may be cut out as it is.
+ * Buffers. A buffer is a pointer and a length in bytes. Results go into buffers that the caller lends. A refusal leaves every
+ * byte of a lent buffer as it was; after success the bytes past the used part are as they were. A buffer that is written may
+ * not overlap the text or the tree. No pointer may be null, also where the length is 0. An empty C++ vector may have null as
+ * its data(), and malloc(0) may give it: pass the address of any byte with the length 0 instead.
  *
- * Refusals: 1 text too long, 2 not UTF-8, 3 nested too deep, 4 not notation, 5 buffer too short, 6 not a tree over this text (a wrong count is
- * one reason), 7 a NISS group stands in the way, 8 a Square-1 number that cannot be negated, 9 more than 4,294,967,295 steps, 10 no such place,
- * 11 no such number of layers, 12 no such record. Where several apply, the first of 1, 2, 3, 4, 5 (reading) or 1, 2, 6, 11, 12, 7 or 8
- * (whichever the walk meets first), 9, 10, 5 is given.
+ * Texts and trees. A text is UTF-8 whose length says where it ends; a zero byte at its end, or a byte order mark before it, does
+ * not belong to it. A tree names parts of its text by their places, so each call is handed the text and the tree together. Any
+ * bytes may be given as a tree; those that are no tree over this text are refused.
+ *
+ * Cost. Reading takes time linear in the text. Every other call checks the whole text and the whole tree first, since nothing
+ * is kept between calls: time linear in both. What a function does beyond the check is said where it is declared. (A tree that
+ * a host puts together by hand may name one long part of the text in many records; the check reads it once for each.)
  */
 #ifndef HYPUZ_NOTATION_H
 #define HYPUZ_NOTATION_H
@@ -41,55 +38,354 @@
 extern "C" {
 #endif
 
-/* Bytes of a record. Host code that names it, and never the number, goes on to work when a record gains a field. */
-#define HYPUZ_RECORD 38
+/* Limits: bytes of a text, groups one inside another, steps of a list, and the number of the deepest layer. */
+#define HYPUZ_MAX_TEXT 16777215u
+#define HYPUZ_MAX_NESTING 64u
+#define HYPUZ_MAX_STEPS 4294967295u
+#define HYPUZ_MAX_LAYER 32767u
 
-/* The features of a setting, to be added up. Higher bits are ignored. */
-#define HYPUZ_INVERTED_LAYERS 1u
-#define HYPUZ_LAYER_SETS 2u
-#define HYPUZ_HSC1_LAYER_RANGES 4u
-#define HYPUZ_GENERALIZED_ROTATIONS 8u
-#define HYPUZ_TRANSFORM_CONSTRAINTS 16u
-#define HYPUZ_MEGAMINX 32u
-#define HYPUZ_SQ1 64u
-/* U+2019 and U+2032 in a multiplier, read as an apostrophe. On in no named setting: add it to one. */
-#define HYPUZ_CURLY_PRIMES 128u
+/* The notation. A text is a list of nodes with white space between them, which may also stand at both ends. White space is
+ * Unicode's, line ends included. There are no comments. A node is one of these; those marked with a feature need it:
+ *
+ *   move         layers, family, constraints, multiplier, of which only the family must be there: R, U2', 3Rw, 2-4r
+ *   group        (R U)2, or after a sign: !(R U) macro, &(R L') simultaneous, ^(R U) NISS
+ *   commutator   [R, U], which plays R U R' U'       conjugate   [R: U], which plays R U R'
+ *   pause        a full stop
+ *   rotation     @x2, @ (generalized_rotations)      Square-1    (1,-2) and / (sq1)
+ *   Megaminx     R++ R-- D++ D-- (megaminx)
+ *
+ * A family is any run of a-z, A-Z, _ and 25 Greek letters (Gamma Delta Theta Lambda Xi Pi Sigma Phi Psi Omega, beta delta
+ * epsilon zeta eta theta kappa lambda mu xi pi tau phi psi omega); in a rotation it may be empty. What it means (w, M, x, lower
+ * case) is left to the host. A multiplier is a number up to 2147483647 or none, which means 1, and after it a prime ' or none.
+ * Groups, commutators, conjugates, rotations and moves have one. Layers are one number or a range, from 1 to 32,767, or a layer
+ * set {1..3,-1} (layer_sets), with a tilde ~ before them or none (inverted_layers). Constraints are {U->F, L<>B, D}
+ * (transform_constraints). What some texts give, in steps or by the refusal of reading:
+ *
+ *   text                       | HYPUZ_WCA | HYPUZ_MAXIMAL |
+ *   R U2' F0                   | 3         | 3         | a move of multiplier 0 is a step too
+ *   R'2                        | refused 4 | refused 4 | the number stands before the prime
+ *   RU x2                      | 2         | 2         | RU is one move with the family RU, and x2 is a move
+ *   RU R'U'                    | refused 4 | refused 4 | nodes that touch
+ *   (R U)(R' F)                | refused 4 | refused 4 | nodes that touch
+ *   (R U) (R' F)               | 4         | 4         |
+ *   [R: U2 F]' (R U)3          | 10        | 10        |
+ *   (^(R))0                    | 0         | 0         | what stands in a group of multiplier 0 is not reached
+ *   R // comment               | refused 4 | refused 4 | no comments
+ *   (1,0) / (3,3) /            | 4         | 4         |
+ *   (1,0)/(3,3)/               | refused 4 | refused 4 | nodes that touch
+ *   R++ D-- U'                 | 3         | 3         |
+ *   3-1R 02U                   | 2         | 2         | the range 1-3, and layer 2
+ *   0R                         | refused 4 | refused 4 | no layer 0
+ *   ~2R                        | refused 4 | 1         |
+ *   {1..3,-1}R {1-3}U          | refused 4 | 2         |
+ *   @x2 @                      | refused 4 | 2         |
+ *   R{U->F, L<>B} U{}          | refused 4 | 2         | an empty set of constraints is not the same as none
+ *   R2147483647                | 1         | 1         |
+ *   R2147483648                | refused 4 | refused 4 | too large
+ */
+
+/* The features of a setting, to be added up; higher bits are ignored. Each admits what stands beside it. */
+#define HYPUZ_INVERTED_LAYERS 1u       /* ~2R */
+#define HYPUZ_LAYER_SETS 2u            /* {1..3,-1}R */
+#define HYPUZ_HSC1_LAYER_RANGES 4u     /* {1-3}R, where layer sets are admitted too */
+#define HYPUZ_GENERALIZED_ROTATIONS 8u /* @x2 */
+#define HYPUZ_TRANSFORM_CONSTRAINTS 16u /* R{U->F} */
+#define HYPUZ_MEGAMINX 32u             /* R++ R-- D++ D-- */
+#define HYPUZ_SQ1 64u                  /* (1,-2) and / */
+#define HYPUZ_CURLY_PRIMES 128u        /* U+2019 and U+2032 as primes, as word processors write them */
+
+/* The named settings. No named setting admits curly primes: add HYPUZ_CURLY_PRIMES to one. */
+#define HYPUZ_MINIMAL 0u
 #define HYPUZ_WCA (HYPUZ_MEGAMINX | HYPUZ_SQ1)
 #define HYPUZ_MAXIMAL 127u
 
+/* The refusals. Where several apply, the first of this order is given: in reading 1, 2, 3, 4, 5; with a tree 1, 2, 6, then 11,
+ * 12, then 7 or 8, whichever unrolling or inverting meets first, then 9, 10, then 5. Each function lists its own in order.
+ * Those from 13 on belong to functions still to come; no function of this header gives them. */
+enum hypuz_refused {
+    HYPUZ_ACCEPTED = 0,
+    HYPUZ_REFUSED_TOO_LONG = 1,
+    HYPUZ_REFUSED_NOT_UTF8 = 2,
+    HYPUZ_REFUSED_TOO_NESTED = 3,
+    HYPUZ_REFUSED_NOT_NOTATION = 4,
+    HYPUZ_REFUSED_NO_ROOM = 5,
+    HYPUZ_REFUSED_NOT_WELL_FORMED = 6,
+    HYPUZ_REFUSED_NISS = 7,
+    HYPUZ_REFUSED_OVERFLOW = 8,
+    HYPUZ_REFUSED_TOO_MANY_STEPS = 9,
+    HYPUZ_REFUSED_NO_SUCH_PLACE = 10,
+    HYPUZ_REFUSED_NO_SUCH_LAYER_COUNT = 11,
+    HYPUZ_REFUSED_NO_SUCH_RECORD = 12,
+    HYPUZ_REFUSED_STEP_TOO_WIDE = 13,
+    HYPUZ_REFUSED_NO_SUCH_CUBE = 14,
+    HYPUZ_REFUSED_BREAKS_REGULATIONS = 15,
+    HYPUZ_REFUSED_TOO_MANY_TO_REPLAY = 16,
+    HYPUZ_REFUSED_NOT_SQ1 = 17,
+    HYPUZ_REFUSED_BLOCKED_SLASH = 18,
+    HYPUZ_REFUSED_NOT_CONVERTIBLE = 19,
+    HYPUZ_REFUSED_FAMILY_IN_USE = 20,
+    HYPUZ_REFUSED_AT_END = 21,
+    HYPUZ_REFUSED_AT_START = 22,
+    HYPUZ_REFUSED_NO_SUCH_LEAF = 23
+};
+
+/* An answer taken apart: the refusal, 0 for none, and the value, 0 where the call was refused. */
 static inline unsigned hypuz_refusal(uint64_t answer) { return (unsigned)(answer >> 56); }
 static inline uint64_t hypuz_value(uint64_t answer) { return answer & 0xffffffffffffffu; }
 
-/* Reads a text into a tree: bytes used. Refusals 1, 2, 3, 4, 5. */
+/* A refusal as a sentence, which stays where it is and is never freed. */
+static inline const char *hypuz_refusal_text(unsigned refusal) {
+    switch (refusal) {
+    case HYPUZ_ACCEPTED: return "The call was not refused.";
+    case HYPUZ_REFUSED_TOO_LONG: return "The text has more than 16,777,215 bytes.";
+    case HYPUZ_REFUSED_NOT_UTF8: return "The text is not UTF-8.";
+    case HYPUZ_REFUSED_TOO_NESTED: return "The text has more than 64 brackets open at once.";
+    case HYPUZ_REFUSED_NOT_NOTATION: return "The text is not notation in this setting.";
+    case HYPUZ_REFUSED_NO_ROOM: return "The lent buffer is too short.";
+    case HYPUZ_REFUSED_NOT_WELL_FORMED: return "The bytes given as a tree are not a well-formed tree over this text.";
+    case HYPUZ_REFUSED_NISS: return "A NISS group stands in the way: it can be neither unrolled nor inverted deep.";
+    case HYPUZ_REFUSED_OVERFLOW: return "The Square-1 number -2147483648 cannot be negated.";
+    case HYPUZ_REFUSED_TOO_MANY_STEPS: return "There are more than 4,294,967,295 steps.";
+    case HYPUZ_REFUSED_NO_SUCH_PLACE: return "There is no such place.";
+    case HYPUZ_REFUSED_NO_SUCH_LAYER_COUNT: return "The number of layers is not from 1 to 32,767.";
+    case HYPUZ_REFUSED_NO_SUCH_RECORD: return "There is no such record, or it is of another kind.";
+    case HYPUZ_REFUSED_STEP_TOO_WIDE: return "A step prints with more than 61 characters.";
+    case HYPUZ_REFUSED_NO_SUCH_CUBE: return "The number of layers of the cube is not from 2 to 32,767.";
+    case HYPUZ_REFUSED_BREAKS_REGULATIONS: return "A step breaks the competition regulations.";
+    case HYPUZ_REFUSED_TOO_MANY_TO_REPLAY: return "There are more than 65,536 steps to replay.";
+    case HYPUZ_REFUSED_NOT_SQ1: return "A step is neither of Square-1 nor a pause.";
+    case HYPUZ_REFUSED_BLOCKED_SLASH: return "A slash is blocked.";
+    case HYPUZ_REFUSED_NOT_CONVERTIBLE: return "A move to be converted has a tilde or layers.";
+    case HYPUZ_REFUSED_FAMILY_IN_USE: return "The text already has a move with a family that converting writes.";
+    case HYPUZ_REFUSED_AT_END: return "There is no step after the last one.";
+    case HYPUZ_REFUSED_AT_START: return "There is no step before the first one.";
+    case HYPUZ_REFUSED_NO_SUCH_LEAF: return "There is no such record, or it is that of a group.";
+    default: return "There is no such refusal.";
+    }
+}
+
+/* Trees. A tree is a run of records of HYPUZ_RECORD bytes, one for each node, in reading order: the record of a group stands
+ * before those of its first list, and these before those of its second. Calls name a record by its number in the tree, counted
+ * in records from 0. A step is handed over as a record of its own and is itself a tree over the text, of one leaf. Host code
+ * that uses the functions below and HYPUZ_RECORD, and never an offset or a bare number, goes on to work when a record gains a
+ * field.
+ *
+ * For languages that cannot call these functions, the fields by their bits, most significant first; what a kind does not use is
+ * 0, and so is the offset of an empty family:
+ *
+ *   4         kind
+ *   1, 2, 1   tilde; form of the layers; whether there are constraints
+ *   24, 24    records in the first list, nested ones included, and in the second
+ *   32        multiplier, or u of a pair, in two's complement
+ *   32        d of a pair in two's complement, or low and high layer, 16 each
+ *   6 by 24   offset and length in the text, in bytes: of the family, of the constraints and of the layer set, with their braces
+ *   40        count
+ *
+ * The count is how many steps the node unrolls into, repeats included, and 4,294,967,296 if they are more than 4,294,967,295.
+ * It is 1 in a leaf, whatever its multiplier, and 0 in a group of multiplier 0 and in a NISS group; what stands inside such a
+ * group has its own count all the same.
+ *
+ * Reading and both inverses write trees, and a node cut out with all that it holds is one too. Whoever puts records together
+ * otherwise has to keep these rules, or the tree is refused (HYPUZ_REFUSED_NOT_WELL_FORMED): the length is a multiple of
+ * HYPUZ_RECORD; kinds are 0 to 14 and unused fields 0; parts lie inside the text; lists end inside the list that holds them;
+ * groups stand at most HYPUZ_MAX_NESTING deep; layers are from 1 to HYPUZ_MAX_LAYER, low not above high, equal in a single
+ * layer; no multiplier is -2147483648; families have family characters only, and at least one in a move; layer sets and
+ * constraints are what reading admits with all features; and every count is right. */
+#define HYPUZ_RECORD 38
+
+enum hypuz_kind {
+    HYPUZ_KIND_SIMPLE = 0,       /* ( ) */
+    HYPUZ_KIND_MACRO = 1,        /* !( ) */
+    HYPUZ_KIND_SIMULTANEOUS = 2, /* &( ) */
+    HYPUZ_KIND_NISS = 3,         /* ^( ) */
+    HYPUZ_KIND_COMMUTATOR = 4,   /* [ , ] */
+    HYPUZ_KIND_CONJUGATE = 5,    /* [ : ]; up to here groups, from here on leaves */
+    HYPUZ_KIND_ROTATION = 6,
+    HYPUZ_KIND_MOVE = 7,
+    HYPUZ_KIND_PAUSE = 8,
+    HYPUZ_KIND_PAIR = 9, /* (u,d) of Square-1 */
+    HYPUZ_KIND_SLASH = 10,
+    HYPUZ_KIND_R_PLUS = 11, /* R++ */
+    HYPUZ_KIND_R_MINUS = 12,
+    HYPUZ_KIND_D_PLUS = 13,
+    HYPUZ_KIND_D_MINUS = 14
+};
+
+enum hypuz_layers {
+    HYPUZ_LAYERS_NONE = 0,
+    HYPUZ_LAYERS_SINGLE = 1, /* 2R */
+    HYPUZ_LAYERS_RANGE = 2,  /* 2-3R */
+    HYPUZ_LAYERS_SET = 3     /* {2,3}R */
+};
+
+/* A part of a text. */
+struct hypuz_span {
+    uint32_t offset, length;
+};
+
+/* Numbers as records and ranges hold them, for the functions below: so many bytes, most significant first; 32 bits with a sign;
+ * a part of the text. */
+static inline uint64_t hypuz_bytes(const uint8_t *at, size_t size) {
+    uint64_t n = 0;
+    for (size_t i = 0; i < size; i++) n = n << 8 | at[i];
+    return n;
+}
+static inline int32_t hypuz_signed(const uint8_t *at) {
+    uint32_t n = (uint32_t)hypuz_bytes(at, 4);
+    return n <= 0x7fffffffu ? (int32_t)n : -(int32_t)(0xffffffffu - n) - 1;
+}
+static inline struct hypuz_span hypuz_span_at(const uint8_t *at) {
+    struct hypuz_span span = {(uint32_t)hypuz_bytes(at, 3), (uint32_t)hypuz_bytes(at + 3, 3)};
+    return span;
+}
+
+/* How many records a tree of so many bytes has, and the record with a number. */
+static inline size_t hypuz_records(size_t tree_size) { return tree_size / HYPUZ_RECORD; }
+static inline const uint8_t *hypuz_record_at(const uint8_t *tree, size_t record) { return tree + record * HYPUZ_RECORD; }
+
+/* What a record says. Each function gives 0, or a span of length 0, where the kind of the record has no such thing. */
+static inline unsigned hypuz_record_kind(const uint8_t *record) { return record[0] >> 4; }
+static inline int hypuz_record_is_group(const uint8_t *record) { return hypuz_record_kind(record) <= HYPUZ_KIND_CONJUGATE; }
+
+/* The multiplier of a group, a rotation or a move; u and d of a pair. */
+static inline int32_t hypuz_record_multiplier(const uint8_t *record) {
+    return hypuz_record_kind(record) <= HYPUZ_KIND_MOVE ? hypuz_signed(record + 7) : 0;
+}
+static inline int32_t hypuz_record_u(const uint8_t *record) {
+    return hypuz_record_kind(record) == HYPUZ_KIND_PAIR ? hypuz_signed(record + 7) : 0;
+}
+static inline int32_t hypuz_record_d(const uint8_t *record) {
+    return hypuz_record_kind(record) == HYPUZ_KIND_PAIR ? hypuz_signed(record + 11) : 0;
+}
+
+/* Of a move: whether it has a tilde, which of enum hypuz_layers stands before the family, and the layers of a single one, which
+ * is both low and high, or of a range. Of a move or a rotation: whether it has constraints, of which there may be none in the
+ * braces. */
+static inline int hypuz_record_tilde(const uint8_t *record) { return record[0] >> 3 & 1; }
+static inline unsigned hypuz_record_layers(const uint8_t *record) { return record[0] >> 1 & 3; }
+static inline unsigned hypuz_record_low(const uint8_t *record) {
+    return hypuz_record_kind(record) == HYPUZ_KIND_MOVE ? (unsigned)hypuz_bytes(record + 11, 2) : 0;
+}
+static inline unsigned hypuz_record_high(const uint8_t *record) {
+    return hypuz_record_kind(record) == HYPUZ_KIND_MOVE ? (unsigned)hypuz_bytes(record + 13, 2) : 0;
+}
+static inline int hypuz_record_has_constraints(const uint8_t *record) { return record[0] & 1; }
+
+/* Of a group: how many records its first list takes, nested ones included, and its second. Of any node: how many records it
+ * takes with all that it holds, so that the next node of its list begins so many records further on. */
+static inline uint32_t hypuz_record_first_list(const uint8_t *record) { return (uint32_t)hypuz_bytes(record + 1, 3); }
+static inline uint32_t hypuz_record_second_list(const uint8_t *record) { return (uint32_t)hypuz_bytes(record + 4, 3); }
+static inline uint32_t hypuz_record_whole(const uint8_t *record) {
+    return 1 + hypuz_record_first_list(record) + hypuz_record_second_list(record);
+}
+
+/* Where the family, the constraints with their braces and the layer set with its braces stand in the text. */
+static inline struct hypuz_span hypuz_record_family(const uint8_t *record) { return hypuz_span_at(record + 15); }
+static inline struct hypuz_span hypuz_record_constraints(const uint8_t *record) { return hypuz_span_at(record + 21); }
+static inline struct hypuz_span hypuz_record_layer_set(const uint8_t *record) { return hypuz_span_at(record + 27); }
+
+/* How many steps the node unrolls into, as said above. */
+static inline uint64_t hypuz_record_count(const uint8_t *record) { return hypuz_bytes(record + 33, 5); }
+
+/* Room: how many bytes are surely enough for what a function writes. It is proved of each that the result never has more. */
+#define HYPUZ_TREE_ROOM(text_size) ((size_t)(text_size) * HYPUZ_RECORD) /* hypuz_parse_notation */
+#define HYPUZ_INVERSE_ROOM(tree_size) ((size_t)(tree_size))             /* hypuz_inv, hypuz_inv_deep: just as many */
+#define HYPUZ_LIST_ROOM(count) ((size_t)(count) * HYPUZ_RECORD)         /* hypuz_flatten, by hypuz_count_steps: just as many */
+#define HYPUZ_STEP_ROOM HYPUZ_RECORD                                    /* hypuz_seek_step */
+#define HYPUZ_RANGES_ROOM 65536                                         /* hypuz_simplify */
+/* hypuz_display of what reading gave of the text, of its inverses, theirs included, and of any step that was sought in one. */
+#define HYPUZ_DISPLAY_ROOM(text_size) (2 * (size_t)(text_size))
+/* hypuz_display of any tree, the list that hypuz_flatten writes included: the bytes of the tree and of the parts that its records
+ * name, with a quarter more for layer sets, where 1-2 prints as 1..2. Linear in the tree. */
+static inline size_t hypuz_display_room(const uint8_t *tree, size_t tree_size) {
+    size_t room = tree_size;
+    for (size_t k = 0; k < hypuz_records(tree_size); k++) {
+        const uint8_t *record = hypuz_record_at(tree, k);
+        size_t set = hypuz_record_layer_set(record).length;
+        room += hypuz_record_family(record).length + (size_t)hypuz_record_constraints(record).length + set + set / 4;
+    }
+    return room;
+}
+
+/* Reads a text in a setting and writes its tree. Value: bytes written, HYPUZ_RECORD for each node.
+ * Refusals: TOO_LONG, NOT_UTF8, TOO_NESTED, NOT_NOTATION, NO_ROOM. Room: HYPUZ_TREE_ROOM(text_size).
+ * Brackets of every kind count for TOO_NESTED, those of Square-1 pairs too.
+ * Example: [R: U2 F]' gives four records, of the conjugate, of R, of U2 and of F. */
 uint64_t hypuz_parse_notation(const uint8_t *text, size_t text_size, uint32_t features, uint8_t *tree, size_t tree_size);
 
-/* How many steps the tree unrolls into. Refusals 1, 2, 6, 7 or 8, 9. */
+/* Counts the steps that the tree unrolls into. Value: their number.
+ * Refusals: TOO_LONG, NOT_UTF8, NOT_WELL_FORMED, NISS or OVERFLOW, TOO_MANY_STEPS. Cost: the check alone.
+ * Example: 4 for [R: U2 F]'. */
 uint64_t hypuz_count_steps(const uint8_t *text, size_t text_size, const uint8_t *tree, size_t tree_size);
 
-/* The record of the step at a place, from 0: HYPUZ_RECORD. Its time does not depend on the number of steps. Refusals 1, 2, 6, 7 or 8, 9, 10, 5. */
-uint64_t hypuz_seek_step(const uint8_t *text, size_t text_size, const uint8_t *tree, size_t tree_size, uint64_t place, uint8_t *step, size_t step_size);
+/* Writes the record of the step at a place, counted from 0, undone where it is played so. Value: HYPUZ_RECORD.
+ * Refusals: TOO_LONG, NOT_UTF8, NOT_WELL_FORMED, NISS or OVERFLOW, TOO_MANY_STEPS, NO_SUCH_PLACE, NO_ROOM.
+ * Room: HYPUZ_STEP_ROOM. Cost: linear in the text and the tree, however many steps there are.
+ * Example: place 1 of [R: U2 F]' is F'. */
+uint64_t hypuz_seek_step(const uint8_t *text, size_t text_size, const uint8_t *tree, size_t tree_size, uint64_t place,
+                         uint8_t *step, size_t step_size);
 
-/* The shallow inverse as a tree over the same text: bytes used. Refusals 1, 2, 6, 8, 5. */
-uint64_t hypuz_inv(const uint8_t *text, size_t text_size, const uint8_t *tree, size_t tree_size, uint8_t *out, size_t out_size);
-
-/* The deep inverse as a tree over the same text: bytes used. Refusals 1, 2, 6, 7 or 8, 5. */
-uint64_t hypuz_inv_deep(const uint8_t *text, size_t text_size, const uint8_t *tree, size_t tree_size, uint8_t *out, size_t out_size);
-
-/* The tree as text: bytes used. Refusals 1, 2, 6, 5. */
-uint64_t hypuz_display(const uint8_t *text, size_t text_size, const uint8_t *tree, size_t tree_size, uint8_t *out, size_t out_size);
-
-/* The unrolled list, a record for each step: bytes used. Refusals 1, 2, 6, 7 or 8, 9, 5. */
+/* Writes the list of all steps, a record for each in the order in which they are played; it is a tree over the same text.
+ * Value: bytes written.
+ * Refusals: TOO_LONG, NOT_UTF8, NOT_WELL_FORMED, NISS or OVERFLOW, TOO_MANY_STEPS, NO_ROOM.
+ * Room: HYPUZ_LIST_ROOM(count). Cost: linear in the list beyond the check. A list may be long where its text is short: count
+ * first. Example: [R: U2 F]' gives R F' U2' R'. */
 uint64_t hypuz_flatten(const uint8_t *text, size_t text_size, const uint8_t *tree, size_t tree_size, uint8_t *out, size_t out_size);
 
-/* The layers that the move at a record turns, on an axis of max_layer layers: how many ranges, by depth and none touching, each written as low
- * and high, 16 bits big-endian. With a tilde these are the layers from 1 to max_layer that the same prefix without it does not give: 1-1 and 3-5
- * for ~2R on five layers, none for ~R on one. There are at most 16,384 ranges. Negative layers are allowed unless allow_negatives is 0.
- * Refusals 1, 2, 6, 11, 12, 5. */
-uint64_t hypuz_simplify(const uint8_t *text, size_t text_size, const uint8_t *tree, size_t tree_size, uint64_t record, uint32_t max_layer,
-                        uint32_t allow_negatives, uint8_t *out, size_t out_size);
+/* Writes the shallow inverse, a tree over the same text: the outer list reversed, its leaves undone and the multipliers of its
+ * groups negated. What stands inside a group stays as it is. Value: bytes written.
+ * Refusals: TOO_LONG, NOT_UTF8, NOT_WELL_FORMED, OVERFLOW, NO_ROOM. Room: HYPUZ_INVERSE_ROOM(tree_size). Cost: linear.
+ * A NISS group is kept and gets the other sign like any group; the inverse is a formal one there, since neither unrolls.
+ * Example: (R U)2 [F, D] gives [F, D]' (R U)2'. */
+uint64_t hypuz_inv(const uint8_t *text, size_t text_size, const uint8_t *tree, size_t tree_size, uint8_t *out, size_t out_size);
 
-/* Where the family of a move or a rotation stands in the text: its offset times 2^24 plus its length. Refusals 1, 2, 6, 12. */
+/* Writes the deep inverse, a tree over the same text: as the shallow one, but the multipliers of groups stay, with their signs,
+ * and what they hold is inverted instead: the list of a group, the second list of a conjugate; the lists of a commutator change
+ * places. Value: bytes written.
+ * Refusals: TOO_LONG, NOT_UTF8, NOT_WELL_FORMED, NISS or OVERFLOW, NO_ROOM. Room: HYPUZ_INVERSE_ROOM(tree_size). Cost: linear.
+ * Example: (R U)2' [F, D] gives [D, F] (U' R')2'. */
+uint64_t hypuz_inv_deep(const uint8_t *text, size_t text_size, const uint8_t *tree, size_t tree_size, uint8_t *out, size_t out_size);
+
+/* Prints a tree. Value: bytes written, without a final 0.
+ * Refusals: TOO_LONG, NOT_UTF8, NOT_WELL_FORMED, NO_ROOM. Room: HYPUZ_DISPLAY_ROOM(text_size) or hypuz_display_room. Cost: linear
+ * in the tree and what is printed.
+ * One space stands between nodes, so line ends print as spaces; a multiplier of 1 and leading zeros are left out, and every
+ * prime is an apostrophe. Example: (R1  U)02 with a line end after it gives (R U)2. */
+uint64_t hypuz_display(const uint8_t *text, size_t text_size, const uint8_t *tree, size_t tree_size, uint8_t *out, size_t out_size);
+
+/* Resolves the written prefix of a move on an axis of max_layer layers, 1 being the outermost, and writes the layers as ranges by
+ * depth, none touching another. Value: how many ranges; hypuz_range_low and hypuz_range_high take each apart.
+ * Refusals: TOO_LONG, NOT_UTF8, NOT_WELL_FORMED, NO_SUCH_LAYER_COUNT (max_layer is 0 or above HYPUZ_MAX_LAYER), NO_SUCH_RECORD
+ * (there is no record with this number, or it is not a move), NO_ROOM. Room: HYPUZ_RANGES_ROOM. Cost: linear in max_layer and
+ * the layer set beyond the check.
+ * This is not yet what the move turns: what its family means is the host's to know. No prefix means layer 1, so Rw and M give
+ * 1-1, and 3Rw gives 3-3. Layers beyond the axis are left out. In a layer set -1 is the deepest layer, unless allow_negatives is
+ * 0: then an element of the set that has a negative number gives nothing. With a tilde the answer is the layers from 1 to
+ * max_layer that the same prefix without it does not give.
+ * Example, on five layers: {1,3,2,-1}R gives 1-3 and 5-5, with allow_negatives 0 only 1-3; ~2R gives 1-1 and 3-5. */
+uint64_t hypuz_simplify(const uint8_t *text, size_t text_size, const uint8_t *tree, size_t tree_size, uint64_t record,
+                        uint32_t max_layer, uint32_t allow_negatives, uint8_t *out, size_t out_size);
+
+/* The range with a number, from 0, in what hypuz_simplify wrote: its lowest and its highest layer. */
+#define HYPUZ_RANGE 4
+static inline unsigned hypuz_range_low(const uint8_t *ranges, size_t k) {
+    return (unsigned)hypuz_bytes(ranges + k * HYPUZ_RANGE, 2);
+}
+static inline unsigned hypuz_range_high(const uint8_t *ranges, size_t k) {
+    return (unsigned)hypuz_bytes(ranges + k * HYPUZ_RANGE + 2, 2);
+}
+
+/* Says where the family of a move or a rotation stands in the text. Value: its offset times 2^24 plus its length, which
+ * hypuz_family_span takes apart.
+ * Refusals: TOO_LONG, NOT_UTF8, NOT_WELL_FORMED, NO_SUCH_RECORD (there is no record with this number, or it is neither a move nor
+ * a rotation). Cost: the check alone. Of a tree that is known to be one, hypuz_record_family says the same without a check.
+ * Example: of record 2 of R (Uw) it is offset 3, length 2. */
 uint64_t hypuz_family(const uint8_t *text, size_t text_size, const uint8_t *tree, size_t tree_size, uint64_t record);
+
+static inline struct hypuz_span hypuz_family_span(uint64_t answer) {
+    struct hypuz_span span = {(uint32_t)(hypuz_value(answer) >> 24), (uint32_t)(hypuz_value(answer) & 0xffffffu)};
+    return span;
+}
 
 #ifdef __cplusplus
 }

@@ -82,6 +82,11 @@ if has cc; then
 else
     skip host "needs a C compiler (package gcc)"
 fi
+if has python3 && has cc && has c++; then
+    run header tests/host/header.sh
+else
+    skip header "needs python3 and compilers of C and C++ (packages python3, gcc, g++)"
+fi
 if has python3; then
     run forms tests/forms/run.sh
 else

@@ -11,8 +11,8 @@
 
 /* STEPS: lists that fit into the region for buffers. COUNT: a record ends with its count, so many bytes. */
 enum { GUARD = 64, MOST = 1 << 16, OUTS = 1 << 14, STEPS = (OUTS - GUARD) / HYPUZ_RECORD, COUNT = 5, LAYERS = 32767 };
-/* In the first byte of a move's record: its tilde, and the form of its layers. */
-enum { TILDE = 8, FORM = 6 };
+/* The tilde in the first byte of a move's record. */
+enum { TILDE = 8 };
 
 static void demand(int holds, const char *what) {
     if (!holds) {
@@ -111,12 +111,6 @@ static uint64_t fits(call *f, const struct input *i, size_t room, size_t unit, c
     return all;
 }
 
-static uint64_t field(const uint8_t *at, size_t bytes) {
-    uint64_t n = 0;
-    for (size_t k = 0; k < bytes; k++) n = n << 8 | at[k];
-    return n;
-}
-
 static void store(uint8_t *record, uint64_t count) {
     for (size_t k = HYPUZ_RECORD; k > HYPUZ_RECORD - COUNT; k--, count >>= 8) record[k - 1] = (uint8_t)count;
 }
@@ -129,23 +123,24 @@ static void recount(uint8_t *tree, size_t size) {
     size_t records = size / HYPUZ_RECORD, *ends = malloc((records + 1) * sizeof *ends);
     for (size_t i = records; i-- > 0;) {
         uint8_t *r = tree + i * HYPUZ_RECORD;
-        unsigned kind = r[0] >> 4;
+        unsigned kind = hypuz_record_kind(r);
         ends[i] = i + 1;
-        if (kind > 5) {
+        if (!hypuz_record_is_group(r)) {
             store(r, 1);
             continue;
         }
-        size_t middle = i + 1 + field(r + 1, 3), last = middle + (kind > 3 ? field(r + 4, 3) : 0);
+        size_t middle = i + 1 + hypuz_record_first_list(r), last = middle + (kind > HYPUZ_KIND_NISS ? hypuz_record_second_list(r) : 0);
         if (middle > records) middle = records;
         if (last > records) last = records;
         uint64_t lists[2] = {0, 0};
         for (size_t k = i + 1; k < last; k = ends[k]) {
             uint64_t *list = lists + (k >= middle);
-            *list = capped(*list + field(tree + (k + 1) * HYPUZ_RECORD - COUNT, COUNT));
+            *list = capped(*list + hypuz_record_count(tree + k * HYPUZ_RECORD));
         }
         ends[i] = last;
-        uint64_t once = kind == 3 ? 0 : kind == 4 ? 2 * (lists[0] + lists[1]) : kind == 5 ? 2 * lists[0] + lists[1] : lists[0];
-        uint64_t number = field(r + 7, 4), times = number >> 31 ? 4294967296u - number : number;
+        uint64_t once = kind == HYPUZ_KIND_NISS ? 0 : kind == HYPUZ_KIND_COMMUTATOR ? 2 * (lists[0] + lists[1]) : kind == HYPUZ_KIND_CONJUGATE ? 2 * lists[0] + lists[1] : lists[0];
+        int64_t number = hypuz_record_multiplier(r);
+        uint64_t times = (uint64_t)(number < 0 ? -number : number);
         store(r, capped(capped(once) * times));
     }
     free(ends);
@@ -197,11 +192,11 @@ static void twice(call *f, const struct input *i, uint64_t size, const char *wha
 
 /* Counts in `lit` each layer that an answer has, and checks its form: sorted, none touching, all on the axis. */
 static void light(const struct input *i, uint8_t *lit) {
-    static uint8_t out[4 * (LAYERS + 1) / 2];
+    static uint8_t out[HYPUZ_RANGES_ROOM];
     uint64_t n = simplify(i, out, sizeof out), after = 0;
     demand(!hypuz_refusal(n), "layer ranges with all the room that they can need");
-    for (const uint8_t *r = out; r < out + 4 * n; r += 4) {
-        uint64_t low = field(r, 2), high = field(r + 2, 2);
+    for (size_t k = 0; k < n; k++) {
+        uint64_t low = hypuz_range_low(out, k), high = hypuz_range_high(out, k);
         demand(low > after && low <= high && high <= i->layers, "layer ranges sorted, not touching, on the axis");
         for (uint64_t layer = low; layer <= high; layer++) lit[layer]++;
         after = high + 1;
@@ -214,7 +209,7 @@ static void other_layers(const struct input *i) {
     static uint8_t with[LAYERS + 1], without[LAYERS + 1];
     uint8_t *tree = malloc(i->tree_size), *record = tree + i->record * HYPUZ_RECORD;
     memcpy(tree, i->tree, i->tree_size);
-    int tilde = (*record & TILDE) != 0;
+    int tilde = hypuz_record_tilde(record);
     totals[10 + tilde][0]++;
     note(16 * (10 + tilde));
     struct input other = *i;
@@ -227,12 +222,43 @@ static void other_layers(const struct input *i) {
     light(&other, without);
     for (uint32_t layer = 1; layer <= i->layers; layer++) {
         demand(with[layer] + without[layer] == 1, "each layer either with the tilde or without");
-        demand(*record & FORM || without[layer] == (layer == 1), "no contents: layer 1");
+        demand(hypuz_record_layers(record) != HYPUZ_LAYERS_NONE || without[layer] == (layer == 1), "no contents: layer 1");
     }
     free(tree);
 }
 
+/* Prints a tree into just the room that the header says to be enough. */
+static void printed_within(const struct input *i, const uint8_t *tree, size_t size, size_t room, const char *what) {
+    uint8_t *out = malloc(room + 1);
+    demand(!hypuz_refusal(hypuz_display(i->text, i->text_size, tree, size, out, room)), what);
+    free(out);
+}
+
+/* Checks the rooms of what the library makes over a text: its tree, the inverses of that, and the step at a place. */
+static void rooms(const struct input *i) {
+    size_t room = HYPUZ_TREE_ROOM(i->text_size), shown = HYPUZ_DISPLAY_ROOM(i->text_size);
+    uint8_t *tree = malloc(room + 1), *inverse = malloc(room + 1), step[HYPUZ_STEP_ROOM];
+    uint64_t read = hypuz_parse_notation(i->text, i->text_size, i->features, tree, room);
+    demand(hypuz_refusal(read) != HYPUZ_REFUSED_NO_ROOM, "the room for a tree");
+    if (!hypuz_refusal(read)) {
+        printed_within(i, tree, read, shown, "the room for a text that was read");
+        struct input own = *i;
+        own.tree = tree, own.tree_size = read;
+        for (int deep = 0; deep < 2; deep++) {
+            uint64_t inverted = (deep ? inv_deep : inv)(&own, inverse, HYPUZ_INVERSE_ROOM(read));
+            demand(hypuz_refusal(inverted) != HYPUZ_REFUSED_NO_ROOM, "the room for an inverse");
+            if (!hypuz_refusal(inverted)) printed_within(i, inverse, inverted, shown, "the room for an inverse as text");
+        }
+        uint64_t found = seek(&own, step, sizeof step);
+        demand(hypuz_refusal(found) != HYPUZ_REFUSED_NO_ROOM, "the room for a step");
+        if (!hypuz_refusal(found)) printed_within(i, step, sizeof step, shown, "the room for a step as text");
+    }
+    free(tree);
+    free(inverse);
+}
+
 static void every(const struct input *i, size_t room) {
+    rooms(i);
     uint64_t whole = fits(parse, i, room, 1, "reading");
     uint64_t shown = fits(display, i, room, 1, "printing");
     uint64_t shallow = fits(inv, i, room, 1, "inverse"), deep = fits(inv_deep, i, room, 1, "deep inverse");
@@ -241,7 +267,8 @@ static void every(const struct input *i, size_t room) {
     uint64_t step = fits(seek, i, room % 64, 1, "seeking");
     uint64_t turned = fits(simplify, i, room, 4, "layer ranges");
     uint64_t part = hypuz_family(i->text, i->text_size, i->tree, i->tree_size, i->record);
-    demand(hypuz_refusal(part) || (hypuz_value(part) >> 24) + (hypuz_value(part) & 0xffffff) <= i->text_size, "a family inside the text");
+    struct hypuz_span family = hypuz_family_span(part);
+    demand(hypuz_refusal(part) || family.offset + family.length <= i->text_size, "a family inside the text");
     uint64_t answers[] = {whole, shown, shallow, deep, n, list, step, turned, part};
     for (size_t k = 0; k < sizeof answers / sizeof *answers; k++) {
         note(16 * k + hypuz_refusal(answers[k]));
@@ -254,6 +281,7 @@ static void every(const struct input *i, size_t room) {
         return;
     }
     demand(r == 0, "printing a tree that is well formed");
+    printed_within(i, i->tree, i->tree_size, hypuz_display_room(i->tree, i->tree_size), "the room for any tree as text");
     if (hypuz_refusal(turned) == 0 || hypuz_refusal(turned) == 5) other_layers(i);
     counted(i->tree, i->tree_size, "a wrong count is refused 6");
     twice(inv, i, shallow, "inverse twice");
@@ -290,7 +318,7 @@ static void store_part(uint8_t *at, size_t n) { at[0] = (uint8_t)(n >> 16), at[1
 static void to_given(const struct straight *s, uint8_t *tree, size_t size) {
     for (uint8_t *r = tree; r < tree + size; r += HYPUZ_RECORD)
         for (uint8_t *part = r + 15; part < r + 33; part += 6) {
-            size_t from = field(part, 3), to = from + field(part + 3, 3);
+            size_t from = hypuz_span_at(part).offset, to = from + hypuz_span_at(part).length;
             demand(to <= s->size, "parts inside the straight text");
             store_part(part, s->given[from]);
             store_part(part + 3, s->given[to] - s->given[from]);

@@ -62,13 +62,7 @@ static void prints(const char *text, const uint8_t *tree, size_t size, const cha
     }
 }
 
-/* The count that a record stores. */
-static uint64_t stored(const uint8_t *record) {
-    uint64_t n = 0;
-    for (size_t i = HYPUZ_RECORD - COUNT; i < HYPUZ_RECORD; i++) n = n << 8 | record[i];
-    return n;
-}
-
+/* Puts a count into a record. */
 static void store(uint8_t *record, uint64_t n) {
     for (size_t i = HYPUZ_RECORD; i > HYPUZ_RECORD - COUNT; i--, n >>= 8) record[i - 1] = (uint8_t)n;
 }
@@ -106,7 +100,7 @@ static void item(const char *text, const char *shown, const char *inverse, const
     prints(text, list, whole, steps);
     for (uint64_t k = 0; k < n; k++) {
         const uint8_t *step = list + k * HYPUZ_RECORD;
-        expect(stored(step) == 1, "the count of a step", text);
+        expect(hypuz_record_count(step) == 1, "the count of a step", text);
         out = lend();
         expect(hypuz_seek_step(bytes(text), strlen(text), tree, size, k, out, HYPUZ_RECORD) == HYPUZ_RECORD && memcmp(out, step, HYPUZ_RECORD) == 0 && untouched(HYPUZ_RECORD),
                "seeking", text);
@@ -125,7 +119,7 @@ static void ranges(const char *text, uint32_t layers, uint32_t negatives, const 
     uint64_t n = hypuz_simplify(bytes(text), strlen(text), tree, size, 0, layers, negatives, out, ROOM);
     char list[256] = "";
     for (uint64_t i = 0; i < n && i < 16; i++)
-        sprintf(list + strlen(list), "%s%d-%d", i ? "," : "", out[4 * i] * 256 + out[4 * i + 1], out[4 * i + 2] * 256 + out[4 * i + 3]);
+        sprintf(list + strlen(list), "%s%u-%u", i ? "," : "", hypuz_range_low(out, i), hypuz_range_high(out, i));
     expect(strcmp(list, shown) == 0 && untouched(4 * n), "layer ranges", text);
     out = lend();
     expect(hypuz_simplify(bytes(text), strlen(text), tree, size, 0, layers, negatives, out, 4 * n) == n && untouched(4 * n), "layer ranges in an exact fit", text);
@@ -178,8 +172,7 @@ static void every_second(const char *sign, int first, int lit, size_t n) {
     expect(hypuz_simplify(bytes(text), at, tree, sizeof tree, 0, LAYERS, 0, out, 4 * n - 1) == refused(5) && out[0] == FILL && memcmp(out, out + 1, 4 * RANGES) == 0, "refusal 5", "every second layer");
     expect(hypuz_simplify(bytes(text), at, tree, sizeof tree, 0, LAYERS, 0, out, 4 * n) == n && out[4 * n] == FILL, "as many ranges", "every second layer");
     int wrong = 0;
-    for (size_t k = 0; k < n; k++)
-        for (size_t end = 4 * k; end < 4 * k + 4; end += 2) wrong += out[end] * 256 + out[end + 1] != lit + 2 * (int)k;
+    for (size_t k = 0; k < n; k++) wrong += hypuz_range_low(out, k) != (unsigned)lit + 2 * k || hypuz_range_high(out, k) != hypuz_range_low(out, k);
     expect(!wrong, "each of them", "every second layer");
     free(text);
     free(out);
@@ -210,13 +203,13 @@ static void counts(const char *text, size_t n, const uint64_t *want, const uint6
     uint8_t tree[ROOM];
     size_t size = read_text(text, tree);
     expect(size == n * HYPUZ_RECORD, "records", text);
-    for (size_t i = 0; i < n; i++) expect(stored(tree + i * HYPUZ_RECORD) == want[i], "the count that reading stores", text);
+    for (size_t i = 0; i < n; i++) expect(hypuz_record_count(tree + i * HYPUZ_RECORD) == want[i], "the count that reading stores", text);
     uint8_t *out = lend();
     expect(hypuz_inv(bytes(text), strlen(text), tree, size, out, ROOM) == size, "inverse", text);
-    for (size_t i = 0; i < n; i++) expect(stored(out + i * HYPUZ_RECORD) == inverse[i], "the count that the inverse stores", text);
+    for (size_t i = 0; i < n; i++) expect(hypuz_record_count(out + i * HYPUZ_RECORD) == inverse[i], "the count that the inverse stores", text);
     if (deep) {
         expect(hypuz_inv_deep(bytes(text), strlen(text), tree, size, out, ROOM) == size, "deep inverse", text);
-        for (size_t i = 0; i < n; i++) expect(stored(out + i * HYPUZ_RECORD) == deep[i], "the count that the deep inverse stores", text);
+        for (size_t i = 0; i < n; i++) expect(hypuz_record_count(out + i * HYPUZ_RECORD) == deep[i], "the count that the deep inverse stores", text);
     }
     for (size_t i = 0; i < n; i++) {
         uint8_t *record = tree + i * HYPUZ_RECORD;
@@ -325,7 +318,36 @@ static void curly_primes(void) {
     features = HYPUZ_MAXIMAL;
 }
 
+/* The examples that the header gives for its functions, beside those of `main`, and what it says of the ends of a text. */
+static void examples(void) {
+    item("(R U)2 [F, D]", "(R U)2 [F, D]", "[F, D]' (R U)2'", "[D, F] (U' R')2", 0, "R U R U F D F' D'", 8);
+    item("(R U)2' [F, D]", "(R U)2' [F, D]", "[F, D]' (R U)2", "[D, F] (U' R')2'", 0, "U' R' U' R' F D F' D'", 8);
+    item("(R1  U)02\n", "(R U)2", "(R U)2'", "(U' R')2", 0, "R U R U", 4);
+    ranges("{1,3,2,-1}R", 5, 0, "1-3");
+    ranges("Rw", 5, 1, "1-1");
+    ranges("M", 5, 1, "1-1");
+    ranges("3Rw", 5, 1, "3-3");
+    uint8_t tree[ROOM], *out = lend();
+    size_t size = read_text("[R: U2 F]'", tree);
+    expect(size == 4 * HYPUZ_RECORD, "four records", "[R: U2 F]'");
+    size = read_text("R (Uw)", tree);
+    struct hypuz_span family = hypuz_family_span(hypuz_family(bytes("R (Uw)"), 6, tree, size, 2)), same = hypuz_record_family(hypuz_record_at(tree, 2));
+    expect(family.offset == 3 && family.length == 2 && same.offset == 3 && same.length == 2, "a family", "R (Uw)");
+    size = read_text("^(R)", tree);
+    expect(hypuz_inv(bytes("^(R)"), 4, tree, size, out, ROOM) == size && hypuz_record_multiplier(out) == -1, "a NISS group with the other sign", "^(R)");
+    memcpy(tree, out, size);
+    prints("^(R)", tree, size, "^(R)'");
+    out = lend();
+    expect(hypuz_parse_notation(bytes("R"), 2, HYPUZ_MAXIMAL, out, ROOM) == refused(HYPUZ_REFUSED_NOT_NOTATION) && untouched(0), "a zero byte at the end", "R");
+    expect(hypuz_parse_notation(bytes("\xef\xbb\xbfR"), 4, HYPUZ_MAXIMAL, out, ROOM) == refused(HYPUZ_REFUSED_NOT_NOTATION) && untouched(0), "a byte order mark", "R");
+    char pairs[400] = "";
+    for (int k = 0; k < 64; k++) strcat(pairs, "(");
+    strcat(pairs, "(1,2)");
+    expect(hypuz_parse_notation(bytes(pairs), strlen(pairs), HYPUZ_MAXIMAL, out, ROOM) == refused(HYPUZ_REFUSED_TOO_NESTED) && untouched(0), "a pair inside 64 groups", pairs);
+}
+
 int main(void) {
+    examples();
     item("", "", "", "", 0, "", 0);
     item("R U'", "R U'", "U R'", "U R'", 0, "R U'", 2);
     item("[R, U]", "[R, U]", "[R, U]'", "[U, R]", 0, "R U R' U'", 4);
