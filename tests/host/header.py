@@ -98,6 +98,21 @@ def says(node):
             *(node.layers[1] if form == 3 else (0, 0)), n.stored_count(node)]
 
 
+def wide():
+    """Gives single records of every kind whose fields are filled to their width, as the fields and what the accessors must give of them."""
+    for kind in range(15):
+        for _ in range(200):
+            shape = {"kind": kind, "form": random.randrange(4) if kind == n.MOVE else 0, "constrained": random.randrange(2) if kind in (n.ROTATION, n.MOVE) else 0}
+            used = n.used_fields({**shape, "family_size": 1}) - shape.keys()
+            values = {name: random.choice((0, 1, (1 << bits) - 1, 1 << bits - 1, random.getrandbits(bits))) for name, bits in n.FIELDS if name in used}
+            f = {**dict.fromkeys(dict(n.FIELDS), 0), **shape, **values}
+            number, d = ((f[name] ^ 1 << 31) - (1 << 31) for name in ("number", "d"))
+            pair = kind == n.PAIR
+            yield f, [kind, int(kind < n.ROTATION), number if kind <= n.MOVE else 0, number if pair else 0, d if pair else 0, f["tilde"], f["form"],
+                      0 if pair else f["d"] >> 16, 0 if pair else f["d"] & 0xFFFF, f["constrained"], f["first"], f["second"], 1 + f["first"] + f["second"],
+                      f["family"], f["family_size"], f["constraints"], f["constraints_size"], f["set"], f["set_size"], f["count"]]
+
+
 def room(nodes):
     """Gives what hypuz_display_room says that it adds up."""
     return sum(n.RECORD + node[14] + node[16] + node[18] + node[18] // 4 for node in map(says, n.in_order(nodes)))
@@ -165,12 +180,15 @@ def accessors(programs):
         expect(shown <= room(nodes), True, f"the room by the records for {text[:60]}")
         expect(most is None or shown <= most, True, f"the room by the text for {text[:60]}")
     expect(tight > 0, True, "some text needs all of the room by the text")
+    for f, values in wide():
+        hexes += n.packed(f).hex() + "\n"
+        wanted += [" ".join(map(str, values)), f"room {n.RECORD + f['family_size'] + f['constraints_size'] + f['set_size'] * 5 // 4}"]
     for program in programs:
         got = subprocess.run([program], input=hexes, stdout=subprocess.PIPE, check=True, text=True).stdout.splitlines()
         expect(len(got), len(wanted), f"lines of {program}")
         for line, want in zip(got, wanted):
             expect(line, want, f"accessors of {program}")
-    print(f"{len(cases)} trees, {len(wanted) - len(cases)} records, {len(programs)} programs")
+    print(f"{len(cases)} trees, {sum(not line.startswith('room') for line in wanted)} records, {len(programs)} programs")
 
 
 def symbols(archive):
