@@ -100,8 +100,8 @@ extern "C" {
 #define HYPUZ_MAXIMAL 127u
 
 /* The refusals. Where several apply, the first of this order is given: in reading 1, 2, 3, 4, 5; with a tree 1, 2, 6, then 11,
- * 12, then 7 or 8, whichever unrolling or inverting meets first, then 9, 10, then 5. Each function lists its own in order.
- * Those from 13 on belong to functions still to come; no function of this header gives them. */
+ * 12, then 7 or 8, whichever unrolling or inverting meets first, then 9, 10, then 5. Each function below lists its own in this
+ * order, without the HYPUZ_REFUSED_ of the name. Those from 13 on belong to functions still to come and are given by none yet. */
 enum hypuz_refused {
     HYPUZ_ACCEPTED = 0,
     HYPUZ_REFUSED_TOO_LONG = 1,
@@ -328,13 +328,15 @@ uint64_t hypuz_seek_step(const uint8_t *text, size_t text_size, const uint8_t *t
 /* Writes the list of all steps, a record for each in the order in which they are played; it is a tree over the same text.
  * Value: bytes written.
  * Refusals: TOO_LONG, NOT_UTF8, NOT_WELL_FORMED, NISS or OVERFLOW, TOO_MANY_STEPS, NO_ROOM.
- * Room: HYPUZ_LIST_ROOM(count). Cost: linear in the list beyond the check. A list may be long where its text is short: count
- * first. Example: [R: U2 F]' gives R F' U2' R'. */
+ * Room: HYPUZ_LIST_ROOM(count), where the count is that of hypuz_count_steps: a short text may have a long list.
+ * Cost: beyond the check it grows with the list and with the groups without steps that are passed on the way.
+ * Example: [R: U2 F]' gives R F' U2' R'. */
 uint64_t hypuz_flatten(const uint8_t *text, size_t text_size, const uint8_t *tree, size_t tree_size, uint8_t *out, size_t out_size);
 
 /* Writes the shallow inverse, a tree over the same text: the outer list reversed, its leaves undone and the multipliers of its
  * groups negated. What stands inside a group stays as it is. Value: bytes written.
- * Refusals: TOO_LONG, NOT_UTF8, NOT_WELL_FORMED, OVERFLOW, NO_ROOM. Room: HYPUZ_INVERSE_ROOM(tree_size). Cost: linear.
+ * Refusals: TOO_LONG, NOT_UTF8, NOT_WELL_FORMED, OVERFLOW, NO_ROOM. Room: HYPUZ_INVERSE_ROOM(tree_size).
+ * Cost: linear in the tree, beyond the check.
  * A NISS group is kept and gets the other sign like any group; the inverse is a formal one there, since neither unrolls.
  * Example: (R U)2 [F, D] gives [F, D]' (R U)2'. */
 uint64_t hypuz_inv(const uint8_t *text, size_t text_size, const uint8_t *tree, size_t tree_size, uint8_t *out, size_t out_size);
@@ -342,13 +344,15 @@ uint64_t hypuz_inv(const uint8_t *text, size_t text_size, const uint8_t *tree, s
 /* Writes the deep inverse, a tree over the same text: as the shallow one, but the multipliers of groups stay, with their signs,
  * and what they hold is inverted instead: the list of a group, the second list of a conjugate; the lists of a commutator change
  * places. Value: bytes written.
- * Refusals: TOO_LONG, NOT_UTF8, NOT_WELL_FORMED, NISS or OVERFLOW, NO_ROOM. Room: HYPUZ_INVERSE_ROOM(tree_size). Cost: linear.
+ * Refusals: TOO_LONG, NOT_UTF8, NOT_WELL_FORMED, NISS or OVERFLOW, NO_ROOM. Room: HYPUZ_INVERSE_ROOM(tree_size).
+ * Cost: linear in the tree, beyond the check.
  * Example: (R U)2' [F, D] gives [D, F] (U' R')2'. */
-uint64_t hypuz_inv_deep(const uint8_t *text, size_t text_size, const uint8_t *tree, size_t tree_size, uint8_t *out, size_t out_size);
+uint64_t hypuz_inv_deep(const uint8_t *text, size_t text_size, const uint8_t *tree, size_t tree_size, uint8_t *out,
+                        size_t out_size);
 
 /* Prints a tree. Value: bytes written, without a final 0.
- * Refusals: TOO_LONG, NOT_UTF8, NOT_WELL_FORMED, NO_ROOM. Room: HYPUZ_DISPLAY_ROOM(text_size) or hypuz_display_room. Cost: linear
- * in the tree and what is printed.
+ * Refusals: TOO_LONG, NOT_UTF8, NOT_WELL_FORMED, NO_ROOM. Room: HYPUZ_DISPLAY_ROOM(text_size), or hypuz_display_room for any tree.
+ * Cost: linear in what is printed, beyond the check.
  * One space stands between nodes, so line ends print as spaces; a multiplier of 1 and leading zeros are left out, and every
  * prime is an apostrophe. Example: (R1  U)02 with a line end after it gives (R U)2. */
 uint64_t hypuz_display(const uint8_t *text, size_t text_size, const uint8_t *tree, size_t tree_size, uint8_t *out, size_t out_size);
@@ -357,7 +361,7 @@ uint64_t hypuz_display(const uint8_t *text, size_t text_size, const uint8_t *tre
  * depth, none touching another. Value: how many ranges; hypuz_range_low and hypuz_range_high take each apart.
  * Refusals: TOO_LONG, NOT_UTF8, NOT_WELL_FORMED, NO_SUCH_LAYER_COUNT (max_layer is 0 or above HYPUZ_MAX_LAYER), NO_SUCH_RECORD
  * (there is no record with this number, or it is not a move), NO_ROOM. Room: HYPUZ_RANGES_ROOM. Cost: linear in max_layer and
- * the layer set beyond the check.
+ * the layer set, beyond the check; a leaf's record handed in alone, as a tree with the record 0, spares the check of the others.
  * This is not yet what the move turns: what its family means is the host's to know. No prefix means layer 1, so Rw and M give
  * 1-1, and 3Rw gives 3-3. Layers beyond the axis are left out. In a layer set -1 is the deepest layer, unless allow_negatives is
  * 0: then an element of the set that has a negative number gives nothing. With a tilde the answer is the layers from 1 to

@@ -1,11 +1,12 @@
--- What is surely enough for each buffer that a caller lends: what a rule gives, where it gives anything, has at most so many bytes.
+-- What is surely enough for each buffer that a caller lends: what a rule gives, where it gives anything, has at most so many bytes, or exactly so
+-- many.
 -- include/hypuz_notation.h hands these numbers to a host. The theorem is `suffices` in crates/value_laws/proofs/Sizes.antt.
 use Prim.Native.Nat.{ℕ, _+_, _*_, _/_}
 use mathlib.Core.Path.{_≡_}
 use mathlib.Core.Bool.{Bool}
 use lib.ListN.{length}
 use Rattle.notation.specs.Basics.{Bytes, total}
-use Rattle.notation.specs.Refusals.{result, _>>=_}
+use Rattle.notation.specs.Refusals.{Outcome, result, _>>=_}
 use Rattle.notation.specs.Packed.{RECORD}
 use Rattle.notation.specs.Clauses.{Fields, fieldsOf, family, constraints, set}
 use Rattle.notation.specs.Entries.{
@@ -33,12 +34,15 @@ displayRoom tree = length tree + total partsPrinted (fieldsOf (length tree / REC
 abbrev pub RANGES-ROOM : ℕ
 RANGES-ROOM = 65536
 
+abbrev pub Exactly : ℕ → Outcome Bytes → Type 0
+Exactly n o = (l : Bytes) → o ≡ result l → length l ≡ n
+
 pub record Suffices : Type 0 where
   pub toRead : (f : Features) (text : Bytes) → AtMost (length text * RECORD) (reading f text)
-  pub toInvert : (text tree : Bytes) → AtMost (length tree) (inverse text tree)
-  pub toInvertDeep : (text tree : Bytes) → AtMost (length tree) (deepInverse text tree)
-  pub toUnroll : (text tree : Bytes) (n : ℕ) → countSteps text tree ≡ result n → AtMost (n * RECORD) (unrolled text tree)
-  pub toSeek : (text tree : Bytes) (place : ℕ) → AtMost RECORD (stepAt text tree place)
+  pub toInvert : (text tree : Bytes) → Exactly (length tree) (inverse text tree)
+  pub toInvertDeep : (text tree : Bytes) → Exactly (length tree) (deepInverse text tree)
+  pub toUnroll : (text tree : Bytes) (n : ℕ) → countSteps text tree ≡ result n → Exactly (n * RECORD) (unrolled text tree)
+  pub toSeek : (text tree : Bytes) (place : ℕ) → Exactly RECORD (stepAt text tree place)
   pub toSimplify : (text tree : Bytes) («record» layers : ℕ) (negatives : Bool) →
       AtMost RANGES-ROOM (do l ← layerRanges text tree «record» layers negatives; result (rangeBytes l))
   -- twice the text for a tree that the library made over it, and by its records for any tree
