@@ -1,5 +1,5 @@
 -- The lister's listing always fits 4 MiB: a line of a step has at most 3,857 bytes, and there are at most 1,000 of them; the printed text and its inverse
--- have at most 22,272 bytes each. Assumes nothing.
+-- have at most 5,376 bytes each. Assumes nothing.
 use Prim.Native.Nat.{ℕ, zero, suc, _+_, _*_, _≤_}
 use mathlib.Core.Path.{_≡_, refl, _∙_, subst}
 use mathlib.Core.Bool.{Bool, true, false}
@@ -14,27 +14,28 @@ use Rattle.notation.specs.Features.{WCA, MAXIMAL}
 use Rattle.notation.specs.Numbers.{show}
 use Rattle.notation.specs.Refusals.{Outcome, refusal, result, _>>=_, _>>_, unless, TOO-MANY-STEPS}
 use Rattle.notation.specs.Tree.{Leaf, Tree}
-use Rattle.notation.specs.Packed.{size, pack}
+use Rattle.notation.specs.Packed.{pack}
 use Rattle.notation.specs.Meaning.{stepOf}
+use Rattle.notation.specs.WellFormed.{treeOk}
 use Rattle.notation.specs.Unroll.{flatten}
 use Rattle.notation.specs.Print.{put, putStep, printed}
 use Rattle.notation.specs.Entries.{MAX-STEPS, reading, checked, inverse, display, steps}
 use Rattle.notation.specs.Lister.{MAX-INPUT, line, field, stepLines, stepsPart, treePart, listing, lister}
 use Rattle.notation.specs.declared.features.Features.{Features}
 use Rattle.laws.proofs.Unrolling.{verdict}
+use Rattle.laws.specs.All.{empty, one}
 use Rattle.laws.specs.Inverted.{inverted, invRefusal}
 use Rattle.laws.proofs.Inverses.{inv-is}
 use Rattle.laws.proofs.WellFormedInverses.{inverted-ok, inverted-size, inverted-depth}
 use Rattle.laws.proofs.Reached.{unrolled-list}
 use Rattle.laws.proofs.Parens.{parens-depth}
 use Rattle.laws.proofs.Accepting.{accepted-tree}
-use Rattle.laws.proofs.ReadingYields.{reading-size}
 use Rattle.laws.proofs.KeptByInverses.{inverted-fits}
 use Rattle.laws.proofs.Tidy.{Tidy, tidy, fits-over, checks-over, tidy-checks}
 use Rattle.size_laws.proofs.Digits.{ten-digits}
 use Rattle.size_laws.proofs.Bytes.{bytes, leafBytes, inverted-bytes, reading-bytes}
 use Rattle.size_laws.proofs.Printed.{printed-step, printed-tree}
-use Rattle.size_laws.proofs.Unrolled.{Within, empty, one, unrolled-within}
+use Rattle.size_laws.proofs.Unrolled.{Within, unrolled-within}
 
 -- 4 MiB
 abbrev pub MAX-LISTING : ℕ
@@ -72,20 +73,19 @@ module _ (f : Features) (text : List ℕ) (t : Tree) (short : length text ≤ MA
       let fits = fits-over good (inverted t) ok (inverted-fits t r (good .fits)) (inverted-size t) in
       checks-over (good .accepted) (inverted t) ok fits (omega (arith, inverted-depth t, parens-depth t, good .nested))
 
-  tree-long : (t′ : Tree) → bytes t′ ≡ bytes t → size t′ ≡ size t → length (printed text t′) ≤ 22272
-  tree-long t′ b z =
-      omega (arith, printed-tree text t′, reading-bytes f text t (good .accepted .reads), reading-size f text t (good .accepted .reads))
+  tree-long : (t′ : Tree) → treeOk text t′ ≡ true → bytes t′ ≡ bytes t → length (printed text t′) ≤ 5376
+  tree-long t′ ok b = omega (arith, printed-tree text t′ ok, reading-bytes f text t (good .accepted .reads))
 
-  text-long : length (field (display text (pack t))) ≤ 22272
-  text-long = rw (tidy-checks good) (tree-long t refl refl)
+  text-long : length (field (display text (pack t))) ≤ 5376
+  text-long = rw (tidy-checks good) (tree-long t (good .inBounds) refl)
 
-  inverse-long : length (field (do t′ ← inverse text (pack t); display text t′)) ≤ 22272
+  inverse-long : length (field (do t′ ← inverse text (pack t); display text t′)) ≤ 5376
   inverse-long = rw (tidy-checks good, inv-is t) (go (invRefusal t) refl)
     where
       go : (r : Option ℕ) → invRefusal t ≡ r →
-          length (field (_>>=_ (_>>=_ (verdict r (inverted t)) (λ t′. result (pack t′))) (λ l. display text l))) ≤ 22272
+          length (field (_>>=_ (_>>=_ (verdict r (inverted t)) (λ t′. result (pack t′))) (λ l. display text l))) ≤ 5376
       go (some r) i = omega (arith, refused-long r)
-      go none i = rw (inverse-checks i) (tree-long (inverted t) (inverted-bytes t) (inverted-size t))
+      go none i = rw (inverse-checks i) (tree-long (inverted t) (inverted-ok text t (good .inBounds)) (inverted-bytes t))
 
   steps-within : (l : List Leaf) → steps text (pack t) ≡ result l → Within MAX-INPUT l
   unfolding steps
