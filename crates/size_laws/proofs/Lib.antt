@@ -4,3 +4,4 @@ pub mod Bytes
 pub mod Printed
 pub mod Unrolled
 pub mod Listing
+pub mod Made
