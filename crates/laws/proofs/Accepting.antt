@@ -8,7 +8,9 @@ use borrow.Author.Tests.{leb-true, le-leb}
 use lib.Dec.{leb}
 use lib.ListN.{length}
 use Rattle.notation.specs.Utf8.{utf8}
-use Rattle.notation.specs.Refusals.{Outcome, result, _>>=_, _>>_, unless, orRefuse, TOO-LONG, NOT-UTF8, TOO-NESTED, NOT-NOTATION, NOT-WELL-FORMED, TOO-MANY-STEPS}
+use Rattle.notation.specs.Refusals.{
+  Outcome, result, _>>=_, _>>_, unless, orRefuse, TOO-LONG, NOT-UTF8, TOO-NESTED, NOT-NOTATION, NOT-WELL-FORMED, TOO-MANY-STEPS
+}
 use Rattle.notation.specs.Tree.{Leaf, Tree}
 use Rattle.notation.specs.Packed.{pack, unpack}
 use Rattle.notation.specs.Grammar.{notation}

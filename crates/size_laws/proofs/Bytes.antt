@@ -19,8 +19,9 @@ use Rattle.notation.specs.Tree.{
 }
 use Rattle.notation.specs.Packed.{familyAt, nowhere, orNowhere, bit}
 use Rattle.notation.specs.Grammar.{
-  Reader, done, when, spanned, someWhitespace, i32, layer, MAX-I32, family, constraintSet, layerPrefixContents, constraints, rotationNode, tilde, moveNode, groupKind,
-  groupNode, binaryGroupKind, binaryGroupNode, repeatableNodeBy, prime, megaminxScrambleMove, sq1Move, node, nodeList, notation, nodeBy, nodeListBy, notationBy
+  Reader, done, when, spanned, someWhitespace, i32, layer, MAX-I32, family, constraintSet, layerPrefixContents, constraints, rotationNode, tilde, moveNode,
+  groupKind, groupNode, binaryGroupKind, binaryGroupNode, repeatableNodeBy, prime, megaminxScrambleMove, sq1Move, node, nodeList, notation, nodeBy,
+  nodeListBy, notationBy
 }
 use Rattle.notation.specs.Invert.{undo}
 use Rattle.notation.specs.declared.features.Features.{Features}

@@ -13,7 +13,7 @@ use Rattle.notation.specs.Packed.{nodeSize, size, leafRecord, pack, unpack}
 use Rattle.notation.specs.WellFormed.{leafOk, nodeOk, treeOk}
 use Rattle.notation.specs.Invert.{inv, invDeep}
 use Rattle.notation.specs.Print.{printed}
-use Rattle.notation.specs.Entries.{MAX-TEXT, reading, checked, display, steps, stepAt}
+use Rattle.notation.specs.Entries.{MAX-TEXT, checked, display, steps, stepAt}
 use Rattle.notation.specs.Demands.{AtMost}
 use Rattle.notation.specs.Sizes.{Made, read, inverted, invertedDeep, sought}
 use Rattle.notation.specs.declared.features.Features.{Features}
@@ -125,6 +125,10 @@ made-over {f} {text} (invertedDeep m e) =
     over-inverse o invDeep (deepRefusal (o .nodes)) (deeply (o .nodes)) (invDeep-is (o .nodes)) (deeply-ok (o .nodes) text (o .inBounds))
     (λ r. deeply-fits (o .nodes) r (o .fits)) (deeply-size (o .nodes)) (deeply-bytes (o .nodes)) e
 made-over (sought place m e) = over-sought place (made-over m) e
+
+-- none of its steps takes more bytes than the text has
+pub made-steps : {f : Features} {text tree : List ℕ} → Made f text tree → (l : List Leaf) → steps text tree ≡ result l → Within (length text) l
+made-steps m l e = over-steps (made-over m) l e .1
 
 pub made-printed : (f : Features) (text tree : List ℕ) → Made f text tree → AtMost (2 * length text) (display text tree)
 made-printed f text tree m l e =

@@ -1,7 +1,7 @@
--- How long steps and trees are as printed: a step at most 5/4 of its bytes and a few more, and a well-formed tree at most 7/4 of its bytes, as where
--- `[,]` prints `[, ]'`. Assumes nothing.
+-- How long steps and trees are as printed: a step at most 5/4 of its bytes and a few more, and a well-formed tree at most 7/4 of its bytes and one quarter.
+-- No less will do: signs are not counted, so that `[U',U']'` counts 5 bytes, and it prints `[U', U']'`, which are 9. Assumes nothing.
 use Prim.Native.Nat.{ℕ, zero, suc, _+_, _*_, _≤_}
-use mathlib.Core.Path.{_≡_, refl, sym}
+use mathlib.Core.Path.{_≡_, refl}
 use mathlib.Core.Bool.{Bool, true, false, _&&_}
 use mathlib.Core.List.{List, [], _∷_, _++_}
 use mathlib.Core.Option.{Option, none, some}
@@ -11,14 +11,12 @@ use lib.IntN.{natAbs}
 use lib.ListN.{length, drop, length-append, length-take}
 use Rattle.notation.specs.Numbers.{show, showSigned}
 use Rattle.notation.specs.Tree.{
-  Span, partOf, Layers, noLayers, singleLayer, layerRange, layerSet, Leaf, Step, rotation, move, pause, pair, slash, megaminx,
-  Node, leaf, block, Body, group, binaryGroup, NodeList, nil, cons, Tree, mapNode, mapBody, mapNodes
+  Span, partOf, Layers, noLayers, singleLayer, layerRange, layerSet, Leaf, rotation, move, pause, pair, slash, megaminx,
+  Node, leaf, block, Body, group, binaryGroup, nil, cons, Tree, mapNode, mapBody, mapNodes
 }
 use Rattle.notation.specs.Packed.{orNowhere, bit}
 use Rattle.notation.specs.Meaning.{constraintsIn, layerSetIn, constraintMeaning, layerMeaning, stepOf, unspanned}
-use Rattle.notation.specs.WellFormed.{
-  isSome, inside, familyOk, constraintsOk, layersOk, multiplierOk, leafOk, nodeOk, bodyOk, treeOk
-}
+use Rattle.notation.specs.WellFormed.{isSome, inside, familyOk, constraintsOk, layersOk, multiplierOk, leafOk, nodeOk, bodyOk, treeOk}
 use Rattle.notation.specs.Print.{
   putConstraints, putLayers, putTilde, putMegaminx, putMultiplier, putStep, putPrefix, putSeparator, putNode, putBody, putNodes, putOthers, printed
 }

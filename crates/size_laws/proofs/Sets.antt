@@ -1,5 +1,5 @@
 -- Parts in braces: printed, one has at most 5/4 of the bytes that it was read from, as where `1-2,` prints `1..2,`. Assumes nothing.
-use Prim.Native.Nat.{ℕ, zero, suc, _+_, _*_, _≤_}
+use Prim.Native.Nat.{ℕ, _+_, _*_, _≤_}
 use Prim.Native.String as S
 use Prim.Native.String.{String}
 use mathlib.Core.Path.{_≡_, refl, sym, _∙_}
@@ -50,14 +50,15 @@ module _ {A : Type 0} (f : A → List ℕ → List ℕ) (adds : (a : A) (rest : 
       4 * length (putBraces f (a ∷ l) []) ≤ 5 * (n + (m + 0)) + 10
   one-first a l n m h g = omega (arith, adds a (putMore f l (125 ∷ [])), more-adds l (125 ∷ []))
 
-  pub yields-braces : {c : Place} {item : Reader A} → Yields c item (λ a n. 4 * length (f a []) ≤ 5 * n + 1) → Yields c (braces item) (λ l n. 4 * length (putBraces f l []) ≤ 5 * n)
+  pub yields-braces : {c : Place} {item : Reader A} → Yields c item (λ a n. 4 * length (f a []) ≤ 5 * n + 1) →
+      Yields c (braces item) (λ l n. 4 * length (putBraces f l []) ≤ 5 * n)
   unfolding putMore
   yields-braces items =
       yields-bind (yields-just "{") λ _ k i.
       yields-bind
       (yields-padded {Q = λ l n. 4 * length (putBraces f l []) ≤ 5 * n + 10} (λ l n m h q. omega arith)
-        (yields-counted _∷_ [] (padded (just ",")) (λ l n. 4 * length (putMore f l []) ≤ 5 * n) (λ l n. 4 * length (putBraces f l []) ≤ 5 * n + 10) (omega arith) (omega arith)
-          one-more one-first items
+        (yields-counted _∷_ [] (padded (just ",")) (λ l n. 4 * length (putMore f l []) ≤ 5 * n)
+          (λ l n. 4 * length (putBraces f l []) ≤ 5 * n + 10) (omega arith) (omega arith) one-more one-first items
           (yields-bind (yields-padded (λ a n m h q. omega arith) (weaken (yields-just ",") (λ a n h. let g : 1 ≤ n = omega arith in g))) λ _ k i.
             weaken items (λ a n h. omega arith))))
       λ l n q. yields-bind (yields-just "}") λ _ m j. yields-done (omega arith)
