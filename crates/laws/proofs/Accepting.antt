@@ -1,6 +1,6 @@
 -- When a text is read and a tree is checked, and what a lent buffer then gets. Assumes nothing.
 use Prim.Native.Nat.{ℕ, _≤_}
-use mathlib.Core.Path.{_≡_, refl}
+use mathlib.Core.Path.{_≡_, refl, _∙_}
 use mathlib.Core.Bool.{Bool, true, false}
 use mathlib.Core.List.{List}
 use mathlib.Core.Option.{Option, none, some}
@@ -8,7 +8,9 @@ use borrow.Author.Tests.{leb-true, le-leb}
 use lib.Dec.{leb}
 use lib.ListN.{length}
 use Rattle.notation.specs.Utf8.{utf8}
-use Rattle.notation.specs.Refusals.{Outcome, result, _>>=_, _>>_, unless, orRefuse, TOO-LONG, NOT-UTF8, TOO-NESTED, NOT-NOTATION, NOT-WELL-FORMED}
+use Rattle.notation.specs.Refusals.{
+  Outcome, result, _>>=_, _>>_, unless, orRefuse, TOO-LONG, NOT-UTF8, TOO-NESTED, NOT-NOTATION, NOT-WELL-FORMED, TOO-MANY-STEPS
+}
 use Rattle.notation.specs.Tree.{Leaf, Tree}
 use Rattle.notation.specs.Packed.{pack, unpack}
 use Rattle.notation.specs.Grammar.{notation}
@@ -85,6 +87,15 @@ pub counts-as : (text tree : List ℕ) (t : Tree) (list : List Leaf) → checked
     steps text tree ≡ result list
 unfolding steps
 counts-as text tree t list c e h = rw (c, e, le-leb (length list) MAX-STEPS h)
+
+-- and what a tree whose steps are counted is
+pub steps-of : (text tree : List ℕ) (list : List Leaf) → steps text tree ≡ result list → (t : Tree) × (checked text tree ≡ result t) × (flatten t ≡ result list)
+unfolding steps
+steps-of text tree list e =
+    let c = outcomes.after (checked text tree) e in
+    let u = outcomes.after (flatten (c .0)) (c .2) in
+    let w = outcomes.after (unless TOO-MANY-STEPS (leb (length (u .0)) MAX-STEPS)) (u .2) in
+    (c .0, c .1, u .1 ∙ w .2)
 
 -- a result that fits is written
 pub gives : (o : Outcome (List ℕ)) (bytes : List ℕ) → o ≡ result bytes → Gives (lend o) bytes

@@ -115,7 +115,7 @@ pub record Shown (text : List ℕ) (x : Leaf) (bs : List ℕ) : Type 0 where
   pub ok : treeOk text (unpack bs) ≡ true
   pub prints : (rest : List ℕ) → putNodes (unspanned text (unpack bs)) rest ≡ putStep (stepOf text x) rest
 
-alone : (x : Leaf) → pack (cons (leaf x) nil) ≡ leafRecord x
+pub alone : (x : Leaf) → pack (cons (leaf x) nil) ≡ leafRecord x
 unfolding pack packNode
 alone x = append-nil (leafRecord x)
 

@@ -2,23 +2,27 @@
 -- Assumes nothing.
 use Prim.Native.Nat.{ℕ, zero, suc, _<_}
 use mathlib.Core.Path.{_≡_, refl, sym, ap, _∙_}
-use mathlib.Core.Bool.{Bool, true, false, not, _&&_, _||_}
+use mathlib.Core.Bool.{true, false, not, _&&_, _||_}
 use mathlib.Core.List.{List}
-use mathlib.Core.Option.{none}
+use mathlib.Core.Option.{Option, none}
 use native.Mathlib.Omega.{arith}
-use borrow.Author.Tests.{ltb-true, lt-ltb, ne-eqb, eqb-false}
-use lib.Dec.{eqb}
+use borrow.Author.Tests.{ltb-true, ne-eqb}
 use lib.IntN.{ℤ, pos, negsuc, negℤ}
 use Rattle.notation.specs.Numbers.{fitsBits}
 use Rattle.notation.specs.Tree.{
-  Leaf, Step, rotation, move, pause, pair, slash, megaminx, leaf, block, nil, cons, append, Tree, mapNode, mapNodes
+  Leaf, Step, rotation, move, pause, pair, slash, megaminx, Node, leaf, block, Body, group, binaryGroup, nil, cons, append, Tree, mapNode, mapNodes
 }
 use Rattle.notation.specs.Meaning.{stepOf, unspanned}
 use Rattle.notation.specs.Invert.{undo, isMin}
 use Rattle.notation.specs.declared.features.Features.{Features}
+use Rattle.notation.specs.declared.common.GroupKind.{GroupKind}
+use Rattle.notation.specs.declared.common.GroupKind.the-variants.{Simple, Macro, Simultaneous, Niss}
+use Rattle.notation.specs.declared.common.BinaryGroupKind.the-variants.{Commutator, Conjugate}
 use Rattle.numbers.proofs.TwosComplement.{natAbs-neg}
-use Rattle.laws.proofs.Bools.{and-left, and-right, and-both, or-false, not-true}
-use Rattle.laws.specs.Inverted.{inverted, invRefusal}
+use Rattle.laws.proofs.Bools.{and-left, and-right, and-both, or-false, not-true, no-some}
+use Rattle.laws.specs.Inverted.{
+  inverted, invRefusal, deeplyNode, deeplyBody, deeply, nissFirst, deepRefusalNode, deepRefusalBody, deepRefusal
+}
 use Rattle.laws.proofs.Reached.{negatable, cleanNode, cleanNodes, clean, first-left, first-right, unrefused}
 use Rattle.laws.proofs.InRange.{stepInRange, nodeInRange, inRange}
 use Rattle.laws.proofs.WellFormedInverses.{multiplier-neg, negated-fits, not-min-ok}
@@ -84,6 +88,30 @@ inverted-fits (cons (leaf x) l) r h =
 inverted-fits (cons (block b m) l) r h =
     fits-append (inverted l) (cons (block b (negℤ m)) nil) (inverted-fits l (first-left _ _ r) (and-right (bodyFits b) _ h))
     (and-both (bodyFits b) true (and-left _ _ h) refl)
+
+-- a group whose contents are inverted has no refusal in them
+unrefused-group : (k : GroupKind) (q : Option ℕ) → nissFirst k q ≡ none → q ≡ none
+unrefused-group Niss q r = no-some r
+unrefused-group Simple q r = r
+unrefused-group Macro q r = r
+unrefused-group Simultaneous q r = r
+
+mutual
+  unfolding deeplyNode deeplyBody deeply deepRefusalNode deepRefusalBody deepRefusal nodeFits bodyFits treeFits
+  deeplyNode-fits : (n : Node Leaf) → deepRefusalNode n ≡ none → nodeFits n ≡ true → nodeFits (deeplyNode n) ≡ true
+  deeplyNode-fits (leaf x) r h = undo-fits x (unrefused x r) h
+  deeplyNode-fits (block b m) r h = deeplyBody-fits b r h
+
+  deeplyBody-fits : (b : Body Leaf) → deepRefusalBody b ≡ none → bodyFits b ≡ true → bodyFits (deeplyBody b) ≡ true
+  deeplyBody-fits (group k a) r h = deeply-fits a (unrefused-group k (deepRefusal a) r) h
+  deeplyBody-fits (binaryGroup Commutator a b) r h = and-both (treeFits b) _ (and-right (treeFits a) _ h) (and-left _ _ h)
+  deeplyBody-fits (binaryGroup Conjugate a b) r h = and-both (treeFits a) _ (and-left _ _ h) (deeply-fits b r (and-right (treeFits a) _ h))
+
+  pub deeply-fits : (t : Tree) → deepRefusal t ≡ none → treeFits t ≡ true → treeFits (deeply t) ≡ true
+  deeply-fits nil r h = refl
+  deeply-fits (cons n l) r h =
+      fits-append (deeply l) (cons (deeplyNode n) nil) (deeply-fits l (first-left _ _ r) (and-right (nodeFits n) _ h))
+      (and-both (nodeFits (deeplyNode n)) true (deeplyNode-fits n (first-right (deepRefusal l) _ r) (and-left _ _ h)) refl)
 
 -- The setting's range, which is one of unspanned trees.
 pub undo-in-range : (f : Features) (x : Step) → negatable x ≡ true → stepInRange f x ≡ true → stepInRange f (undo x) ≡ true

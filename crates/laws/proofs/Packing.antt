@@ -1,16 +1,16 @@
 -- Packing and unpacking undo one another, and what that says of well-formed trees. Assumes nothing.
 use Prim.Native.Nat.{ℕ, zero, suc, _+_, _*_, _≤_, _<_}
 use mathlib.Core.Path.{_≡_, refl, sym, ap, ap₂, subst, _∙_}
-use mathlib.Core.Bool.{true, _&&_}
+use mathlib.Core.Bool.{Bool, true, false, _&&_}
 use mathlib.Core.List.{List, [], _∷_, _++_, append-assoc}
 use mathlib.Core.Option.{Option, none, some}
 use native.Mathlib.Omega.{arith}
-use borrow.Author.Tests.{leb-true, le-leb, eqb-true, ltb-true, lt-ltb}
-use lib.Dec.{leb, lit<}
+use borrow.Author.Tests.{leb-true, le-leb, eq-eqb, eqb-true, ltb-true, lt-ltb}
+use lib.Dec.{leb, eqb, lit<}
 use lib.IntN.{ℤ, pos, negsuc}
 use lib.ListN.{length, take, drop, length-append}
 use lib.Seq.{take-at, drop-at, drop-drop}
-use Rattle.notation.specs.Basics.{sameList}
+use Rattle.notation.specs.Basics.{pick, sameList}
 use Rattle.notation.specs.Numbers.{fitsBits}
 use Rattle.notation.specs.Tree.{
   Span, Layers, noLayers, singleLayer, layerRange, layerSet, Leaf, rotation, move, pause, pair, slash, megaminx, Node, leaf, block, Body, group, binaryGroup, nil, cons, append, Tree
@@ -27,7 +27,7 @@ use Rattle.numbers.proofs.Positional.{Below, below-nil, below-append}
 use Rattle.record.specs.Range.{FitsSpan, FitsFamily, FitsConstraints, FitsLayers, FitsNumber, FitsLeaf, FitsHead}
 use Rattle.record.proofs.RoundTrip.{length-headRecord, headAt-headRecord, headRecord-below}
 use Rattle.record.proofs.Same.{same-refl, same-eq}
-use Rattle.laws.proofs.Bools.{and-left, and-right}
+use Rattle.laws.proofs.Bools.{and-left, and-right, and-both}
 use Rattle.laws.proofs.Fits.{familyFits, leafFits, nodeFits, bodyFits, treeFits}
 use Rattle.laws.specs.Packed.{FitsNode, FitsBody, FitsTree}
 
@@ -228,6 +228,23 @@ module _ (text : List ℕ) (short : length text ≤ MAX-TEXT) where
     tree-fits (cons n l) h e z =
         (node-fits n (and-left _ _ h) (and-left _ _ e) (omega arith),
           tree-fits l (and-right (nodeOk text n) _ h) (and-right (nodeFits n) _ e) (omega arith))
+
+-- What fits its record has the numbers of what was read or unpacked.
+family-fitted : (p : Span) → (p .size ≡ 0 → p .offset ≡ 0) → familyFits p ≡ true
+family-fitted p h = go (eqb (p .size) 0) refl
+  where
+    go : (t : Bool) → eqb (p .size) 0 ≡ t → pick t (eqb (p .offset) 0) true ≡ true
+    go true e = eq-eqb (p .offset) 0 (h (eqb-true (p .size) 0 e))
+    go false e = refl
+
+pub leaf-fitted : (x : Leaf) → FitsLeaf x → leafFits x ≡ true
+unfolding leafFits
+leaf-fitted (rotation f c m) h = family-fitted f (h .0 .empty)
+leaf-fitted (move t l f c m) h = refl
+leaf-fitted pause h = refl
+leaf-fitted (pair u d) h = and-both (fitsBits 32 u) _ (h .0) (h .1)
+leaf-fitted slash h = refl
+leaf-fitted (megaminx k) h = refl
 
 -- what packing writes of a tree in bounds is well formed, and a well-formed tree is what packing writes of its nodes
 pub packed-well-formed : (text : List ℕ) (t : Tree) → FitsTree t → treeOk text t ≡ true → depth t ≤ MAX-NESTING → wellFormed text (pack t) ≡ true

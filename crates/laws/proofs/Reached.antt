@@ -212,7 +212,7 @@ inverted-walks (cons n l) e =
     (first-both (refusalNode false (invertedNode n)) none (node-inverted-walks n (and-left _ _ e)) refl)
 
 -- From an unrolled list, all of whose steps can be undone, to the inverse's unrolled list.
-verdict-list : {A : Type 0} (r : Option ℕ) (l m : A) → verdict r l ≡ result m → (r ≡ none) × (l ≡ m)
+pub verdict-list : {A : Type 0} (r : Option ℕ) (l m : A) → verdict r l ≡ result m → (r ≡ none) × (l ≡ m)
 verdict-list none l m e = (refl, cc)
 verdict-list (some r) l m e = no-refusal e
 

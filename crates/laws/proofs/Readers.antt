@@ -4,13 +4,13 @@ use Prim.Native.Nat.{ℕ, zero, suc, _+_, _-_, _≤_, _<_}
 use Prim.Native.Char.{Char, code}
 use Prim.Native.String as S
 use Prim.Native.String.{String}
-use mathlib.Core.Path.{_≡_, refl, sym, ap, _∙_}
+use mathlib.Core.Path.{_≡_, refl, sym, _∙_}
 use mathlib.Core.Bool.{Bool, true, false, _&&_}
 use mathlib.Core.List.{List, [], _∷_, _++_, append-assoc}
 use native.Mathlib.Omega.{arith}
 use lib.Dec.{eqb, ltb}
 use lib.ListN.{length, take, drop, length-append, take-append-drop}
-use lib.Seq.{length-take-le, drop-append-seam}
+use lib.Seq.{length-take-le}
 use borrow.Author.Tests.{ltb-true}
 use Rattle.notation.specs.Basics.{pick, between}
 use Rattle.notation.specs.Chars.{whiteSpace}
@@ -167,13 +167,13 @@ module _ {c : Place} where
   pub yields-whitespace : Yields c whitespace (λ a n. Unit {0})
   yields-whitespace = yields-bind {p = takeWhile whiteSpace} {f = λ n. done tt} (yields-takeWhile whiteSpace) (λ a n q. yields-done tt)
 
-  pub yields-someWhitespace : Yields c someWhitespace (λ a n. Unit {0})
+  pub yields-someWhitespace : Yields c someWhitespace (λ a n. 0 < n)
   yields-someWhitespace =
-      yields-bind {p = takeWhile whiteSpace} {f = λ n. pick (ltb 0 n) (done tt) fail} (yields-takeWhile whiteSpace) (λ a n q. go (ltb 0 a))
+      yields-bind {p = takeWhile whiteSpace} {f = λ n. pick (ltb 0 n) (done tt) fail} (yields-takeWhile whiteSpace) (λ a n q. go a n q (ltb 0 a) refl)
     where
-      go : (t : Bool) → Yields c (pick t (done {A = Unit {0}} tt) fail) (λ a n. Unit {0})
-      go true = yields-done tt
-      go false = yields-fail
+      go : (a n : ℕ) → a ≡ n → (t : Bool) → ltb 0 a ≡ t → Yields c (pick t (done {A = Unit {0}} tt) fail) (λ b m. 0 < n + m)
+      go a n q true h = yields-done (omega (arith, ltb-true 0 a h))
+      go a n q false h = yields-fail
 
   pub yields-padded : {A : Type 0} {p : Reader A} {Q : A → ℕ → Type 0} → Grows Q → Yields c p Q → Yields c (padded p) Q
   yields-padded {p} g y =
@@ -202,35 +202,40 @@ module _ {c : Place} where
           took-is {a = span at (at′ - at)} {at₁ = at′} {s₁ = s′} (cc) (cc) (cc)
           (record { part = t .part; splits = t .splits; moves = t .moves; holds = omega (arith, t .moves) })
 
-  -- Lists: a property of the items gives one of the list.
-  module _ {A L : Type 0} (add : A → L → L) (empty : L) {item : Reader A} {separator : Reader (Unit {0})}
-      {P : A → ℕ → Type 0} (Q : L → ℕ → Type 0)
-      (none : Q empty 0) (one : (a : A) (l : L) (n m : ℕ) → P a n → Q l m → Q (add a l) (n + m)) (grows : Grows Q)
-      (items : Yields c item P) (separators : Yields c separator (λ a n. Unit {0})) where
-    took-collect : {more : Reader L} {P′ : A → ℕ → Type 0} → ((a : A) (l : L) (n m : ℕ) → P′ a n → Q l m → Q (add a l) (n + m)) →
-        Yields c more Q → (at : ℕ) (s : List ℕ) → c .here at s → (r : Reading A) →
-        ((a : A) (at′ : ℕ) (s′ : List ℕ) → r ≡ read a at′ s′ → Took P′ at s a at′ s′) →
-        (l : L) (at″ : ℕ) (s″ : List ℕ) → collect add empty r more at s ≡ read l at″ s″ → Took Q at s l at″ s″
-    took-collect w y at s h rejected t l at″ s″ e = yields-done {c = c} {a = empty} none .took at s h l at″ s″ e
-    took-collect {more} {P′} w y at s h (read a at′ s′) t l at″ s″ e =
+  -- Lists whose separators count: Q is of the items after the first, each read with the separator before it, and R of the whole list.
+  module _ {A L : Type 0} (add : A → L → L) (empty : L) {item : Reader A} (separator : Reader (Unit {0})) {P P′ : A → ℕ → Type 0}
+      (Q R : L → ℕ → Type 0) (none-more : Q empty 0) (none-first : R empty 0)
+      (one-more : (a : A) (l : L) (n m : ℕ) → P′ a n → Q l m → Q (add a l) (n + (m + 0)))
+      (one-first : (a : A) (l : L) (n m : ℕ) → P a n → Q l m → R (add a l) (n + (m + 0)))
+      (first : Yields c item P) (after : Yields c (_>>_ separator item) P′) where
+    took-collect : {T : L → ℕ → Type 0} {S : A → ℕ → Type 0} {more : Reader L} → T empty 0 →
+        ((a : A) (l : L) (n m : ℕ) → S a n → Q l m → T (add a l) (n + (m + 0))) → Yields c more Q → (at : ℕ) (s : List ℕ) → c .here at s → (r : Reading A) →
+        ((a : A) (at′ : ℕ) (s′ : List ℕ) → r ≡ read a at′ s′ → Took S at s a at′ s′) →
+        (l : L) (at″ : ℕ) (s″ : List ℕ) → collect add empty r more at s ≡ read l at″ s″ → Took T at s l at″ s″
+    took-collect none-left w y at s h rejected t l at″ s″ e = yields-done {c = c} {a = empty} none-left .took at s h l at″ s″ e
+    took-collect {T} {S} {more} none-left w y at s h (read a at′ s′) t l at″ s″ e =
         let u = t a at′ s′ refl in
         took-join u
-        (yields-bind {p = more} {f = λ l. done (add a l)} {Q = Q} {R = λ b m. Q b (length (u .part) + m)} y
-        (λ l m q. yields-done
-          (grows (add a l) (length (u .part) + m) (length (u .part) + (m + 0)) (omega arith) (w a l (length (u .part)) m (u .holds) q)))
+        (yields-bind {p = more} {f = λ l. done (add a l)} {Q = Q} {R = λ b m. T b (length (u .part) + m)} y
+        (λ l m q. yields-done (w a l (length (u .part)) m (u .holds) q))
         .took at′ s′ (there c u h) l at″ s″ e)
 
     yields-more : (k : ℕ) → Yields c (moreOf add empty item separator k) Q
     unfolding moreOf
-    yields-more zero = yields-done none
+    yields-more zero = yields-done none-more
     yields-more (suc k) = record { took = λ at s h l at″ s″ e.
-      took-collect {P′ = λ a n. (m : ℕ) × (m ≤ n) × P a m}
-      (λ a l n m p q. grows (add a l) (p .0 + m) (n + m) (omega (arith, p .1)) (one a l (p .0) m (p .2) q))
-      (yields-more k) at s h (andThen (separator at s) (λ _. item))
-      (λ a at′ s′.
-        yields-bind {p = separator} {f = λ _. item} separators (λ _ n _. weaken items (λ b m p. (m, (omega arith), p))) .took at s h a at′ s′)
-      l at″ s″ e }
+      took-collect none-more one-more (yields-more k) at s h (andThen (separator at s) (λ _. item)) (λ a at′ s′. after .took at s h a at′ s′) l at″ s″ e }
 
-    pub yields-separatedBy : Yields c (separatedBy add empty item separator) Q
-    yields-separatedBy = record { took = λ at s h l at″ s″ e.
-      took-collect one (yields-more (length s)) at s h (item at s) (λ a at′ s′. items .took at s h a at′ s′) l at″ s″ e }
+    pub yields-counted : Yields c (separatedBy add empty item separator) R
+    yields-counted = record { took = λ at s h l at″ s″ e.
+      took-collect none-first one-first (yields-more (length s)) at s h (item at s) (λ a at′ s′. first .took at s h a at′ s′) l at″ s″ e }
+
+  -- Lists whose separators do not count: a property of the items, which more bytes keep, gives one of the list.
+  pub yields-separatedBy : {A L : Type 0} (add : A → L → L) (empty : L) {item : Reader A} {separator : Reader (Unit {0})}
+      {P : A → ℕ → Type 0} (Q : L → ℕ → Type 0) → Q empty 0 → ((a : A) (l : L) (n m : ℕ) → P a n → Q l m → Q (add a l) (n + m)) →
+      Grows Q → Yields c item P → Yields c separator (λ a n. Unit {0}) → Yields c (separatedBy add empty item separator) Q
+  yields-separatedBy add empty {item} {separator} {P} Q none one grows items separators =
+      yields-counted add empty separator {P′ = λ a n. (m : ℕ) × (m ≤ n) × P a m} Q Q none none
+      (λ a l n m p q. grows (add a l) (p .0 + m) (n + (m + 0)) (omega (arith, p .1)) (one a l (p .0) m (p .2) q))
+      (λ a l n m p q. grows (add a l) (n + m) (n + (m + 0)) (omega arith) (one a l n m p q))
+      items (yields-bind {p = separator} {f = λ _. item} separators (λ _ n _. weaken items (λ b m p. (m, (omega arith), p))))

@@ -500,7 +500,8 @@ module _ (f : Features) (text : List ℕ) where
   yields-list zero = yields-fail
   yields-list (suc k) =
       yields-padded tree-grows
-      (yields-separatedBy cons nil (TreeGood f text) nil-good cons-good tree-grows (yields-node (nodeList f k) (yields-list k)) yields-someWhitespace)
+      (yields-separatedBy cons nil (TreeGood f text) nil-good cons-good tree-grows (yields-node (nodeList f k) (yields-list k))
+        (weaken yields-someWhitespace (λ _ _ _. tt)))
 
 -- What an accepted text yields, be it UTF-8 or not.
 at-end : {A : Type 0} {a : A} (r : Reading A) → atEnd r ≡ some a → (at : ℕ) × (r ≡ read a at [])

@@ -1,6 +1,6 @@
--- The bytes that a tree's nodes are read from at least, by what they say; none counted twice. Signs do not count, so that a step undone takes as many.
--- Reading finds no more of them than the text has. Assumes nothing.
-use Prim.Native.Nat.{ℕ, zero, suc, _+_, _≤_, min, max}
+-- The bytes that a tree is read from at least, by what its nodes say and with one between two nodes; none counted twice. Signs do not count, so that
+-- a step undone takes as many. Reading finds no more of them than the text has, and both inverses keep them. Assumes nothing.
+use Prim.Native.Nat.{ℕ, zero, suc, _+_, _-_, _≤_, min, max}
 use mathlib.Core.Path.{_≡_, refl}
 use mathlib.Core.Bool.{Bool, true, false}
 use mathlib.Core.List.{List}
@@ -19,15 +19,19 @@ use Rattle.notation.specs.Tree.{
 }
 use Rattle.notation.specs.Packed.{familyAt, nowhere, orNowhere, bit}
 use Rattle.notation.specs.Grammar.{
-  Reader, done, when, spanned, i32, layer, MAX-I32, family, constraintSet, layerPrefixContents, constraints, rotationNode, tilde, moveNode, groupKind,
-  groupNode, binaryGroupKind, binaryGroupNode, repeatableNodeBy, prime, megaminxScrambleMove, sq1Move, node, nodeList, notation, nodeBy, nodeListBy, notationBy
+  Reader, done, when, spanned, someWhitespace, i32, layer, MAX-I32, family, constraintSet, layerPrefixContents, constraints, rotationNode, tilde, moveNode,
+  groupKind, groupNode, binaryGroupKind, binaryGroupNode, repeatableNodeBy, prime, megaminxScrambleMove, sq1Move, node, nodeList, notation, nodeBy,
+  nodeListBy, notationBy
 }
 use Rattle.notation.specs.Invert.{undo}
 use Rattle.notation.specs.declared.features.Features.{Features}
-use Rattle.laws.specs.Inverted.{inverted, invertedNode}
+use Rattle.notation.specs.declared.common.GroupKind.{GroupKind}
+use Rattle.notation.specs.declared.common.GroupKind.the-variants.{Simple, Macro, Simultaneous, Niss}
+use Rattle.notation.specs.declared.common.BinaryGroupKind.the-variants.{Commutator, Conjugate}
+use Rattle.laws.specs.Inverted.{inverted, invertedNode, deeplyNode, deeplyBody, deeply}
 use Rattle.laws.proofs.Readers.{
   Place, Yields, pick-read, took-front, took-is, weaken, yields-done, yields-fail, yields-bind, yields-or, yields-when, yields-just, yields-someWhitespace,
-  yields-padded, yields-spanned, yields-separatedBy, run-le
+  yields-padded, yields-spanned, yields-counted, run-le
 }
 use Rattle.numbers.proofs.TwosComplement.{natAbs-neg}
 use Rattle.size_laws.proofs.Digits.{digits, repeats, Number, signed-least, yields-uint, yields-sint, yields-multiplier}
@@ -47,20 +51,31 @@ leafBytes (pair u d) = 3 + (digits (natAbs u) + digits (natAbs d))
 leafBytes slash = 1
 leafBytes (megaminx k) = 3
 
+abbrev pub prefixBytes : GroupKind → ℕ
+prefixBytes Simple = 0
+prefixBytes Macro = 1
+prefixBytes Simultaneous = 1
+prefixBytes Niss = 1
+
 unfoldable mutual
   pub nodeBytes : Node Leaf → ℕ
   nodeBytes (leaf x) = leafBytes x
   nodeBytes (block b m) = bodyBytes b + repeats (natAbs m)
 
   pub bodyBytes : Body Leaf → ℕ
-  bodyBytes (group k a) = 2 + bytes a
-  bodyBytes (binaryGroup k a b) = 3 + (bytes a + bytes b)
+  bodyBytes (group k a) = prefixBytes k + (2 + (spaced a - 1))
+  bodyBytes (binaryGroup k a b) = 3 + ((spaced a - 1) + (spaced b - 1))
 
-  pub bytes : Tree → ℕ
-  bytes nil = 0
-  bytes (cons n l) = nodeBytes n + bytes l
+  -- each node with one byte of white space beside it
+  pub spaced : Tree → ℕ
+  spaced nil = 0
+  spaced (cons n l) = 1 + nodeBytes n + spaced l
 
--- Undoing and the shallow inverse keep them.
+-- a list, with none beside the first
+abbrev pub bytes : Tree → ℕ
+bytes t = spaced t - 1
+
+-- Undoing and both inverses keep them.
 pub undo-bytes : (x : Leaf) → leafBytes (undo x) ≡ leafBytes x
 unfolding leafBytes
 undo-bytes (rotation f c m) = rw (natAbs-neg m)
@@ -75,15 +90,41 @@ unfolding nodeBytes
 node-inverted (leaf x) = undo-bytes x
 node-inverted (block b m) = rw (natAbs-neg m)
 
-bytes-append : (a b : Tree) → bytes (append a b) ≡ bytes a + bytes b
-unfolding append bytes
-bytes-append nil b = omega arith
-bytes-append (cons n a) b = omega (arith, bytes-append a b)
+spaced-append : (a b : Tree) → spaced (append a b) ≡ spaced a + spaced b
+unfolding append spaced
+spaced-append nil b = omega arith
+spaced-append (cons n a) b = omega (arith, spaced-append a b)
+
+-- a list with one node more
+spaced-last : (l : Tree) (n : Node Leaf) → spaced (append l (cons n nil)) ≡ 1 + nodeBytes n + spaced l
+unfolding spaced
+spaced-last l n = omega (arith, spaced-append l (cons n nil))
+
+inverted-spaced : (t : Tree) → spaced (inverted t) ≡ spaced t
+unfolding inverted spaced
+inverted-spaced nil = refl
+inverted-spaced (cons n l) = omega (arith, spaced-last (inverted l) (invertedNode n), node-inverted n, inverted-spaced l)
 
 pub inverted-bytes : (t : Tree) → bytes (inverted t) ≡ bytes t
-unfolding inverted bytes
-inverted-bytes nil = refl
-inverted-bytes (cons n l) = omega (arith, bytes-append (inverted l) (cons (invertedNode n) nil), node-inverted n, inverted-bytes l)
+inverted-bytes t = omega (arith, inverted-spaced t)
+
+mutual
+  unfolding deeplyNode deeplyBody deeply nodeBytes bodyBytes spaced
+  deeplyNode-bytes : (n : Node Leaf) → nodeBytes (deeplyNode n) ≡ nodeBytes n
+  deeplyNode-bytes (leaf x) = undo-bytes x
+  deeplyNode-bytes (block b m) = omega (arith, deeplyBody-bytes b)
+
+  deeplyBody-bytes : (b : Body Leaf) → bodyBytes (deeplyBody b) ≡ bodyBytes b
+  deeplyBody-bytes (group k a) = omega (arith, deeply-spaced a)
+  deeplyBody-bytes (binaryGroup Commutator a b) = omega arith
+  deeplyBody-bytes (binaryGroup Conjugate a b) = omega (arith, deeply-spaced b)
+
+  deeply-spaced : (t : Tree) → spaced (deeply t) ≡ spaced t
+  deeply-spaced nil = refl
+  deeply-spaced (cons n l) = omega (arith, spaced-last (deeply l) (deeplyNode n), deeplyNode-bytes n, deeply-spaced l)
+
+pub deeply-bytes : (t : Tree) → bytes (deeply t) ≡ bytes t
+deeply-bytes t = omega (arith, deeply-spaced t)
 
 -- Reading, rule by rule.
 low-high : (i j : ℕ) → layerBytes (layerRange (min i j) (max i j)) ≡ digits i + (1 + digits j)
@@ -159,11 +200,11 @@ module _ {c : Place} where
       yields-bind (yields-family 1) λ a k g. yields-bind (yields-constraints f) λ c j h.
       yields-done (λ m. omega arith)
 
-  yields-kind : Yields c groupKind (λ k n. Unit {0})
+  yields-kind : Yields c groupKind (λ k n. prefixBytes k ≤ n)
   yields-kind =
-      yields-or (yields-bind (yields-just "!") λ _ _ _. yields-done tt)
-      (yields-or (yields-bind (yields-just "&") λ _ _ _. yields-done tt)
-      (yields-or (yields-bind (yields-just "^") λ _ _ _. yields-done tt) (yields-done tt)))
+      yields-or (yields-bind (yields-just "!") λ _ n i. yields-done (omega arith))
+      (yields-or (yields-bind (yields-just "&") λ _ n i. yields-done (omega arith))
+      (yields-or (yields-bind (yields-just "^") λ _ n i. yields-done (omega arith)) (yields-done (omega arith))))
 
   yields-binaryKind : Yields c binaryGroupKind (λ k n. n ≡ 1)
   yields-binaryKind =
@@ -196,7 +237,7 @@ module _ {c : Place} where
     yields-group : Yields c (groupNode list) Waiting
     unfolding groupNode nodeBytes bodyBytes
     yields-group =
-        yields-bind yields-kind λ k n _. yields-bind (yields-just "(") λ _ m i. yields-bind lists λ a j g. yields-bind (yields-just ")") λ _ l i₁.
+        yields-bind yields-kind λ k n p. yields-bind (yields-just "(") λ _ m i. yields-bind lists λ a j g. yields-bind (yields-just ")") λ _ l i₁.
         yields-done (λ m. omega arith)
 
     yields-binary : Yields c (binaryGroupNode list) Waiting
@@ -220,12 +261,14 @@ module _ {c : Place} where
         (yields-when (f .sq1) λ _. yields-bind yields-sq1 λ x n g. yields-done (omega arith))))
 
   yields-list : (f : Features) (k : ℕ) → Yields c (nodeList f k) (λ t n. bytes t ≤ n)
-  unfolding nodeListBy bytes
+  unfolding nodeListBy spaced
   yields-list f zero = yields-fail
   yields-list f (suc k) =
+      let nodes = yields-node f (nodeList f k) (yields-list f k) in
       yields-padded (λ t n m h q. omega arith)
-      (yields-separatedBy cons nil (λ t n. bytes t ≤ n) (omega arith) (λ x l n m p q. omega arith) (λ t n m h q. omega arith)
-        (yields-node f (nodeList f k) (yields-list f k)) yields-someWhitespace)
+      (yields-counted cons nil someWhitespace {P′ = λ x n. 1 + nodeBytes x ≤ n} (λ t n. spaced t ≤ n) (λ t n. bytes t ≤ n) (omega arith) (omega arith)
+        (λ x l n m p q. omega arith) (λ x l n m p q. omega arith)
+        nodes (yields-bind yields-someWhitespace λ _ n i. weaken nodes (λ x m h. omega arith)))
 
 pub reading-bytes : (f : Features) (text : List ℕ) (t : Tree) → notation f text ≡ some t → bytes t ≤ length text
 unfolding notationBy

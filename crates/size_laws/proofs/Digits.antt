@@ -55,6 +55,20 @@ at-most (suc k) n rest = go (ltb n 10) (at-most k (n / 10) ((48 + n % 10) ∷ re
     go true h = omega arith
     go false h = omega arith
 
+at-least : (k n : ℕ) (rest : List ℕ) → length rest ≤ length (showFrom k n rest)
+unfolding showFrom
+at-least zero n rest = omega arith
+at-least (suc k) n rest = omega (arith, at-least k n rest, allowed-more k n rest)
+
+-- at least one digit, and at most ten
+pub some-digit : (n : ℕ) → 1 ≤ digits n
+unfolding showFrom
+some-digit n = go (ltb n 10)
+  where
+    go : (t : Bool) → 1 ≤ length (pick t ((48 + n) ∷ []) (showFrom 9 (n / 10) ((48 + n % 10) ∷ [])))
+    go true = omega arith
+    go false = omega (arith, at-least 9 (n / 10) ((48 + n % 10) ∷ []))
+
 pub ten-digits : (n : ℕ) → digits n ≤ 10
 ten-digits n = omega (arith, at-most 10 n [])
 

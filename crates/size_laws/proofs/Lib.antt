@@ -3,4 +3,5 @@ pub mod Sets
 pub mod Bytes
 pub mod Printed
 pub mod Unrolled
+pub mod Made
 pub mod Listing

@@ -1,10 +1,9 @@
 -- The lister's listing always fits 4 MiB: a line of a step has at most 3,857 bytes, and there are at most 1,000 of them; the printed text and its inverse
--- have at most 22,272 bytes each. Assumes nothing.
+-- have at most 6,144 bytes each. Assumes nothing.
 use Prim.Native.Nat.{ℕ, zero, suc, _+_, _*_, _≤_}
-use mathlib.Core.Path.{_≡_, refl, _∙_, subst}
+use mathlib.Core.Path.{_≡_, refl}
 use mathlib.Core.Bool.{Bool, true, false}
 use mathlib.Core.List.{List, [], _∷_, _++_}
-use mathlib.Core.Option.{Option, none, some}
 use native.Mathlib.Omega.{arith}
 use borrow.Author.Tests.{leb-true}
 use lib.Dec.{leb}
@@ -12,29 +11,22 @@ use lib.ListN.{length, take, drop, length-append}
 use Rattle.notation.specs.Basics.{pick, choose, sameList}
 use Rattle.notation.specs.Features.{WCA, MAXIMAL}
 use Rattle.notation.specs.Numbers.{show}
-use Rattle.notation.specs.Refusals.{Outcome, refusal, result, _>>=_, _>>_, unless, TOO-MANY-STEPS}
-use Rattle.notation.specs.Tree.{Leaf, Tree}
-use Rattle.notation.specs.Packed.{size, pack}
+use Rattle.notation.specs.Refusals.{Outcome, refusal, result, _>>=_}
+use Rattle.notation.specs.Tree.{Leaf}
 use Rattle.notation.specs.Meaning.{stepOf}
-use Rattle.notation.specs.Unroll.{flatten}
-use Rattle.notation.specs.Print.{put, putStep, printed}
-use Rattle.notation.specs.Entries.{MAX-STEPS, reading, checked, inverse, display, steps}
+use Rattle.notation.specs.Print.{put, putStep}
+use Rattle.notation.specs.Entries.{reading, inverse, display, steps}
+use Rattle.notation.specs.Demands.{AtMost}
+use Rattle.notation.specs.Sizes.{read, inverted}
 use Rattle.notation.specs.Lister.{MAX-INPUT, line, field, stepLines, stepsPart, treePart, listing, lister}
 use Rattle.notation.specs.declared.features.Features.{Features}
-use Rattle.laws.proofs.Unrolling.{verdict}
-use Rattle.laws.specs.Inverted.{inverted, invRefusal}
-use Rattle.laws.proofs.Inverses.{inv-is}
-use Rattle.laws.proofs.WellFormedInverses.{inverted-ok, inverted-size, inverted-depth}
-use Rattle.laws.proofs.Reached.{unrolled-list}
-use Rattle.laws.proofs.Parens.{parens-depth}
-use Rattle.laws.proofs.Accepting.{accepted-tree}
-use Rattle.laws.proofs.ReadingYields.{reading-size}
-use Rattle.laws.proofs.KeptByInverses.{inverted-fits}
-use Rattle.laws.proofs.Tidy.{Tidy, tidy, fits-over, checks-over, tidy-checks}
+use Rattle.laws.specs.All.{empty, one}
+use Rattle.laws.proofs.Outcomes.{after}
 use Rattle.size_laws.proofs.Digits.{ten-digits}
-use Rattle.size_laws.proofs.Bytes.{bytes, leafBytes, inverted-bytes, reading-bytes}
-use Rattle.size_laws.proofs.Printed.{printed-step, printed-tree}
-use Rattle.size_laws.proofs.Unrolled.{Within, empty, one, unrolled-within}
+use Rattle.size_laws.proofs.Bytes.{leafBytes}
+use Rattle.size_laws.proofs.Printed.{printed-step}
+use Rattle.size_laws.proofs.Unrolled.{Within}
+use Rattle.size_laws.proofs.Made.{made-steps, made-printed}
 
 -- 4 MiB
 abbrev pub MAX-LISTING : ℕ
@@ -52,62 +44,40 @@ pub step-line-long : (text : List ℕ) (k : ℕ) (x : Leaf) (rest : List ℕ) �
 step-line-long text k x rest h =
     omega (arith, line-long (show k []) (putStep (stepOf text x) []) rest, ten-digits k, printed-step text x [])
 
-step-lines-long : (text : List ℕ) (m k : ℕ) {l : List Leaf} → Within MAX-INPUT l → length (stepLines text m k l) ≤ m * 3857
+step-lines-long : (text : List ℕ) → length text ≤ MAX-INPUT → (m k : ℕ) {l : List Leaf} → Within (length text) l → length (stepLines text m k l) ≤ m * 3857
 unfolding stepLines
-step-lines-long text zero k w = omega arith
-step-lines-long text (suc m) k empty = omega arith
-step-lines-long text (suc m) k (one {x} {l} h w) =
-    omega (arith, step-line-long text k x (stepLines text m (suc k) l) h, step-lines-long text m (suc k) w)
+step-lines-long text short zero k w = omega arith
+step-lines-long text short (suc m) k empty = omega arith
+step-lines-long text short (suc m) k (one {x} {l} h w) =
+    omega (arith, step-line-long text k x (stepLines text m (suc k) l) (omega arith), step-lines-long text short m (suc k) w)
 
-steps-long : (text : List ℕ) (o : Outcome (List Leaf)) → ((l : List Leaf) → o ≡ result l → Within MAX-INPUT l) → length (stepsPart text o) ≤ 3857025
-steps-long text (refusal r) h = omega (arith, line-long (put "steps" []) (field (refusal r)) [], refused-long r)
-steps-long text (result l) h =
-    omega (arith, line-long (put "steps" []) (show (length l) []) (stepLines text 1000 0 l), ten-digits (length l), step-lines-long text 1000 0 (h l refl))
+steps-long : (text : List ℕ) → length text ≤ MAX-INPUT → (o : Outcome (List Leaf)) → ((l : List Leaf) → o ≡ result l → Within (length text) l) →
+    length (stepsPart text o) ≤ 3857025
+steps-long text short (refusal r) h = omega (arith, line-long (put "steps" []) (field (refusal r)) [], refused-long r)
+steps-long text short (result l) h =
+    omega (arith, line-long (put "steps" []) (show (length l) []) (stepLines text 1000 0 l), ten-digits (length l),
+    step-lines-long text short 1000 0 (h l refl))
 
--- What an accepted text's tree and its inverse print.
-module _ (f : Features) (text : List ℕ) (t : Tree) (short : length text ≤ MAX-INPUT) (good : Tidy f text t) where
-  inverse-checks : invRefusal t ≡ none → checked text (pack (inverted t)) ≡ result (inverted t)
-  inverse-checks r =
-      let ok = inverted-ok text t (good .inBounds) in
-      let fits = fits-over good (inverted t) ok (inverted-fits t r (good .fits)) (inverted-size t) in
-      checks-over (good .accepted) (inverted t) ok fits (omega (arith, inverted-depth t, parens-depth t, good .nested))
+field-long : (o : Outcome (List ℕ)) → AtMost 6144 o → length (field o) ≤ 6144
+field-long (refusal r) h = omega (arith, refused-long r)
+field-long (result l) h = h l refl
 
-  tree-long : (t′ : Tree) → bytes t′ ≡ bytes t → size t′ ≡ size t → length (printed text t′) ≤ 22272
-  tree-long t′ b z =
-      omega (arith, printed-tree text t′, reading-bytes f text t (good .accepted .reads), reading-size f text t (good .accepted .reads))
+-- What is listed of an accepted text.
+module _ (f : Features) (text tree : List ℕ) (short : length text ≤ MAX-INPUT) (accepted : reading f text ≡ result tree) where
+  text-long : length (field (display text tree)) ≤ 6144
+  text-long = field-long (display text tree) (λ l e. omega (arith, made-printed f text tree (read accepted) l e))
 
-  text-long : length (field (display text (pack t))) ≤ 22272
-  text-long = rw (tidy-checks good) (tree-long t refl refl)
+  inverse-long : length (field (do t ← inverse text tree; display text t)) ≤ 6144
+  inverse-long = field-long (do t ← inverse text tree; display text t) (λ l e.
+      let i = after (inverse text tree) e in
+      omega (arith, made-printed f text (i .0) (inverted (read accepted) (i .1)) l (i .2)))
 
-  inverse-long : length (field (do t′ ← inverse text (pack t); display text t′)) ≤ 22272
-  inverse-long = rw (tidy-checks good, inv-is t) (go (invRefusal t) refl)
-    where
-      go : (r : Option ℕ) → invRefusal t ≡ r →
-          length (field (_>>=_ (_>>=_ (verdict r (inverted t)) (λ t′. result (pack t′))) (λ l. display text l))) ≤ 22272
-      go (some r) i = omega (arith, refused-long r)
-      go none i = rw (inverse-checks i) (tree-long (inverted t) (inverted-bytes t) (inverted-size t))
-
-  steps-within : (l : List Leaf) → steps text (pack t) ≡ result l → Within MAX-INPUT l
-  unfolding steps
-  steps-within l i = go (flatten t) refl (rw (tidy-checks good) at i)
-    where
-      after : Bool → List Leaf → Outcome (List Leaf)
-      after b l′ = do unless TOO-MANY-STEPS b; result l′
-      counted : (b : Bool) (l′ : List Leaf) → flatten t ≡ result l′ → after b l′ ≡ result l → Within MAX-INPUT l
-      counted false l′ j i = absurd (let n : _≡_ {A = ℕ} 0 1 = cc in omega arith)
-      counted true l′ j i =
-          let same : l′ ≡ l = cc in
-          subst (Within MAX-INPUT) (unrolled-list t l′ j .1 ∙ same) (unrolled-within t false (omega (arith, reading-bytes f text t (good .accepted .reads))))
-      go : (o : Outcome (List Leaf)) → flatten t ≡ o → _>>=_ o (λ l′. after (leb (length l′) MAX-STEPS) l′) ≡ result l → Within MAX-INPUT l
-      go (refusal r) j i = absurd (let n : _≡_ {A = ℕ} 0 1 = cc in omega arith)
-      go (result l′) j i = counted (leb (length l′) MAX-STEPS) l′ j i
-
-  tree-part-long : length (treePart text (result (pack t))) ≤ MAX-LISTING
+  tree-part-long : length (treePart text (result tree)) ≤ MAX-LISTING
   tree-part-long =
-      let last = stepsPart text (steps text (pack t)) in
-      let shown = field (do t′ ← inverse text (pack t); display text t′) in
-      omega (arith, line-long (put "text" []) (field (display text (pack t))) (line (put "inverse" []) shown last), text-long,
-      line-long (put "inverse" []) shown last, inverse-long, steps-long text (steps text (pack t)) steps-within)
+      let last = stepsPart text (steps text tree) in
+      let shown = field (do t ← inverse text tree; display text t) in
+      omega (arith, line-long (put "text" []) (field (display text tree)) (line (put "inverse" []) shown last), text-long,
+      line-long (put "inverse" []) shown last, inverse-long, steps-long text short (steps text tree) (made-steps (read accepted)))
 
 -- The whole listing.
 listing-long : (f : Features) (text : List ℕ) → length (listing f text) ≤ MAX-LISTING
@@ -117,9 +87,7 @@ listing-long f text = go (leb (length text) MAX-INPUT) refl (reading f text) ref
         length (pick b (treePart text o) (put "refused input\n" [])) ≤ MAX-LISTING
     go false h o e = omega arith
     go true h (refusal r) e = omega (arith, line-long (put "text" []) (field (refusal r)) [], refused-long r)
-    go true h (result tree) e =
-        let a = accepted-tree f text tree e in
-        rw (← a .2) (tree-part-long f text (a .0) (leb-true (length text) MAX-INPUT h) (tidy f text (a .0) (a .1)))
+    go true h (result tree) e = tree-part-long f text tree (leb-true (length text) MAX-INPUT h) e
 
 pub listing-fits : (input : List ℕ) → length (lister input) ≤ MAX-LISTING
 unfolding lister

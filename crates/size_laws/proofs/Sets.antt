@@ -1,5 +1,5 @@
 -- Parts in braces: printed, one has at most 5/4 of the bytes that it was read from, as where `1-2,` prints `1..2,`. Assumes nothing.
-use Prim.Native.Nat.{ℕ, zero, suc, _+_, _*_, _≤_}
+use Prim.Native.Nat.{ℕ, _+_, _*_, _≤_}
 use Prim.Native.String as S
 use Prim.Native.String.{String}
 use mathlib.Core.Path.{_≡_, refl, sym, _∙_}
@@ -16,45 +16,17 @@ use Rattle.notation.specs.Numbers.{show, showSigned}
 use Rattle.notation.specs.Layers.{LayerSetElement, single, range, MAX-LAYER}
 use Rattle.notation.specs.Tree.{Constraint, fromTo, swap, fix}
 use Rattle.notation.specs.Grammar.{
-  Reading, rejected, read, Reader, done, andThen, _>>=_, _>>_, just, word, padded, collect, moreOf, separatedBy, braces, familyText, constraint, constraintSet,
-  signedLayer, layer, layerSetElement, layerSetElements, atEnd
+  Reading, rejected, read, Reader, done, _>>=_, _>>_, just, word, padded, braces, familyText, constraint, constraintSet, signedLayer, layer,
+  layerSetElement, layerSetElements, atEnd
 }
 use Rattle.notation.specs.Meaning.{constraintsIn, layerSetIn, orEmpty}
 use Rattle.notation.specs.Print.{put, putMore, putBraces, putConstraint, putElement}
 use Rattle.laws.proofs.Bools.{no-some}
 use Rattle.laws.proofs.Readers.{
-  Place, anywhere, Took, Yields, pick-read, took-front, took-is, there, took-join, weaken, yields-done, yields-bind, yields-or, yields-when, yields-just,
-  yields-padded, run-le
+  Place, anywhere, Yields, pick-read, took-front, took-is, weaken, yields-done, yields-bind, yields-or, yields-when, yields-just, yields-padded,
+  yields-counted, run-le
 }
 use Rattle.size_laws.proofs.Digits.{Number, signedDigits, signed-long, show-long, yields-uint, yields-sint}
-
--- A list whose separators count: Q is of the items after the first, each read with the separator before it, and R of the whole list.
-module _ {c : Place} {A L : Type 0} (add : A → L → L) (empty : L) {item : Reader A} (separator : Reader (Unit {0})) {P P′ : A → ℕ → Type 0}
-    (Q R : L → ℕ → Type 0) (none-more : Q empty 0) (none-first : R empty 0)
-    (one-more : (a : A) (l : L) (n m : ℕ) → P′ a n → Q l m → Q (add a l) (n + (m + 0)))
-    (one-first : (a : A) (l : L) (n m : ℕ) → P a n → Q l m → R (add a l) (n + (m + 0)))
-    (first : Yields c item P) (after : Yields c (_>>_ separator item) P′) where
-  took-collect : {T : L → ℕ → Type 0} {S : A → ℕ → Type 0} {more : Reader L} → T empty 0 →
-      ((a : A) (l : L) (n m : ℕ) → S a n → Q l m → T (add a l) (n + (m + 0))) → Yields c more Q → (at : ℕ) (s : List ℕ) → c .here at s → (r : Reading A) →
-      ((a : A) (at′ : ℕ) (s′ : List ℕ) → r ≡ read a at′ s′ → Took S at s a at′ s′) →
-      (l : L) (at″ : ℕ) (s″ : List ℕ) → collect add empty r more at s ≡ read l at″ s″ → Took T at s l at″ s″
-  took-collect none-left w y at s h rejected t l at″ s″ e = yields-done {c = c} {a = empty} none-left .took at s h l at″ s″ e
-  took-collect {T} {S} {more} none-left w y at s h (read a at′ s′) t l at″ s″ e =
-      let u = t a at′ s′ refl in
-      took-join u
-      (yields-bind {p = more} {f = λ l. done (add a l)} {Q = Q} {R = λ b m. T b (length (u .part) + m)} y
-      (λ l m q. yields-done (w a l (length (u .part)) m (u .holds) q))
-      .took at′ s′ (there c u h) l at″ s″ e)
-
-  yields-more : (k : ℕ) → Yields c (moreOf add empty item separator k) Q
-  unfolding moreOf
-  yields-more zero = yields-done none-more
-  yields-more (suc k) = record { took = λ at s h l at″ s″ e.
-    took-collect none-more one-more (yields-more k) at s h (andThen (separator at s) (λ _. item)) (λ a at′ s′. after .took at s h a at′ s′) l at″ s″ e }
-
-  yields-list : Yields c (separatedBy add empty item separator) R
-  yields-list = record { took = λ at s h l at″ s″ e.
-    took-collect none-first one-first (yields-more (length s)) at s h (item at s) (λ a at′ s′. first .took at s h a at′ s′) l at″ s″ e }
 
 -- An item takes n bytes, and with the comma after it at most 5/4 of n + 1 as printed.
 module _ {A : Type 0} (f : A → List ℕ → List ℕ) (adds : (a : A) (rest : List ℕ) → length (f a rest) ≡ length (f a []) + length rest) where
@@ -78,14 +50,15 @@ module _ {A : Type 0} (f : A → List ℕ → List ℕ) (adds : (a : A) (rest : 
       4 * length (putBraces f (a ∷ l) []) ≤ 5 * (n + (m + 0)) + 10
   one-first a l n m h g = omega (arith, adds a (putMore f l (125 ∷ [])), more-adds l (125 ∷ []))
 
-  pub yields-braces : {c : Place} {item : Reader A} → Yields c item (λ a n. 4 * length (f a []) ≤ 5 * n + 1) → Yields c (braces item) (λ l n. 4 * length (putBraces f l []) ≤ 5 * n)
+  pub yields-braces : {c : Place} {item : Reader A} → Yields c item (λ a n. 4 * length (f a []) ≤ 5 * n + 1) →
+      Yields c (braces item) (λ l n. 4 * length (putBraces f l []) ≤ 5 * n)
   unfolding putMore
   yields-braces items =
       yields-bind (yields-just "{") λ _ k i.
       yields-bind
       (yields-padded {Q = λ l n. 4 * length (putBraces f l []) ≤ 5 * n + 10} (λ l n m h q. omega arith)
-        (yields-list _∷_ [] (padded (just ",")) (λ l n. 4 * length (putMore f l []) ≤ 5 * n) (λ l n. 4 * length (putBraces f l []) ≤ 5 * n + 10) (omega arith) (omega arith)
-          one-more one-first items
+        (yields-counted _∷_ [] (padded (just ",")) (λ l n. 4 * length (putMore f l []) ≤ 5 * n)
+          (λ l n. 4 * length (putBraces f l []) ≤ 5 * n + 10) (omega arith) (omega arith) one-more one-first items
           (yields-bind (yields-padded (λ a n m h q. omega arith) (weaken (yields-just ",") (λ a n h. let g : 1 ≤ n = omega arith in g))) λ _ k i.
             weaken items (λ a n h. omega arith))))
       λ l n q. yields-bind (yields-just "}") λ _ m j. yields-done (omega arith)
@@ -166,21 +139,31 @@ whole {A} {p} {Q} {a} text y e = go (p 0 text) refl e
         let t = y .took 0 text tt a at [] (i ∙ same) in
         rw (t .splits ∙ append-nil (t .part)) (t .holds)
 
--- What a part of a text prints; one that is not read has no elements.
+-- What a part of a text prints. One that is not read has no elements and prints `{}`, which are two bytes more, counted four times as they all are here.
+abbrev pub unread : {A : Type 0} → Option A → ℕ
+unread none = 8
+unread (some a) = 0
+
+pub unread-most : {A : Type 0} (o : Option A) → unread o ≤ 8
+unread-most none = omega arith
+unread-most (some a) = omega arith
+
 part-long : {A : Type 0} {p : Reader (List A)} (f : A → List ℕ → List ℕ) (part : List ℕ) → Yields anywhere p (λ l n. 4 * length (putBraces f l []) ≤ 5 * n) →
-    4 * length (putBraces f (orEmpty (atEnd (p 0 part))) []) ≤ 5 * length part + 8
+    4 * length (putBraces f (orEmpty (atEnd (p 0 part))) []) ≤ 5 * length part + unread (atEnd (p 0 part))
 part-long {A} {p} f part y = go (atEnd (p 0 part)) refl
   where
-    go : (o : Option (List A)) → atEnd (p 0 part) ≡ o → 4 * length (putBraces f (orEmpty o) []) ≤ 5 * length part + 8
+    go : (o : Option (List A)) → atEnd (p 0 part) ≡ o → 4 * length (putBraces f (orEmpty o) []) ≤ 5 * length part + unread o
     go none e = omega arith
     go (some l) e = omega (arith, whole part y e)
 
-pub constraints-long : (part rest : List ℕ) → 4 * length (putBraces putConstraint (orEmpty (constraintsIn part)) rest) ≤ 5 * length part + 8 + 4 * length rest
+pub constraints-long : (part rest : List ℕ) →
+    4 * length (putBraces putConstraint (orEmpty (constraintsIn part)) rest) ≤ 5 * length part + unread (constraintsIn part) + 4 * length rest
 unfolding constraintsIn
 constraints-long part rest =
     omega (arith, braces-add putConstraint constraint-adds (orEmpty (constraintsIn part)) rest, part-long putConstraint part yields-constraintSet)
 
-pub layers-long : (part rest : List ℕ) → 4 * length (putBraces putElement (orEmpty (layerSetIn part)) rest) ≤ 5 * length part + 8 + 4 * length rest
+pub layers-long : (part rest : List ℕ) →
+    4 * length (putBraces putElement (orEmpty (layerSetIn part)) rest) ≤ 5 * length part + unread (layerSetIn part) + 4 * length rest
 unfolding layerSetIn
 layers-long part rest =
     omega (arith, braces-add putElement element-adds (orEmpty (layerSetIn part)) rest, part-long putElement part (yields-layerSet true))

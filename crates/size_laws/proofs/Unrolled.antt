@@ -1,53 +1,44 @@
 -- No step of an unrolled list takes more bytes than its tree. Assumes nothing.
-use Prim.Native.Nat.{ℕ, zero, suc, _≤_}
+use Prim.Native.Nat.{ℕ, _≤_}
 use mathlib.Core.Bool.{Bool, true, false}
-use mathlib.Core.List.{List, [], _∷_, _++_}
+use mathlib.Core.List.{List}
 use native.Mathlib.Omega.{arith}
-
 use Rattle.notation.specs.Basics.{pick}
 use Rattle.notation.specs.Tree.{Leaf, Node, leaf, block, Body, group, binaryGroup, nil, cons, Tree}
 use Rattle.notation.specs.Invert.{undo}
-use Rattle.notation.specs.Unroll.{copies, turned}
+use Rattle.notation.specs.Unroll.{turned}
 use Rattle.notation.specs.Counts.{times}
 use Rattle.notation.specs.declared.common.BinaryGroupKind.{BinaryGroupKind}
 use Rattle.notation.specs.declared.common.BinaryGroupKind.the-variants.{Commutator, Conjugate}
+use Rattle.laws.specs.All.{All, empty, one}
+use Rattle.laws.proofs.All.{all-append, all-copies}
 use Rattle.laws.specs.Unrolled.{inOrder, flatBinary, flatNode, flatBody, flat}
-use Rattle.size_laws.proofs.Bytes.{leafBytes, nodeBytes, bodyBytes, bytes, undo-bytes}
+use Rattle.size_laws.proofs.Bytes.{leafBytes, nodeBytes, bodyBytes, spaced, bytes, undo-bytes}
 
 -- every step takes at most n bytes
-pub data Within (n : ℕ) : List Leaf → Type 0 where
-  empty : Within n []
-  one : {x : Leaf} {l : List Leaf} → leafBytes x ≤ n → Within n l → Within n (x ∷ l)
+abbrev pub Within : ℕ → List Leaf → Type 0
+Within n = All (λ x. leafBytes x ≤ n)
 
 module _ {n : ℕ} where
-  within-append : {a b : List Leaf} → Within n a → Within n b → Within n (a ++ b)
-  within-append empty q = q
-  within-append (one h p) q = one h (within-append p q)
-
-  within-copies : (k : ℕ) {l : List Leaf} → Within n l → Within n (copies k l)
-  unfolding copies
-  within-copies zero p = empty
-  within-copies (suc k) p = within-append p (within-copies k p)
-
   within-order : (d : Bool) {a b : List Leaf} → Within n a → Within n b → Within n (inOrder d a b)
-  within-order false p q = within-append p q
-  within-order true p q = within-append q p
+  within-order false p q = all-append p q
+  within-order true p q = all-append q p
 
   within-binary : (k : BinaryGroupKind) (d : Bool) {a b : Bool → List Leaf} → ((e : Bool) → Within n (a e)) → ((e : Bool) → Within n (b e)) →
       Within n (flatBinary k d a b)
-  within-binary Commutator false p q = within-append (p false) (within-append (q false) (within-append (p true) (q true)))
-  within-binary Commutator true p q = within-append (q false) (within-append (p false) (within-append (q true) (p true)))
-  within-binary Conjugate d p q = within-append (p false) (within-append (q d) (p true))
+  within-binary Commutator false p q = all-append (p false) (all-append (q false) (all-append (p true) (q true)))
+  within-binary Commutator true p q = all-append (q false) (all-append (p false) (all-append (q true) (p true)))
+  within-binary Conjugate d p q = all-append (p false) (all-append (q d) (p true))
 
   leaf-within : (x : Leaf) (d : Bool) → leafBytes x ≤ n → leafBytes (pick d (undo x) x) ≤ n
   leaf-within x true h = omega (arith, undo-bytes x)
   leaf-within x false h = h
 
   mutual
-    unfolding flatNode flatBody flat nodeBytes bodyBytes bytes
+    unfolding flatNode flatBody flat nodeBytes bodyBytes spaced
     node-within : (x : Node Leaf) (d : Bool) → nodeBytes x ≤ n → Within n (flatNode undo d x)
     node-within (leaf x) d h = one (leaf-within x d h) empty
-    node-within (block b m) d h = within-copies (times b m) (body-within b (turned m d) (omega arith))
+    node-within (block b m) d h = all-copies (times b m) (body-within b (turned m d) (omega arith))
 
     body-within : (b : Body Leaf) (d : Bool) → bodyBytes b ≤ n → Within n (flatBody undo d b)
     body-within (group k a) d h = unrolled-within a d (omega arith)
