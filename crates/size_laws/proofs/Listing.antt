@@ -1,4 +1,4 @@
--- The lister's listing always fits 4 MiB: a line of a step has at most 3,857 bytes, and there are at most 1,000 of them; the printed text and its inverse
+-- The lister's listing always fits 4 MiB: a line of a step has at most 3,853 bytes, and there are at most 1,000 of them; the printed text and its inverse
 -- have at most 6,144 bytes each. Assumes nothing.
 use Prim.Native.Nat.{ℕ, zero, suc, _+_, _*_, _≤_}
 use mathlib.Core.Path.{_≡_, refl}
@@ -14,14 +14,16 @@ use Rattle.notation.specs.Numbers.{show}
 use Rattle.notation.specs.Refusals.{Outcome, refusal, result, _>>=_}
 use Rattle.notation.specs.Tree.{Leaf}
 use Rattle.notation.specs.Meaning.{stepOf}
+use Rattle.notation.specs.WellFormed.{leafOk}
 use Rattle.notation.specs.Print.{put, putStep}
 use Rattle.notation.specs.Entries.{reading, inverse, display, steps}
 use Rattle.notation.specs.Demands.{AtMost}
 use Rattle.notation.specs.Sizes.{read, inverted}
 use Rattle.notation.specs.Lister.{MAX-INPUT, line, field, stepLines, stepsPart, treePart, listing, lister}
 use Rattle.notation.specs.declared.features.Features.{Features}
-use Rattle.laws.specs.All.{empty, one}
+use Rattle.laws.specs.All.{All, empty, one}
 use Rattle.laws.proofs.Outcomes.{after}
+use Rattle.laws.proofs.GoodSteps.{Good}
 use Rattle.size_laws.proofs.Digits.{ten-digits}
 use Rattle.size_laws.proofs.Bytes.{leafBytes}
 use Rattle.size_laws.proofs.Printed.{printed-step}
@@ -39,24 +41,26 @@ line-long label field rest = omega (arith, length-append label (32 ∷ (field ++
 refused-long : (r : ℕ) → length (field (refusal r)) ≤ 18
 refused-long r = omega (arith, ten-digits r)
 
-pub step-line-long : (text : List ℕ) (k : ℕ) (x : Leaf) (rest : List ℕ) → leafBytes x ≤ MAX-INPUT →
-    length (line (show k []) (putStep (stepOf text x) []) rest) ≤ 3857 + length rest
-step-line-long text k x rest h =
-    omega (arith, line-long (show k []) (putStep (stepOf text x) []) rest, ten-digits k, printed-step text x [])
+step-line-long : (text : List ℕ) (k : ℕ) (x : Leaf) (rest : List ℕ) → leafOk text x ≡ true → leafBytes x ≤ MAX-INPUT →
+    length (line (show k []) (putStep (stepOf text x) []) rest) ≤ 3853 + length rest
+step-line-long text k x rest ok h =
+    omega (arith, line-long (show k []) (putStep (stepOf text x) []) rest, ten-digits k, printed-step text x [] ok)
 
-step-lines-long : (text : List ℕ) → length text ≤ MAX-INPUT → (m k : ℕ) {l : List Leaf} → Within (length text) l → length (stepLines text m k l) ≤ m * 3857
+step-lines-long : (text : List ℕ) → length text ≤ MAX-INPUT → (m k : ℕ) {l : List Leaf} → All (Good text) l → Within (length text) l →
+    length (stepLines text m k l) ≤ m * 3853
 unfolding stepLines
-step-lines-long text short zero k w = omega arith
-step-lines-long text short (suc m) k empty = omega arith
-step-lines-long text short (suc m) k (one {x} {l} h w) =
-    omega (arith, step-line-long text k x (stepLines text m (suc k) l) (omega arith), step-lines-long text short m (suc k) w)
+step-lines-long text short zero k g w = omega arith
+step-lines-long text short (suc m) k empty empty = omega arith
+step-lines-long text short (suc m) k (one {x} {l} o g) (one h w) =
+    omega (arith, step-line-long text k x (stepLines text m (suc k) l) (o .ok) (omega arith), step-lines-long text short m (suc k) g w)
 
-steps-long : (text : List ℕ) → length text ≤ MAX-INPUT → (o : Outcome (List Leaf)) → ((l : List Leaf) → o ≡ result l → Within (length text) l) →
-    length (stepsPart text o) ≤ 3857025
+steps-long : (text : List ℕ) → length text ≤ MAX-INPUT → (o : Outcome (List Leaf)) →
+    ((l : List Leaf) → o ≡ result l → All (Good text) l × Within (length text) l) → length (stepsPart text o) ≤ 3853025
 steps-long text short (refusal r) h = omega (arith, line-long (put "steps" []) (field (refusal r)) [], refused-long r)
 steps-long text short (result l) h =
+    let each = h l refl in
     omega (arith, line-long (put "steps" []) (show (length l) []) (stepLines text 1000 0 l), ten-digits (length l),
-    step-lines-long text short 1000 0 (h l refl))
+    step-lines-long text short 1000 0 (each .0) (each .1))
 
 field-long : (o : Outcome (List ℕ)) → AtMost 6144 o → length (field o) ≤ 6144
 field-long (refusal r) h = omega (arith, refused-long r)

@@ -126,9 +126,10 @@ made-over {f} {text} (invertedDeep m e) =
     (λ r. deeply-fits (o .nodes) r (o .fits)) (deeply-size (o .nodes)) (deeply-bytes (o .nodes)) e
 made-over (sought place m e) = over-sought place (made-over m) e
 
--- none of its steps takes more bytes than the text has
-pub made-steps : {f : Features} {text tree : List ℕ} → Made f text tree → (l : List Leaf) → steps text tree ≡ result l → Within (length text) l
-made-steps m l e = over-steps (made-over m) l e .1
+-- each of its steps is well formed and takes no more bytes than the text has
+pub made-steps : {f : Features} {text tree : List ℕ} → Made f text tree → (l : List Leaf) → steps text tree ≡ result l →
+    All (Good text) l × Within (length text) l
+made-steps m l e = over-steps (made-over m) l e
 
 pub made-printed : (f : Features) (text tree : List ℕ) → Made f text tree → AtMost (2 * length text) (display text tree)
 made-printed f text tree m l e =

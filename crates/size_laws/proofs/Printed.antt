@@ -1,7 +1,7 @@
--- How long steps and trees are as printed: a step at most 5/4 of its bytes and a few more, and a well-formed tree at most 7/4 of its bytes and one quarter.
+-- How long well-formed steps and trees are as printed: a step at most 5/4 of its bytes and two more, a tree at most 7/4 of its bytes and one quarter.
 -- No less will do: signs are not counted, so that `[U',U']'` counts 5 bytes, and it prints `[U', U']'`, which are 9. Assumes nothing.
 use Prim.Native.Nat.{ℕ, zero, suc, _+_, _*_, _≤_}
-use mathlib.Core.Path.{_≡_, refl}
+use mathlib.Core.Path.{_≡_}
 use mathlib.Core.Bool.{Bool, true, false, _&&_}
 use mathlib.Core.List.{List, [], _∷_, _++_}
 use mathlib.Core.Option.{Option, none, some}
@@ -15,8 +15,8 @@ use Rattle.notation.specs.Tree.{
   Node, leaf, block, Body, group, binaryGroup, nil, cons, Tree, mapNode, mapBody, mapNodes
 }
 use Rattle.notation.specs.Packed.{orNowhere, bit}
-use Rattle.notation.specs.Meaning.{constraintsIn, layerSetIn, constraintMeaning, layerMeaning, stepOf, unspanned}
-use Rattle.notation.specs.WellFormed.{isSome, inside, familyOk, constraintsOk, layersOk, multiplierOk, leafOk, nodeOk, bodyOk, treeOk}
+use Rattle.notation.specs.Meaning.{constraintMeaning, layerMeaning, stepOf, unspanned}
+use Rattle.notation.specs.WellFormed.{inside, familyOk, constraintsOk, layersOk, multiplierOk, leafOk, nodeOk, bodyOk, treeOk}
 use Rattle.notation.specs.Print.{
   putConstraints, putLayers, putTilde, putMegaminx, putMultiplier, putStep, putPrefix, putSeparator, putNode, putBody, putNodes, putOthers, printed
 }
@@ -26,9 +26,9 @@ use Rattle.notation.specs.declared.common.BinaryGroupKind.{BinaryGroupKind}
 use Rattle.notation.specs.declared.common.BinaryGroupKind.the-variants.{Commutator, Conjugate}
 use Rattle.notation.specs.declared.common.MegaminxScrambleMove.{MegaminxScrambleMove}
 use Rattle.notation.specs.declared.common.MegaminxScrambleMove.the-variants.{Rpp, Rmm, Dpp, Dmm}
-use Rattle.laws.proofs.Bools.{false-true, and-left, and-right}
+use Rattle.laws.proofs.Bools.{and-left, and-right}
 use Rattle.size_laws.proofs.Digits.{some-digit, show-long, signed-long, signed-most, multiplier-most}
-use Rattle.size_laws.proofs.Sets.{unread, unread-most, constraints-long, layers-long}
+use Rattle.size_laws.proofs.Sets.{constraints-long, layers-long}
 use Rattle.size_laws.proofs.Bytes.{layerBytes, leafBytes, prefixBytes, nodeBytes, bodyBytes, spaced, bytes}
 
 -- Parts of a step.
@@ -38,27 +38,18 @@ part-long text p = omega (arith, length-take (p .size) (drop (p .offset) text))
 family-long : (text : List ℕ) (p : Span) (rest : List ℕ) → length (partOf text p ++ rest) ≤ p .size + length rest
 family-long text p rest = omega (arith, length-append (partOf text p) rest, part-long text p)
 
-abbrev unreadConstraints : List ℕ → Option Span → ℕ
-unreadConstraints text none = 0
-unreadConstraints text (some p) = unread (constraintsIn (partOf text p))
+constraint-part : (text : List ℕ) (c : Option Span) (rest : List ℕ) → constraintsOk text c ≡ true →
+    4 * length (putConstraints (constraintMeaning text c) rest) ≤ 5 * orNowhere c .size + 4 * length rest
+constraint-part text none rest h = omega arith
+constraint-part text (some p) rest h =
+    omega (arith, constraints-long (partOf text p) rest (and-right (inside text p) _ h), part-long text p)
 
-abbrev unreadLayers : List ℕ → Layers Span → ℕ
-unreadLayers text noLayers = 0
-unreadLayers text (singleLayer i) = 0
-unreadLayers text (layerRange i j) = 0
-unreadLayers text (layerSet p) = unread (layerSetIn (partOf text p))
-
-constraint-part : (text : List ℕ) (c : Option Span) (rest : List ℕ) →
-    4 * length (putConstraints (constraintMeaning text c) rest) ≤ 5 * orNowhere c .size + unreadConstraints text c + 4 * length rest
-constraint-part text none rest = omega arith
-constraint-part text (some p) rest = omega (arith, constraints-long (partOf text p) rest, part-long text p)
-
-layer-part : (text : List ℕ) (l : Layers Span) (rest : List ℕ) →
-    4 * length (putLayers (layerMeaning text l) rest) ≤ 5 * layerBytes l + unreadLayers text l + 4 * length rest
-layer-part text noLayers rest = omega arith
-layer-part text (singleLayer i) rest = omega (arith, show-long i rest)
-layer-part text (layerRange i j) rest = omega (arith, show-long i (45 ∷ show j rest), show-long j rest)
-layer-part text (layerSet p) rest = omega (arith, layers-long (partOf text p) rest, part-long text p)
+layer-part : (text : List ℕ) (l : Layers Span) (rest : List ℕ) → layersOk text l ≡ true →
+    4 * length (putLayers (layerMeaning text l) rest) ≤ 5 * layerBytes l + 4 * length rest
+layer-part text noLayers rest h = omega arith
+layer-part text (singleLayer i) rest h = omega (arith, show-long i rest)
+layer-part text (layerRange i j) rest h = omega (arith, show-long i (45 ∷ show j rest), show-long j rest)
+layer-part text (layerSet p) rest h = omega (arith, layers-long (partOf text p) rest (and-right (inside text p) _ h), part-long text p)
 
 tilde-long : (t : Bool) (rest : List ℕ) → length (putTilde t rest) ≡ bit t + length rest
 tilde-long true rest = omega arith
@@ -70,84 +61,59 @@ megaminx-long Rmm rest = omega arith
 megaminx-long Dpp rest = omega arith
 megaminx-long Dmm rest = omega arith
 
--- A step, forward or undone: four times its bytes are at most five times those that it is read from and this, for a prime, for parts that are not read,
--- and for the signs and the space of a pair.
-abbrev beyond : List ℕ → Leaf → ℕ
-beyond text (rotation f c m) = 4 + unreadConstraints text c
-beyond text (move t l f c m) = 4 + (unreadLayers text l + unreadConstraints text c)
-beyond text pause = 0
-beyond text (pair u d) = 7
-beyond text slash = 0
-beyond text (megaminx k) = 0
+-- What a step prints, forward or undone, four times its bytes, beyond five times those that it is read from: its prime, or the signs and the space of a pair.
+abbrev beyond : Leaf → ℕ
+beyond (rotation f c m) = 4
+beyond (move t l f c m) = 4
+beyond pause = 0
+beyond (pair u d) = 7
+beyond slash = 0
+beyond (megaminx k) = 0
 
-step-long : (text : List ℕ) (x : Leaf) (rest : List ℕ) → 4 * length (putStep (stepOf text x) rest) ≤ 5 * leafBytes x + beyond text x + 4 * length rest
-unfolding putStep stepOf leafBytes
-step-long text (rotation f c m) rest =
+step-long : (text : List ℕ) (x : Leaf) (rest : List ℕ) → leafOk text x ≡ true →
+    4 * length (putStep (stepOf text x) rest) ≤ 5 * leafBytes x + beyond x + 4 * length rest
+unfolding putStep stepOf leafOk leafBytes
+step-long text (rotation f c m) rest h =
     let after = putMultiplier m rest in
     let behind = putConstraints (constraintMeaning text c) after in
-    omega (arith, family-long text f behind, constraint-part text c after, multiplier-most m rest)
-step-long text (move t l f c m) rest =
+    omega (arith, family-long text f behind, constraint-part text c after (and-right (familyOk text 0 f) _ (and-left _ _ h)), multiplier-most m rest)
+step-long text (move t l f c m) rest h =
     let after = putMultiplier m rest in
     let behind = putConstraints (constraintMeaning text c) after in
     let family = partOf text f ++ behind in
-    omega (arith, tilde-long t (putLayers (layerMeaning text l) family), layer-part text l family, family-long text f behind, constraint-part text c after,
-    multiplier-most m rest)
-step-long text pause rest = omega arith
-step-long text (pair u d) rest =
+    omega (arith, tilde-long t (putLayers (layerMeaning text l) family), layer-part text l family (and-left _ _ (and-left _ _ (and-left _ _ h))),
+    family-long text f behind, constraint-part text c after (and-right (layersOk text l && familyOk text 1 f) _ (and-left _ _ h)), multiplier-most m rest)
+step-long text pause rest h = omega arith
+step-long text (pair u d) rest h =
     omega (arith, signed-long u (44 ∷ 32 ∷ showSigned d (41 ∷ rest)), signed-most u, some-digit (natAbs u), signed-long d (41 ∷ rest), signed-most d,
     some-digit (natAbs d))
-step-long text slash rest = omega arith
-step-long text (megaminx k) rest = omega (arith, megaminx-long k rest)
+step-long text slash rest h = omega arith
+step-long text (megaminx k) rest h = omega (arith, megaminx-long k rest)
 
--- any step
-constraints-most : (text : List ℕ) (c : Option Span) → unreadConstraints text c ≤ 8
-constraints-most text none = omega arith
-constraints-most text (some p) = unread-most (constraintsIn (partOf text p))
+-- as a few bytes
+beyond-most : (x : Leaf) → beyond x ≤ 7
+beyond-most (rotation f c m) = omega arith
+beyond-most (move t l f c m) = omega arith
+beyond-most pause = omega arith
+beyond-most (pair u d) = omega arith
+beyond-most slash = omega arith
+beyond-most (megaminx k) = omega arith
 
-layers-most : (text : List ℕ) (l : Layers Span) → unreadLayers text l ≤ 8
-layers-most text noLayers = omega arith
-layers-most text (singleLayer i) = omega arith
-layers-most text (layerRange i j) = omega arith
-layers-most text (layerSet p) = unread-most (layerSetIn (partOf text p))
+pub printed-step : (text : List ℕ) (x : Leaf) (rest : List ℕ) → leafOk text x ≡ true →
+    4 * length (putStep (stepOf text x) rest) ≤ 5 * leafBytes x + 7 + 4 * length rest
+printed-step text x rest h = omega (arith, step-long text x rest h, beyond-most x)
 
-beyond-most : (text : List ℕ) (x : Leaf) → beyond text x ≤ 20
-beyond-most text (rotation f c m) = omega (arith, constraints-most text c)
-beyond-most text (move t l f c m) = omega (arith, constraints-most text c, layers-most text l)
-beyond-most text pause = omega arith
-beyond-most text (pair u d) = omega arith
-beyond-most text slash = omega arith
-beyond-most text (megaminx k) = omega arith
-
-pub printed-step : (text : List ℕ) (x : Leaf) (rest : List ℕ) → 4 * length (putStep (stepOf text x) rest) ≤ 5 * leafBytes x + 20 + 4 * length rest
-printed-step text x rest = omega (arith, step-long text x rest, beyond-most text x)
-
--- a step that is well formed, all of whose parts are read
-was-read : {A : Type 0} (o : Option A) → isSome o ≡ true → unread o ≡ 0
-was-read none h = absurd (false-true h)
-was-read (some a) h = refl
-
-constraints-read : (text : List ℕ) (c : Option Span) → constraintsOk text c ≡ true → unreadConstraints text c ≡ 0
-constraints-read text none h = refl
-constraints-read text (some p) h = was-read (constraintsIn (partOf text p)) (and-right (inside text p) _ h)
-
-layers-read : (text : List ℕ) (l : Layers Span) → layersOk text l ≡ true → unreadLayers text l ≡ 0
-layers-read text noLayers h = refl
-layers-read text (singleLayer i) h = refl
-layers-read text (layerRange i j) h = refl
-layers-read text (layerSet p) h = was-read (layerSetIn (partOf text p)) (and-right (inside text p) _ h)
-
-beyond-read : (text : List ℕ) (x : Leaf) → leafOk text x ≡ true → beyond text x ≤ leafBytes x + 3
+-- by the bytes that it is read from
+beyond-least : (text : List ℕ) (x : Leaf) → leafOk text x ≡ true → beyond x ≤ leafBytes x + 3
 unfolding leafOk leafBytes
-beyond-read text (rotation f c m) h = omega (arith, constraints-read text c (and-right (familyOk text 0 f) _ (and-left _ _ h)))
-beyond-read text (move t l f c m) h =
+beyond-least text (rotation f c m) h = omega arith
+beyond-least text (move t l f c m) h =
     let named = and-right (layersOk text l) _ (and-left _ _ (and-left _ _ h)) in
-    omega (arith, layers-read text l (and-left _ _ (and-left _ _ (and-left _ _ h))),
-    constraints-read text c (and-right (layersOk text l && familyOk text 1 f) _ (and-left _ _ h)),
-    leb-true 1 (f .size) (and-right (inside text f) _ (and-left _ _ named)))
-beyond-read text pause h = omega arith
-beyond-read text (pair u d) h = omega (arith, some-digit (natAbs u), some-digit (natAbs d))
-beyond-read text slash h = omega arith
-beyond-read text (megaminx k) h = omega arith
+    omega (arith, leb-true 1 (f .size) (and-right (inside text f) _ (and-left _ _ named)))
+beyond-least text pause h = omega arith
+beyond-least text (pair u d) h = omega (arith, some-digit (natAbs u), some-digit (natAbs d))
+beyond-least text slash h = omega arith
+beyond-least text (megaminx k) h = omega arith
 
 -- of whole numbers of bytes
 whole-bytes : (p s r : ℕ) → 4 * p ≤ 6 * s + 3 + 4 * r → 4 * p ≤ 7 * s + 1 + 4 * r
@@ -158,7 +124,7 @@ whole-bytes p (suc (suc s)) r h = omega arith
 printed-leaf : (text : List ℕ) (x : Leaf) (rest : List ℕ) → leafOk text x ≡ true →
     4 * length (putStep (stepOf text x) rest) ≤ 7 * leafBytes x + 1 + 4 * length rest
 printed-leaf text x rest h =
-    whole-bytes (length (putStep (stepOf text x) rest)) (leafBytes x) (length rest) (omega (arith, step-long text x rest, beyond-read text x h))
+    whole-bytes (length (putStep (stepOf text x) rest)) (leafBytes x) (length rest) (omega (arith, step-long text x rest h, beyond-least text x h))
 
 -- Nodes.
 prefix-long : (k : GroupKind) (rest : List ℕ) → length (putPrefix k rest) ≡ prefixBytes k + length rest

@@ -20,8 +20,9 @@ use Rattle.notation.specs.Grammar.{
   layerSetElement, layerSetElements, atEnd
 }
 use Rattle.notation.specs.Meaning.{constraintsIn, layerSetIn, orEmpty}
+use Rattle.notation.specs.WellFormed.{isSome}
 use Rattle.notation.specs.Print.{put, putMore, putBraces, putConstraint, putElement}
-use Rattle.laws.proofs.Bools.{no-some}
+use Rattle.laws.proofs.Bools.{false-true, no-some}
 use Rattle.laws.proofs.Readers.{
   Place, anywhere, Yields, pick-read, took-front, took-is, weaken, yields-done, yields-bind, yields-or, yields-when, yields-just, yields-padded,
   yields-counted, run-le
@@ -139,31 +140,23 @@ whole {A} {p} {Q} {a} text y e = go (p 0 text) refl e
         let t = y .took 0 text tt a at [] (i ∙ same) in
         rw (t .splits ∙ append-nil (t .part)) (t .holds)
 
--- What a part of a text prints. One that is not read has no elements and prints `{}`, which are two bytes more, counted four times as they all are here.
-abbrev pub unread : {A : Type 0} → Option A → ℕ
-unread none = 8
-unread (some a) = 0
-
-pub unread-most : {A : Type 0} (o : Option A) → unread o ≤ 8
-unread-most none = omega arith
-unread-most (some a) = omega arith
-
+-- What a part of a text prints that is read.
 part-long : {A : Type 0} {p : Reader (List A)} (f : A → List ℕ → List ℕ) (part : List ℕ) → Yields anywhere p (λ l n. 4 * length (putBraces f l []) ≤ 5 * n) →
-    4 * length (putBraces f (orEmpty (atEnd (p 0 part))) []) ≤ 5 * length part + unread (atEnd (p 0 part))
-part-long {A} {p} f part y = go (atEnd (p 0 part)) refl
+    isSome (atEnd (p 0 part)) ≡ true → 4 * length (putBraces f (orEmpty (atEnd (p 0 part))) []) ≤ 5 * length part
+part-long {A} {p} f part y h = go (atEnd (p 0 part)) refl h
   where
-    go : (o : Option (List A)) → atEnd (p 0 part) ≡ o → 4 * length (putBraces f (orEmpty o) []) ≤ 5 * length part + unread o
-    go none e = omega arith
-    go (some l) e = omega (arith, whole part y e)
+    go : (o : Option (List A)) → atEnd (p 0 part) ≡ o → isSome o ≡ true → 4 * length (putBraces f (orEmpty o) []) ≤ 5 * length part
+    go none e h = absurd (false-true h)
+    go (some l) e h = whole part y e
 
-pub constraints-long : (part rest : List ℕ) →
-    4 * length (putBraces putConstraint (orEmpty (constraintsIn part)) rest) ≤ 5 * length part + unread (constraintsIn part) + 4 * length rest
+pub constraints-long : (part rest : List ℕ) → isSome (constraintsIn part) ≡ true →
+    4 * length (putBraces putConstraint (orEmpty (constraintsIn part)) rest) ≤ 5 * length part + 4 * length rest
 unfolding constraintsIn
-constraints-long part rest =
-    omega (arith, braces-add putConstraint constraint-adds (orEmpty (constraintsIn part)) rest, part-long putConstraint part yields-constraintSet)
+constraints-long part rest h =
+    omega (arith, braces-add putConstraint constraint-adds (orEmpty (constraintsIn part)) rest, part-long putConstraint part yields-constraintSet h)
 
-pub layers-long : (part rest : List ℕ) →
-    4 * length (putBraces putElement (orEmpty (layerSetIn part)) rest) ≤ 5 * length part + unread (layerSetIn part) + 4 * length rest
+pub layers-long : (part rest : List ℕ) → isSome (layerSetIn part) ≡ true →
+    4 * length (putBraces putElement (orEmpty (layerSetIn part)) rest) ≤ 5 * length part + 4 * length rest
 unfolding layerSetIn
-layers-long part rest =
-    omega (arith, braces-add putElement element-adds (orEmpty (layerSetIn part)) rest, part-long putElement part (yields-layerSet true))
+layers-long part rest h =
+    omega (arith, braces-add putElement element-adds (orEmpty (layerSetIn part)) rest, part-long putElement part (yields-layerSet true) h)
