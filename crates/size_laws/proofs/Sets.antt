@@ -20,8 +20,9 @@ use Rattle.notation.specs.Grammar.{
   signedLayer, layer, layerSetElement, layerSetElements, atEnd
 }
 use Rattle.notation.specs.Meaning.{constraintsIn, layerSetIn, orEmpty}
+use Rattle.notation.specs.WellFormed.{isSome}
 use Rattle.notation.specs.Print.{put, putMore, putBraces, putConstraint, putElement}
-use Rattle.laws.proofs.Bools.{no-some}
+use Rattle.laws.proofs.Bools.{false-true, no-some}
 use Rattle.laws.proofs.Readers.{
   Place, anywhere, Took, Yields, pick-read, took-front, took-is, there, took-join, weaken, yields-done, yields-bind, yields-or, yields-when, yields-just,
   yields-padded, run-le
@@ -184,3 +185,14 @@ pub layers-long : (part rest : List ℕ) → 4 * length (putBraces putElement (o
 unfolding layerSetIn
 layers-long part rest =
     omega (arith, braces-add putElement element-adds (orEmpty (layerSetIn part)) rest, part-long putElement part (yields-layerSet true))
+
+-- A layer set that is read, as that of a well-formed leaf is.
+pub read-layers-long : (part rest : List ℕ) → isSome (layerSetIn part) ≡ true →
+    4 * length (putBraces putElement (orEmpty (layerSetIn part)) rest) ≤ 5 * length part + 4 * length rest
+unfolding layerSetIn
+read-layers-long part rest h = go (layerSetIn part) refl h
+  where
+    go : (o : Option (List LayerSetElement)) → layerSetIn part ≡ o → isSome o ≡ true →
+        4 * length (putBraces putElement (orEmpty o) rest) ≤ 5 * length part + 4 * length rest
+    go none e h = absurd (false-true h)
+    go (some l) e h = omega (arith, braces-add putElement element-adds l rest, whole part (yields-layerSet true) e)
