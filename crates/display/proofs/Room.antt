@@ -1,6 +1,6 @@
 -- Any tree prints into as many bytes as its records have and the parts that they name print. Assumes nothing.
 use Prim.Native.Nat.{ℕ, suc, _+_, _/_, _≤_}
-use mathlib.Core.Path.{_≡_, refl, _∙_}
+use mathlib.Core.Path.{_≡_, refl}
 use mathlib.Core.Bool.{Bool, true, false, not}
 use mathlib.Core.List.{List, _++_}
 use native.Mathlib.Omega.{arith}
@@ -22,7 +22,7 @@ use Rattle.record.proofs.RoundTrip.{length-headRecord, cut-headRecord}
 use Rattle.laws.specs.Packed.{Packed}
 use Rattle.laws.proofs.Heads.{Run, ended, record-then, tree-run}
 use Rattle.display.specs.Bound.{allowedFor}
-use Rattle.display.proofs.Sizes.{allowedBoth, allowedAll, printed-size}
+use Rattle.display.proofs.Sizes.{allowedWithSet, allowedAll, printed-size}
 
 -- Beside its parts a pair is allowed 36 bytes, since it has no layers, and any other record 27.
 at-most : (t : Bool) (n : ℕ) → pick t n 0 ≤ n
@@ -47,7 +47,7 @@ pair-layers (leafHead (megaminx k)) e = omega arith
 pair-layers (groupHead k n m c) e = omega arith
 pair-layers (binaryHead k n n′ m c) e = omega arith
 
-fields-room : (r : Fields) → (kind r ≡ 9 → form r ≡ 0) → allowedBoth r ≤ RECORD + partsPrinted r
+fields-room : (r : Fields) → (kind r ≡ 9 → form r ≡ 0) → allowedWithSet r ≤ RECORD + partsPrinted r
 fields-room r h = omega (arith, signs-room (kind r) (natAbs (fromBits 32 (number r))) (family r .size) (constraints r .size) (form r) h)
 
 -- the records one after the other

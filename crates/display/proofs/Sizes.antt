@@ -10,7 +10,7 @@ use native.Mathlib.Nat.{pow-suc}
 use borrow.Author.Tests.{lt-ltb, ltb-true, ltb-false}
 use lib.Dec.{ltb, eqb, lit<}
 use lib.IntN.{ℤ, pos, negsuc, natAbs}
-use lib.ListN.{length, getD, drop, length-append, length-take}
+use lib.ListN.{length, drop, length-append, length-take}
 use Rattle.notation.specs.Basics.{pick, total}
 use Rattle.notation.specs.Chars.{whiteSpace}
 use Rattle.notation.specs.Utf8.{afterFirst, widthIf}
@@ -118,12 +118,12 @@ layers-size text (layerSet p) rest h f =
     omega (arith, read-layers-long (partOf text p) rest (and-right (inside text p) _ h), part-size text p)
 
 -- what is allowed for a record and its layer set, where it has one
-abbrev pub allowedBoth : List ℕ → ℕ
-allowedBoth fs = allowed fs + setAllowed (set fs .size)
+abbrev pub allowedWithSet : List ℕ → ℕ
+allowedWithSet fs = allowed fs + setAllowed (set fs .size)
 
 -- by its fields, where its number fits
 allowed-is : (kind t f p n n′ : ℕ) (m : ℤ) (o : ℕ) (family constraints set : Span) (c : ℕ) → t < 2 → f < 4 → p < 2 → FitsNumber m →
-    allowedBoth (inOrder kind t f p n n′ (toBits 32 m) o family constraints set c)
+    allowedWithSet (inOrder kind t f p n n′ (toBits 32 m) o family constraints set c)
     ≡ allowedFor kind (natAbs m) (family .size) (constraints .size) f + setAllowed (set .size)
 allowed-is kind t f p n n′ m o family constraints set c t-fits f-fits p-fits h =
     let k : (kind * 16 + t * 8 + f * 2 + p) / 16 ≡ kind = omega arith in
@@ -136,7 +136,7 @@ tilde-size false rest = omega arith
 
 -- a leaf and the space after it
 leaf-size : (text : List ℕ) (x : Leaf) (rest : List ℕ) → leafOk text x ≡ true → FitsLeaf x →
-    length (putStep (stepOf text x) rest) + 1 ≤ allowedBoth (headFields (leafHead x)) + length rest
+    length (putStep (stepOf text x) rest) + 1 ≤ allowedWithSet (headFields (leafHead x)) + length rest
 unfolding putStep stepOf
 leaf-size text (rotation f c m) rest h e =
     let p = rotation-parts text f c m h in
@@ -175,14 +175,14 @@ binary-low Commutator = lit< tt
 binary-low Conjugate = lit< tt
 
 low-size : (kind n n′ : ℕ) (m : ℤ) (c : ℕ) (rest : List ℕ) → kind < 6 → FitsNumber m →
-    5 + length (putMultiplier m rest) ≤ allowedBoth (inOrder kind 0 0 0 n n′ (toBits 32 m) 0 nowhere nowhere nowhere c) + length rest
+    5 + length (putMultiplier m rest) ≤ allowedWithSet (inOrder kind 0 0 0 n n′ (toBits 32 m) 0 nowhere nowhere nowhere c) + length rest
 low-size kind n n′ m c rest h f =
     let a = allowed-is kind 0 0 0 n n′ m 0 nowhere nowhere nowhere c (lit< tt) (lit< tt) (lit< tt) f in
     let signs : _≡_ {A = ℕ} (pick (ltb kind 6) 3 0) 3 = rw (lt-ltb kind 6 h) in
     omega (arith, a, signs, multiplier-size m rest f)
 
 body-size : (b : Body Leaf) (m : ℤ) (rest : List ℕ) → FitsHead (bodyHead b m) →
-    5 + length (putMultiplier m rest) ≤ allowedBoth (headFields (bodyHead b m)) + length rest
+    5 + length (putMultiplier m rest) ≤ allowedWithSet (headFields (bodyHead b m)) + length rest
 body-size (group k a) m rest f = low-size (groupNumber k) (size a) 0 m (stored (block (group k a) m)) rest (group-low k) (f .1)
 body-size (binaryGroup k a b) m rest f = low-size (binaryNumber k) (size a) (size b) m (stored (block (binaryGroup k a b) m)) rest (binary-low k) (f .2)
 
@@ -205,7 +205,7 @@ first-unspaced (cons n l) rest = omega arith
 -- The law: a node and the space after it, a group's contents with at most four signs, and a list with a space before each node, use what is
 -- allowed for their records. What follows them is not counted.
 abbrev pub allowedAll : List Head → ℕ
-allowedAll hs = total (λ h. allowedBoth (headFields h)) hs
+allowedAll hs = total (λ h. allowedWithSet (headFields h)) hs
 
 mutual
   unfolding nodeHeads bodyHeads heads total FitsNode FitsBody FitsTree nodeOk bodyOk treeOk putNode putBody putNodes putOthers mapNode mapBody mapNodes

@@ -23,11 +23,8 @@ use Rattle.nodes.proofs.Nodes.{part-rest}
 use Rattle.display.specs.Bound.{allowed}
 use Rattle.display.proofs.Sizes.{allowedAll, printed-size}
 
--- the layer form that a record says; a record with another one than 3 has no layer set
-abbrev formOf : Head → ℕ
-formOf h = form (headFields h)
-
-no-set : (h : Head) → (formOf h ≡ 3 → ⊥) → set (headFields h) .size ≡ 0
+-- a record whose layer form is another than 3 has no layer set
+no-set : (h : Head) → (form (headFields h) ≡ 3 → ⊥) → set (headFields h) .size ≡ 0
 no-set (leafHead (rotation f c m)) s = refl
 no-set (leafHead (move t noLayers f c m)) s = refl
 no-set (leafHead (move t (singleLayer i) f c m)) s = refl
@@ -40,11 +37,15 @@ no-set (leafHead (megaminx k)) s = refl
 no-set (groupHead k n m c) s = refl
 no-set (binaryHead k n n′ m c) s = refl
 
--- The loop: t are the records that are left of the tree, and what is allowed for those before them was taken off the room.
+-- What was taken off the room is at least what is allowed for the records of the tree before these.
+abbrev Taken : (tree : List ℕ) (room left : ℕ) → List Head → Type 0
+Taken tree room left rest = allowedAll (heads (unpack tree) []) + left ≤ room + allowedAll rest
+
+-- The loop: t are the records that are left of the tree.
 pub record Going (tree t : List ℕ) (room left : ℕ) : Type 0 where
   rest : List Head
   run : Run rest t
-  taken : allowedAll (heads (unpack tree) []) + left ≤ room + allowedAll rest
+  taken : Taken tree room left rest
 
 pub going-starts : (tree : List ℕ) (room : ℕ) → Packed tree → Going tree tree room room
 going-starts tree room p = record { rest = heads (unpack tree) []; run = tree-run p; taken = omega arith }
@@ -56,16 +57,13 @@ module _ {tree t : List ℕ} {room left : ℕ} (g : Going tree t room left) wher
   pub going-shorter : 0 < length t → length (part RECORD (length t) t) < length t
   going-shorter h = omega (arith, going-room h, ap length (part-rest RECORD t), length-drop RECORD t)
 
-  abbrev Taken : List Head → Type 0
-  Taken hs = allowedAll (heads (unpack tree) []) + left ≤ room + allowedAll hs
-
   pub going-on : {said size : ℕ} → 0 < length t → said ≡ formAt t → (said ≡ 3 → ⊥) → size ≡ allowed (cut widths (take RECORD t)) → size ≤ left →
       Going tree (part RECORD (length t) t) room (left - size)
   unfolding total
   going-on {said} {size} l e s i h = go (g .run) (g .taken) l e i
     where
-      go : {hs : List Head} {bs : List ℕ} → Run hs bs → Taken hs → 0 < length bs → said ≡ formAt bs → size ≡ allowed (cut widths (take RECORD bs)) →
-          Going tree (part RECORD (length bs) bs) room (left - size)
+      go : {hs : List Head} {bs : List ℕ} → Run hs bs → Taken tree room left hs → 0 < length bs → said ≡ formAt bs →
+          size ≡ allowed (cut widths (take RECORD bs)) → Going tree (part RECORD (length bs) bs) room (left - size)
       go ended taken l e i = absurd (omega arith)
       go (record-then {h = h′} {hs} {bs} f r) taken l e i =
           let fields = cut-headRecord h′ bs f in
@@ -78,6 +76,6 @@ module _ {tree t : List ℕ} {room left : ℕ} (g : Going tree t room left) wher
   unfolding total
   going-all e p text ok = omega (arith, printed-size text (unpack tree) ok (p .fits), go (g .run) (g .taken) e)
     where
-      go : {hs : List Head} {bs : List ℕ} → Run hs bs → Taken hs → length bs ≡ 0 → allowedAll (heads (unpack tree) []) + left ≤ room
+      go : {hs : List Head} {bs : List ℕ} → Run hs bs → Taken tree room left hs → length bs ≡ 0 → allowedAll (heads (unpack tree) []) ≤ room
       go ended taken e = omega (arith, taken)
       go (record-then {h} {hs} {bs} f r) taken e = absurd (omega (arith, length-append (headRecord h) bs, length-headRecord h))
