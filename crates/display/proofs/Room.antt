@@ -29,13 +29,12 @@ at-most : (t : Bool) (n : ℕ) → pick t n 0 ≤ n
 at-most true n = omega arith
 at-most false n = omega arith
 
-signs-room : (kind n family constraints form : ℕ) → (kind ≡ 9 → form ≡ 0) → allowedFor kind n family constraints form ≤ RECORD + (family + constraints)
-signs-room kind n family constraints form h = go (eqb kind 9) refl
+signs-room : (k n a b i : ℕ) → (k ≡ 9 → i ≡ 0) → allowedFor k n a b i ≤ RECORD + (a + b)
+signs-room k n a b i h = go (eqb k 9) refl
   where
-    go : (t : Bool) → eqb kind 9 ≡ t →
-        4 + (family + constraints) + pick (ltb kind 6) 3 0 + pick (ltb 9 n) 9 0 + pick t 23 0 + pick (not (eqb form 0)) 11 0 ≤ RECORD + (family + constraints)
-    go true e = let k = eqb-true kind 9 e in rw (k, h k) (omega (arith, at-most (ltb 9 n) 9))
-    go false e = omega (arith, at-most (ltb kind 6) 3, at-most (ltb 9 n) 9, at-most (not (eqb form 0)) 11)
+    go : (t : Bool) → eqb k 9 ≡ t → allowedFor k n a b i ≤ RECORD + (a + b)
+    go true e = let z = eqb-true k 9 e in rw (z, h z) (omega (arith, at-most (ltb 9 n) 9))
+    go false e = rw e (omega (arith, at-most (ltb k 6) 3, at-most (ltb 9 n) 9, at-most (not (eqb i 0)) 11))
 
 pair-layers : (h : Head) → kind (headFields h) ≡ 9 → form (headFields h) ≡ 0
 pair-layers (leafHead (rotation f c m)) e = omega (arith, present-lt c)
