@@ -13,3 +13,4 @@ pub mod Leaves
 -- A bound on what is printed.
 pub mod Sizes
 pub mod Sure
+pub mod Room

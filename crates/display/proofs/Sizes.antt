@@ -1,4 +1,5 @@
--- What a record prints by itself is no longer than what is allowed for it. Assumes nothing.
+-- What a record prints by itself is no longer than what is allowed for it and its layer set, and so is what a tree prints by all of its
+-- records. Assumes nothing.
 use Prim.Native.Nat.{ℕ, zero, suc, _+_, _*_, _/_, _%_, _^_, _≤_, _<_}
 use mathlib.Core.Path.{_≡_, refl, ap}
 use mathlib.Core.Bool.{Bool, true, false, not}
@@ -9,22 +10,25 @@ use native.Mathlib.Nat.{pow-suc}
 use borrow.Author.Tests.{lt-ltb, ltb-true, ltb-false}
 use lib.Dec.{ltb, eqb, lit<}
 use lib.IntN.{ℤ, pos, negsuc, natAbs}
-use lib.ListN.{length, getD, drop, length-append, length-take}
-use Rattle.notation.specs.Basics.{pick}
+use lib.ListN.{length, drop, length-append, length-take}
+use Rattle.notation.specs.Basics.{pick, total}
 use Rattle.notation.specs.Chars.{whiteSpace}
 use Rattle.notation.specs.Utf8.{afterFirst, widthIf}
 use Rattle.notation.specs.Numbers.{showFrom, show, showSigned, toBits}
 use Rattle.notation.specs.Counts.{stored}
 use Rattle.notation.specs.Tree.{
-  Span, partOf, Layers, noLayers, singleLayer, layerRange, layerSet, Leaf, rotation, move, pause, pair, slash, megaminx,
-  block, Body, group, binaryGroup
+  Span, partOf, Layers, noLayers, singleLayer, layerRange, layerSet, Leaf, Step, rotation, move, pause, pair, slash, megaminx,
+  Node, leaf, block, Body, group, binaryGroup, NodeList, nil, cons, Tree, mapNode, mapBody, mapNodes
 }
 use Rattle.notation.specs.Packed.{
   Head, leafHead, headFields, inOrder, nowhere, bit, present, orNowhere, layerForm, lowAndHigh, setPart, groupNumber, binaryNumber, bodyHead, size
 }
-use Rattle.notation.specs.Meaning.{constraintMeaning, layerMeaning, stepOf}
-use Rattle.notation.specs.WellFormed.{inside, constraintsOk, leafOk}
-use Rattle.notation.specs.Print.{putConstraints, putLayers, putTilde, putPrime, putMultiplier, putStep}
+use Rattle.notation.specs.Clauses.{set}
+use Rattle.notation.specs.Meaning.{constraintMeaning, layerMeaning, stepOf, unspanned}
+use Rattle.notation.specs.WellFormed.{inside, constraintsOk, layersOk, multiplierOk, leafOk, nodeOk, bodyOk, treeOk}
+use Rattle.notation.specs.Print.{
+  putConstraints, putLayers, putTilde, putPrime, putMultiplier, putStep, putPrefix, putSeparator, putNode, putBody, putNodes, putOthers, printed
+}
 use Rattle.notation.specs.declared.common.GroupKind.{GroupKind}
 use Rattle.notation.specs.declared.common.GroupKind.the-variants.{Simple, Macro, Simultaneous, Niss}
 use Rattle.notation.specs.declared.common.BinaryGroupKind.{BinaryGroupKind}
@@ -33,7 +37,10 @@ use Rattle.notation.specs.declared.common.MegaminxScrambleMove.the-variants.{Rp
 use Rattle.numbers.proofs.TwosComplement.{fromBits-toBits}
 use Rattle.record.specs.Range.{FitsNumber, FitsLayers, FitsLeaf, FitsHead}
 use Rattle.record.proofs.Packed.{bit-lt, present-lt, layerForm-lt}
-use Rattle.laws.proofs.Bools.{and-right}
+use Rattle.laws.specs.Packed.{FitsNode, FitsBody, FitsTree}
+use Rattle.laws.specs.Heads.{nodeHeads, bodyHeads, heads}
+use Rattle.laws.proofs.Bools.{and-left, and-right}
+use Rattle.size_laws.proofs.Sets.{read-layers-long}
 use Rattle.display.specs.Squeezed.{squeezedFrom, squeezed}
 use Rattle.display.specs.Bound.{allowedFor, allowed}
 use Rattle.display.proofs.Squeezing.{set-squeezed}
@@ -97,17 +104,27 @@ constraints-size text (some p) rest h =
     let e = ap length (set-squeezed (partOf text p) (and-right (inside text p) _ h) rest) in
     omega (arith, e, length-append (squeezed (partOf text p)) rest, squeezed-size 0 (partOf text p), part-size text p)
 
-layers-size : (text : List ℕ) (l : Layers Span) (rest : List ℕ) → FitsLayers l → (layerForm l ≡ 3 → ⊥) →
-    length (putLayers (layerMeaning text l) rest) ≤ pick (not (eqb (layerForm l) 0)) 11 0 + length rest
-layers-size text noLayers rest f h = omega arith
-layers-size text (singleLayer i) rest f h = omega (arith, show-size 10 i 4 rest (omega arith))
-layers-size text (layerRange i j) rest f h =
-    omega (arith, show-size 10 i 4 (45 ∷ show j rest) (omega (arith, f .0)), show-size 10 j 4 rest (omega (arith, f .1)))
-layers-size text (layerSet p) rest f h = absurd (h refl)
+-- a layer set may print a quarter longer than it is written
+abbrev setAllowed : ℕ → ℕ
+setAllowed n = n + n / 4
 
--- what is allowed for a record with a number that fits its field
+layers-size : (text : List ℕ) (l : Layers Span) (rest : List ℕ) → layersOk text l ≡ true → FitsLayers l →
+    length (putLayers (layerMeaning text l) rest) ≤ pick (not (eqb (layerForm l) 0)) 11 0 + setAllowed (setPart l .size) + length rest
+layers-size text noLayers rest h f = omega arith
+layers-size text (singleLayer i) rest h f = omega (arith, show-size 10 i 4 rest (omega arith))
+layers-size text (layerRange i j) rest h f =
+    omega (arith, show-size 10 i 4 (45 ∷ show j rest) (omega (arith, f .0)), show-size 10 j 4 rest (omega (arith, f .1)))
+layers-size text (layerSet p) rest h f =
+    omega (arith, read-layers-long (partOf text p) rest (and-right (inside text p) _ h), part-size text p)
+
+-- what is allowed for a record and its layer set, where it has one
+abbrev pub allowedWithSet : List ℕ → ℕ
+allowedWithSet fs = allowed fs + setAllowed (set fs .size)
+
+-- by its fields, where its number fits
 allowed-is : (kind t f p n n′ : ℕ) (m : ℤ) (o : ℕ) (family constraints set : Span) (c : ℕ) → t < 2 → f < 4 → p < 2 → FitsNumber m →
-    allowed (inOrder kind t f p n n′ (toBits 32 m) o family constraints set c) ≡ allowedFor kind (natAbs m) (family .size) (constraints .size) f
+    allowedWithSet (inOrder kind t f p n n′ (toBits 32 m) o family constraints set c)
+    ≡ allowedFor kind (natAbs m) (family .size) (constraints .size) f + setAllowed (set .size)
 allowed-is kind t f p n n′ m o family constraints set c t-fits f-fits p-fits h =
     let k : (kind * 16 + t * 8 + f * 2 + p) / 16 ≡ kind = omega arith in
     let l : (kind * 16 + t * 8 + f * 2 + p) / 2 % 4 ≡ f = omega arith in
@@ -117,41 +134,34 @@ tilde-size : (t : Bool) (rest : List ℕ) → length (putTilde t rest) ≤ 1 + l
 tilde-size true rest = omega arith
 tilde-size false rest = omega arith
 
--- the layer form that a record says
-abbrev pub formOf : Head → ℕ
-formOf h = getD (headFields h) 0 0 / 2 % 4
-
 -- a leaf and the space after it
-pub leaf-size : (text : List ℕ) (x : Leaf) (rest : List ℕ) → leafOk text x ≡ true → FitsLeaf x → (formOf (leafHead x) ≡ 3 → ⊥) →
-    length (putStep (stepOf text x) rest) + 1 ≤ allowed (headFields (leafHead x)) + length rest
+leaf-size : (text : List ℕ) (x : Leaf) (rest : List ℕ) → leafOk text x ≡ true → FitsLeaf x →
+    length (putStep (stepOf text x) rest) + 1 ≤ allowedWithSet (headFields (leafHead x)) + length rest
 unfolding putStep stepOf
-leaf-size text (rotation f c m) rest h e s =
+leaf-size text (rotation f c m) rest h e =
     let p = rotation-parts text f c m h in
     let after = putMultiplier m rest in
     let behind = putConstraints (constraintMeaning text c) after in
     omega (arith, allowed-is 6 0 0 (present c) 0 0 m 0 f (orNowhere c) nowhere 1 (lit< tt) (lit< tt) (present-lt c) (e .2),
     family-size text f behind, constraints-size text c after (p .constraints), multiplier-size m rest (e .2))
-leaf-size text (move t l f c m) rest h e s =
+leaf-size text (move t l f c m) rest h e =
     let p = move-parts text t l f c m h in
     let after = putMultiplier m rest in
     let behind = putConstraints (constraintMeaning text c) after in
     let family = partOf text f ++ behind in
-    let t-fits = bit-lt t in
-    let l-fits = layerForm-lt l in
-    let p-fits = present-lt c in
-    let no-set : layerForm l ≡ 3 → ⊥ = λ i. s (omega arith) in
-    omega (arith, allowed-is 7 (bit t) (layerForm l) (present c) 0 0 m (lowAndHigh l) f (orNowhere c) (setPart l) 1 t-fits l-fits p-fits (e .3),
-    tilde-size t (putLayers (layerMeaning text l) family), layers-size text l family (e .0) no-set,
+    omega (arith,
+    allowed-is 7 (bit t) (layerForm l) (present c) 0 0 m (lowAndHigh l) f (orNowhere c) (setPart l) 1 (bit-lt t) (layerForm-lt l) (present-lt c) (e .3),
+    tilde-size t (putLayers (layerMeaning text l) family), layers-size text l family (p .layers) (e .0),
     family-size text f behind, constraints-size text c after (p .constraints), multiplier-size m rest (e .3))
-leaf-size text pause rest h e s = omega arith
-leaf-size text (pair u d) rest h e s =
+leaf-size text pause rest h e = omega arith
+leaf-size text (pair u d) rest h e =
     omega (arith, allowed-is 9 0 0 0 0 0 u (toBits 32 d) nowhere nowhere nowhere 1 (lit< tt) (lit< tt) (lit< tt) (e .0),
     signed-size u (44 ∷ 32 ∷ showSigned d (41 ∷ rest)) (e .0), signed-size d (41 ∷ rest) (e .1))
-leaf-size text slash rest h e s = omega arith
-leaf-size text (megaminx Rpp) rest h e s = omega arith
-leaf-size text (megaminx Rmm) rest h e s = omega arith
-leaf-size text (megaminx Dpp) rest h e s = omega arith
-leaf-size text (megaminx Dmm) rest h e s = omega arith
+leaf-size text slash rest h e = omega arith
+leaf-size text (megaminx Rpp) rest h e = omega arith
+leaf-size text (megaminx Rmm) rest h e = omega arith
+leaf-size text (megaminx Dpp) rest h e = omega arith
+leaf-size text (megaminx Dmm) rest h e = omega arith
 
 -- a group's four signs at most, its multiplier and the space after it
 group-low : (k : GroupKind) → groupNumber k < 6
@@ -165,13 +175,64 @@ binary-low Commutator = lit< tt
 binary-low Conjugate = lit< tt
 
 low-size : (kind n n′ : ℕ) (m : ℤ) (c : ℕ) (rest : List ℕ) → kind < 6 → FitsNumber m →
-    5 + length (putMultiplier m rest) ≤ allowed (inOrder kind 0 0 0 n n′ (toBits 32 m) 0 nowhere nowhere nowhere c) + length rest
+    5 + length (putMultiplier m rest) ≤ allowedWithSet (inOrder kind 0 0 0 n n′ (toBits 32 m) 0 nowhere nowhere nowhere c) + length rest
 low-size kind n n′ m c rest h f =
     let a = allowed-is kind 0 0 0 n n′ m 0 nowhere nowhere nowhere c (lit< tt) (lit< tt) (lit< tt) f in
     let signs : _≡_ {A = ℕ} (pick (ltb kind 6) 3 0) 3 = rw (lt-ltb kind 6 h) in
     omega (arith, a, signs, multiplier-size m rest f)
 
-pub body-size : (b : Body Leaf) (m : ℤ) (rest : List ℕ) → FitsHead (bodyHead b m) →
-    5 + length (putMultiplier m rest) ≤ allowed (headFields (bodyHead b m)) + length rest
+body-size : (b : Body Leaf) (m : ℤ) (rest : List ℕ) → FitsHead (bodyHead b m) →
+    5 + length (putMultiplier m rest) ≤ allowedWithSet (headFields (bodyHead b m)) + length rest
 body-size (group k a) m rest f = low-size (groupNumber k) (size a) 0 m (stored (block (group k a) m)) rest (group-low k) (f .1)
 body-size (binaryGroup k a b) m rest f = low-size (binaryNumber k) (size a) (size b) m (stored (block (binaryGroup k a b) m)) rest (binary-low k) (f .2)
+
+-- The other signs.
+prefix-size : (k : GroupKind) (rest : List ℕ) → length (putPrefix k rest) ≤ 1 + length rest
+prefix-size Simple rest = omega arith
+prefix-size Macro rest = omega arith
+prefix-size Simultaneous rest = omega arith
+prefix-size Niss rest = omega arith
+
+separator-size : (k : BinaryGroupKind) (rest : List ℕ) → length (putSeparator k rest) ≡ 2 + length rest
+separator-size Commutator rest = omega arith
+separator-size Conjugate rest = omega arith
+
+first-unspaced : (l : NodeList Step) (rest : List ℕ) → length (putNodes l rest) ≤ length (putOthers l rest)
+unfolding putNodes putOthers
+first-unspaced nil rest = omega arith
+first-unspaced (cons n l) rest = omega arith
+
+-- The law: a node and the space after it, a group's contents with at most four signs, and a list with a space before each node, use what is
+-- allowed for their records. What follows them is not counted.
+abbrev pub allowedAll : List Head → ℕ
+allowedAll hs = total (λ h. allowedWithSet (headFields h)) hs
+
+mutual
+  unfolding nodeHeads bodyHeads heads total FitsNode FitsBody FitsTree nodeOk bodyOk treeOk putNode putBody putNodes putOthers mapNode mapBody mapNodes
+  node-size : (text : List ℕ) (n : Node Leaf) (hs : List Head) (rest : List ℕ) → nodeOk text n ≡ true → FitsNode n →
+      length (putNode (mapNode (stepOf text) n) rest) + 1 + allowedAll hs ≤ allowedAll (nodeHeads n hs) + length rest
+  node-size text (leaf x) hs rest o f = omega (arith, leaf-size text x rest o f)
+  node-size text (block b m) hs rest o f =
+      omega (arith, contents-size text b hs (putMultiplier m rest) (and-right (multiplierOk m) _ o) (f .1), body-size b m rest (f .0))
+
+  contents-size : (text : List ℕ) (b : Body Leaf) (hs : List Head) (rest : List ℕ) → bodyOk text b ≡ true → FitsBody b →
+      length (putBody (mapBody (stepOf text) b) rest) + allowedAll hs ≤ 4 + allowedAll (bodyHeads b hs) + length rest
+  contents-size text (group k a) hs rest o f =
+      let inner = unspanned text a in
+      omega (arith, list-size text a hs (41 ∷ rest) o f, first-unspaced inner (41 ∷ rest), prefix-size k (40 ∷ putNodes inner (41 ∷ rest)))
+  contents-size text (binaryGroup k a b) hs rest o f =
+      let second = putNodes (unspanned text b) (93 ∷ rest) in
+      omega (arith, list-size text a (heads b hs) (putSeparator k second) (and-left (treeOk text a) (treeOk text b) o) (f .0),
+      list-size text b hs (93 ∷ rest) (and-right (treeOk text a) (treeOk text b) o) (f .1),
+      first-unspaced (unspanned text a) (putSeparator k second), first-unspaced (unspanned text b) (93 ∷ rest), separator-size k second)
+
+  list-size : (text : List ℕ) (l : Tree) (hs : List Head) (rest : List ℕ) → treeOk text l ≡ true → FitsTree l →
+      length (putOthers (unspanned text l) rest) + allowedAll hs ≤ allowedAll (heads l hs) + length rest
+  list-size text nil hs rest o f = omega arith
+  list-size text (cons n l) hs rest o f =
+      omega (arith, node-size text n (heads l hs) (putOthers (unspanned text l) rest) (and-left (nodeOk text n) (treeOk text l) o) (f .0),
+      list-size text l hs rest (and-right (nodeOk text n) (treeOk text l) o) (f .1))
+
+pub printed-size : (text : List ℕ) (t : Tree) → treeOk text t ≡ true → FitsTree t → length (printed text t) ≤ allowedAll (heads t [])
+unfolding total
+printed-size text t o f = omega (arith, list-size text t [] [] o f, first-unspaced (unspanned text t) [])
