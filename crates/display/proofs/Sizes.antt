@@ -7,10 +7,10 @@ use mathlib.Core.List.{List, [], _∷_, _++_}
 use mathlib.Core.Option.{Option, none, some}
 use native.Mathlib.Omega.{arith}
 use native.Mathlib.Nat.{pow-suc}
-use borrow.Author.Tests.{lt-ltb, ltb-true, ltb-false}
+use borrow.Author.Tests.{lt-ltb, ltb-false}
 use lib.Dec.{ltb, eqb, lit<}
-use lib.IntN.{ℤ, pos, negsuc, natAbs}
-use lib.ListN.{length, drop, length-append, length-take}
+use lib.IntN.{ℤ, natAbs}
+use lib.ListN.{length, length-append}
 use Rattle.notation.specs.Basics.{pick, total}
 use Rattle.notation.specs.Chars.{whiteSpace}
 use Rattle.notation.specs.Utf8.{afterFirst, widthIf}
@@ -27,7 +27,7 @@ use Rattle.notation.specs.Clauses.{set}
 use Rattle.notation.specs.Meaning.{constraintMeaning, layerMeaning, stepOf, unspanned}
 use Rattle.notation.specs.WellFormed.{inside, constraintsOk, layersOk, multiplierOk, leafOk, nodeOk, bodyOk, treeOk}
 use Rattle.notation.specs.Print.{
-  putConstraints, putLayers, putTilde, putPrime, putMultiplier, putStep, putPrefix, putSeparator, putNode, putBody, putNodes, putOthers, printed
+  putConstraints, putLayers, putPrime, putMultiplier, putStep, putSeparator, putNode, putBody, putNodes, putOthers, printed
 }
 use Rattle.notation.specs.declared.common.GroupKind.{GroupKind}
 use Rattle.notation.specs.declared.common.GroupKind.the-variants.{Simple, Macro, Simultaneous, Niss}
@@ -40,7 +40,10 @@ use Rattle.record.proofs.Packed.{bit-lt, present-lt, layerForm-lt}
 use Rattle.laws.specs.Packed.{FitsNode, FitsBody, FitsTree}
 use Rattle.laws.specs.Heads.{nodeHeads, bodyHeads, heads}
 use Rattle.laws.proofs.Bools.{and-left, and-right}
-use Rattle.size_laws.proofs.Sets.{read-layers-long}
+use Rattle.size_laws.proofs.Digits.{show-long, ten-digits, signed-long, signed-most, prime-most}
+use Rattle.size_laws.proofs.Sets.{layers-long}
+use Rattle.size_laws.proofs.Bytes.{prefix-most}
+use Rattle.size_laws.proofs.Printed.{part-long, family-long, tilde-long, prefix-long, separator-long}
 use Rattle.display.specs.Squeezed.{squeezedFrom, squeezed}
 use Rattle.display.specs.Bound.{allowedFor, allowed}
 use Rattle.display.proofs.Squeezing.{set-squeezed}
@@ -59,25 +62,13 @@ show-size (suc k) n i rest h = go (ltb n 10) refl i h (λ j. show-size k (n / 10
     go false e zero h f = absurd (omega (arith, ltb-false n 10 e))
     go false e (suc i) h f = omega (arith, f i (omega (arith, pow-suc 10 (suc i))))
 
-signed-size : (z : ℤ) (rest : List ℕ) → FitsNumber z → length (showSigned z rest) ≤ 11 + length rest
-signed-size (pos n) rest h = omega (arith, show-size 10 n 9 rest (omega (arith, ltb-true n 2147483648 h)))
-signed-size (negsuc n) rest h = omega (arith, show-size 10 (suc n) 9 rest (omega (arith, ltb-true n 2147483648 h)))
-
-prime-size : (m : ℤ) (rest : List ℕ) → length (putPrime m rest) ≤ 1 + length rest
-prime-size (pos n) rest = omega arith
-prime-size (negsuc n) rest = omega arith
-
-magnitude-below : (m : ℤ) → FitsNumber m → natAbs m ≤ 2147483648
-magnitude-below (pos n) h = omega (arith, ltb-true n 2147483648 h)
-magnitude-below (negsuc n) h = omega (arith, ltb-true n 2147483648 h)
-
-multiplier-size : (m : ℤ) (rest : List ℕ) → FitsNumber m → length (putMultiplier m rest) ≤ 2 + pick (ltb 9 (natAbs m)) 9 0 + length rest
-multiplier-size m rest h = go (eqb (natAbs m) 1) (ltb 9 (natAbs m)) refl
+multiplier-size : (m : ℤ) (rest : List ℕ) → length (putMultiplier m rest) ≤ 2 + pick (ltb 9 (natAbs m)) 9 0 + length rest
+multiplier-size m rest = go (eqb (natAbs m) 1) (ltb 9 (natAbs m)) refl
   where
     go : (t u : Bool) → ltb 9 (natAbs m) ≡ u → length (pick t (putPrime m rest) (show (natAbs m) (putPrime m rest))) ≤ 2 + pick u 9 0 + length rest
-    go true u e = omega (arith, prime-size m rest)
-    go false true e = omega (arith, show-size 10 (natAbs m) 9 (putPrime m rest) (omega (arith, magnitude-below m h)), prime-size m rest)
-    go false false e = omega (arith, show-size 10 (natAbs m) 0 (putPrime m rest) (omega (arith, ltb-false 9 (natAbs m) e)), prime-size m rest)
+    go true u e = omega (arith, prime-most m rest)
+    go false true e = omega (arith, show-long (natAbs m) (putPrime m rest), ten-digits (natAbs m), prime-most m rest)
+    go false false e = omega (arith, show-size 10 (natAbs m) 0 (putPrime m rest) (omega (arith, ltb-false 9 (natAbs m) e)), prime-most m rest)
 
 -- Parts of the text: without its white space one is no longer.
 squeezed-size : (k : ℕ) (s : List ℕ) → length (squeezedFrom k s) ≤ length s
@@ -91,18 +82,12 @@ squeezed-size zero (b ∷ s) = go (widthIf whiteSpace (b ∷ s)) (λ k. squeezed
     go zero f = omega (arith, f 0)
     go (suc k) f = omega (arith, f k)
 
-part-size : (text : List ℕ) (p : Span) → length (partOf text p) ≤ p .size
-part-size text p = omega (arith, length-take (p .size) (drop (p .offset) text))
-
-family-size : (text : List ℕ) (p : Span) (rest : List ℕ) → length (partOf text p ++ rest) ≤ p .size + length rest
-family-size text p rest = omega (arith, length-append (partOf text p) rest, part-size text p)
-
 constraints-size : (text : List ℕ) (c : Option Span) (rest : List ℕ) → constraintsOk text c ≡ true →
     length (putConstraints (constraintMeaning text c) rest) ≤ orNowhere c .size + length rest
 constraints-size text none rest h = omega arith
 constraints-size text (some p) rest h =
     let e = ap length (set-squeezed (partOf text p) (and-right (inside text p) _ h) rest) in
-    omega (arith, e, length-append (squeezed (partOf text p)) rest, squeezed-size 0 (partOf text p), part-size text p)
+    omega (arith, e, length-append (squeezed (partOf text p)) rest, squeezed-size 0 (partOf text p), part-long text p)
 
 -- a layer set may print a quarter longer than it is written
 abbrev setAllowed : ℕ → ℕ
@@ -115,7 +100,7 @@ layers-size text (singleLayer i) rest h f = omega (arith, show-size 10 i 4 rest 
 layers-size text (layerRange i j) rest h f =
     omega (arith, show-size 10 i 4 (45 ∷ show j rest) (omega (arith, f .0)), show-size 10 j 4 rest (omega (arith, f .1)))
 layers-size text (layerSet p) rest h f =
-    omega (arith, read-layers-long (partOf text p) rest (and-right (inside text p) _ h), part-size text p)
+    omega (arith, layers-long (partOf text p) rest (and-right (inside text p) _ h), part-long text p)
 
 -- what is allowed for a record and its layer set, where it has one
 abbrev pub allowedWithSet : List ℕ → ℕ
@@ -130,10 +115,6 @@ allowed-is kind t f p n n′ m o family constraints set c t-fits f-fits p-fits h
     let l : (kind * 16 + t * 8 + f * 2 + p) / 2 % 4 ≡ f = omega arith in
     rw (k, l, fromBits-toBits 32 m (lit< tt) h)
 
-tilde-size : (t : Bool) (rest : List ℕ) → length (putTilde t rest) ≤ 1 + length rest
-tilde-size true rest = omega arith
-tilde-size false rest = omega arith
-
 -- a leaf and the space after it
 leaf-size : (text : List ℕ) (x : Leaf) (rest : List ℕ) → leafOk text x ≡ true → FitsLeaf x →
     length (putStep (stepOf text x) rest) + 1 ≤ allowedWithSet (headFields (leafHead x)) + length rest
@@ -143,20 +124,20 @@ leaf-size text (rotation f c m) rest h e =
     let after = putMultiplier m rest in
     let behind = putConstraints (constraintMeaning text c) after in
     omega (arith, allowed-is 6 0 0 (present c) 0 0 m 0 f (orNowhere c) nowhere 1 (lit< tt) (lit< tt) (present-lt c) (e .2),
-    family-size text f behind, constraints-size text c after (p .constraints), multiplier-size m rest (e .2))
+    family-long text f behind, constraints-size text c after (p .constraints), multiplier-size m rest)
 leaf-size text (move t l f c m) rest h e =
     let p = move-parts text t l f c m h in
     let after = putMultiplier m rest in
     let behind = putConstraints (constraintMeaning text c) after in
     let family = partOf text f ++ behind in
     omega (arith,
-    allowed-is 7 (bit t) (layerForm l) (present c) 0 0 m (lowAndHigh l) f (orNowhere c) (setPart l) 1 (bit-lt t) (layerForm-lt l) (present-lt c) (e .3),
-    tilde-size t (putLayers (layerMeaning text l) family), layers-size text l family (p .layers) (e .0),
-    family-size text f behind, constraints-size text c after (p .constraints), multiplier-size m rest (e .3))
+    allowed-is 7 (bit t) (layerForm l) (present c) 0 0 m (lowAndHigh l) f (orNowhere c) (setPart l) 1 (bit-lt t) (layerForm-lt l) (present-lt c) (e .3), bit-lt t,
+    tilde-long t (putLayers (layerMeaning text l) family), layers-size text l family (p .layers) (e .0),
+    family-long text f behind, constraints-size text c after (p .constraints), multiplier-size m rest)
 leaf-size text pause rest h e = omega arith
 leaf-size text (pair u d) rest h e =
     omega (arith, allowed-is 9 0 0 0 0 0 u (toBits 32 d) nowhere nowhere nowhere 1 (lit< tt) (lit< tt) (lit< tt) (e .0),
-    signed-size u (44 ∷ 32 ∷ showSigned d (41 ∷ rest)) (e .0), signed-size d (41 ∷ rest) (e .1))
+    signed-long u (44 ∷ 32 ∷ showSigned d (41 ∷ rest)), signed-most u, ten-digits (natAbs u), signed-long d (41 ∷ rest), signed-most d, ten-digits (natAbs d))
 leaf-size text slash rest h e = omega arith
 leaf-size text (megaminx Rpp) rest h e = omega arith
 leaf-size text (megaminx Rmm) rest h e = omega arith
@@ -179,24 +160,14 @@ low-size : (kind n n′ : ℕ) (m : ℤ) (c : ℕ) (rest : List ℕ) → kind < 
 low-size kind n n′ m c rest h f =
     let a = allowed-is kind 0 0 0 n n′ m 0 nowhere nowhere nowhere c (lit< tt) (lit< tt) (lit< tt) f in
     let signs : _≡_ {A = ℕ} (pick (ltb kind 6) 3 0) 3 = rw (lt-ltb kind 6 h) in
-    omega (arith, a, signs, multiplier-size m rest f)
+    omega (arith, a, signs, multiplier-size m rest)
 
 body-size : (b : Body Leaf) (m : ℤ) (rest : List ℕ) → FitsHead (bodyHead b m) →
     5 + length (putMultiplier m rest) ≤ allowedWithSet (headFields (bodyHead b m)) + length rest
 body-size (group k a) m rest f = low-size (groupNumber k) (size a) 0 m (stored (block (group k a) m)) rest (group-low k) (f .1)
 body-size (binaryGroup k a b) m rest f = low-size (binaryNumber k) (size a) (size b) m (stored (block (binaryGroup k a b) m)) rest (binary-low k) (f .2)
 
--- The other signs.
-prefix-size : (k : GroupKind) (rest : List ℕ) → length (putPrefix k rest) ≤ 1 + length rest
-prefix-size Simple rest = omega arith
-prefix-size Macro rest = omega arith
-prefix-size Simultaneous rest = omega arith
-prefix-size Niss rest = omega arith
-
-separator-size : (k : BinaryGroupKind) (rest : List ℕ) → length (putSeparator k rest) ≡ 2 + length rest
-separator-size Commutator rest = omega arith
-separator-size Conjugate rest = omega arith
-
+-- The first node of a list has no space before it.
 first-unspaced : (l : NodeList Step) (rest : List ℕ) → length (putNodes l rest) ≤ length (putOthers l rest)
 unfolding putNodes putOthers
 first-unspaced nil rest = omega arith
@@ -219,12 +190,12 @@ mutual
       length (putBody (mapBody (stepOf text) b) rest) + allowedAll hs ≤ 4 + allowedAll (bodyHeads b hs) + length rest
   contents-size text (group k a) hs rest o f =
       let inner = unspanned text a in
-      omega (arith, list-size text a hs (41 ∷ rest) o f, first-unspaced inner (41 ∷ rest), prefix-size k (40 ∷ putNodes inner (41 ∷ rest)))
+      omega (arith, list-size text a hs (41 ∷ rest) o f, first-unspaced inner (41 ∷ rest), prefix-long k (40 ∷ putNodes inner (41 ∷ rest)), prefix-most k)
   contents-size text (binaryGroup k a b) hs rest o f =
       let second = putNodes (unspanned text b) (93 ∷ rest) in
       omega (arith, list-size text a (heads b hs) (putSeparator k second) (and-left (treeOk text a) (treeOk text b) o) (f .0),
       list-size text b hs (93 ∷ rest) (and-right (treeOk text a) (treeOk text b) o) (f .1),
-      first-unspaced (unspanned text a) (putSeparator k second), first-unspaced (unspanned text b) (93 ∷ rest), separator-size k second)
+      first-unspaced (unspanned text a) (putSeparator k second), first-unspaced (unspanned text b) (93 ∷ rest), separator-long k second)
 
   list-size : (text : List ℕ) (l : Tree) (hs : List Head) (rest : List ℕ) → treeOk text l ≡ true → FitsTree l →
       length (putOthers (unspanned text l) rest) + allowedAll hs ≤ allowedAll (heads l hs) + length rest

@@ -11,16 +11,15 @@ use Rattle.notation.specs.Refusals.{result, NISS, OVERFLOW}
 use Rattle.notation.specs.Tree.{LeafOf, Leaf, Node, leaf, block, Body, group, binaryGroup, NodeList, nil, cons, append, Tree, mapNode, mapBody, mapNodes}
 use Rattle.notation.specs.Invert.{undo, overflows, inv}
 use Rattle.notation.specs.Unroll.{copies, turned, isNiss, flatten}
-use Rattle.notation.specs.declared.common.GroupKind.the-variants.{Simple, Macro, Simultaneous, Niss}
 use Rattle.notation.specs.declared.common.BinaryGroupKind.{BinaryGroupKind}
 use Rattle.notation.specs.declared.common.BinaryGroupKind.the-variants.{Commutator, Conjugate}
 use Rattle.numbers.proofs.TwosComplement.{natAbs-neg}
 use Rattle.laws.proofs.Bools.{and-left, and-right, and-both, not-true, no-some, no-refusal}
 use Rattle.laws.proofs.ListEntries.{every-append}
-use Rattle.laws.specs.Unrolled.{backwards, first, ifReached, firstInOrder, inOrder, flatBinary, refusalBinary, flatNode, flatBody, flat, refusalNode, refusalBody, firstRefusal}
+use Rattle.laws.specs.Unrolled.{first, ifReached, firstInOrder, inOrder, flatBinary, refusalBinary, flatNode, flatBody, flat, refusalNode, refusalBody, firstRefusal}
 use Rattle.laws.proofs.Unrolling.{verdict, flatten-is, isNiss-map}
 use Rattle.laws.specs.Inverted.{inverted, invertedNode, leafRefusal, invRefusal}
-use Rattle.laws.proofs.Inverses.{inv-is, inverse-unrolls}
+use Rattle.laws.proofs.Inverses.{inv-is}
 
 -- a step that can be undone
 abbrev pub negatable : {F C S : Type 0} → LeafOf F C S → Bool

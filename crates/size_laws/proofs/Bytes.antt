@@ -57,6 +57,12 @@ prefixBytes Macro = 1
 prefixBytes Simultaneous = 1
 prefixBytes Niss = 1
 
+pub prefix-most : (k : GroupKind) → prefixBytes k ≤ 1
+prefix-most Simple = omega arith
+prefix-most Macro = omega arith
+prefix-most Simultaneous = omega arith
+prefix-most Niss = omega arith
+
 unfoldable mutual
   pub nodeBytes : Node Leaf → ℕ
   nodeBytes (leaf x) = leafBytes x

@@ -171,7 +171,7 @@ pub signed-least : (z : ℤ) → digits (natAbs z) ≤ signedDigits z
 signed-least (pos n) = omega arith
 signed-least (negsuc n) = omega arith
 
-prime-most : (m : ℤ) (rest : List ℕ) → length (putPrime m rest) ≤ 1 + length rest
+pub prime-most : (m : ℤ) (rest : List ℕ) → length (putPrime m rest) ≤ 1 + length rest
 prime-most (pos n) rest = omega arith
 prime-most (negsuc n) rest = omega arith
 

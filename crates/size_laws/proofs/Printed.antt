@@ -32,10 +32,10 @@ use Rattle.size_laws.proofs.Sets.{constraints-long, layers-long}
 use Rattle.size_laws.proofs.Bytes.{layerBytes, leafBytes, prefixBytes, nodeBytes, bodyBytes, spaced, bytes}
 
 -- Parts of a step.
-part-long : (text : List ℕ) (p : Span) → length (partOf text p) ≤ p .size
+pub part-long : (text : List ℕ) (p : Span) → length (partOf text p) ≤ p .size
 part-long text p = omega (arith, length-take (p .size) (drop (p .offset) text))
 
-family-long : (text : List ℕ) (p : Span) (rest : List ℕ) → length (partOf text p ++ rest) ≤ p .size + length rest
+pub family-long : (text : List ℕ) (p : Span) (rest : List ℕ) → length (partOf text p ++ rest) ≤ p .size + length rest
 family-long text p rest = omega (arith, length-append (partOf text p) rest, part-long text p)
 
 constraint-part : (text : List ℕ) (c : Option Span) (rest : List ℕ) → constraintsOk text c ≡ true →
@@ -51,7 +51,7 @@ layer-part text (singleLayer i) rest h = omega (arith, show-long i rest)
 layer-part text (layerRange i j) rest h = omega (arith, show-long i (45 ∷ show j rest), show-long j rest)
 layer-part text (layerSet p) rest h = omega (arith, layers-long (partOf text p) rest (and-right (inside text p) _ h), part-long text p)
 
-tilde-long : (t : Bool) (rest : List ℕ) → length (putTilde t rest) ≡ bit t + length rest
+pub tilde-long : (t : Bool) (rest : List ℕ) → length (putTilde t rest) ≡ bit t + length rest
 tilde-long true rest = omega arith
 tilde-long false rest = omega arith
 
@@ -127,13 +127,13 @@ printed-leaf text x rest h =
     whole-bytes (length (putStep (stepOf text x) rest)) (leafBytes x) (length rest) (omega (arith, step-long text x rest h, beyond-least text x h))
 
 -- Nodes.
-prefix-long : (k : GroupKind) (rest : List ℕ) → length (putPrefix k rest) ≡ prefixBytes k + length rest
+pub prefix-long : (k : GroupKind) (rest : List ℕ) → length (putPrefix k rest) ≡ prefixBytes k + length rest
 prefix-long Simple rest = omega arith
 prefix-long Macro rest = omega arith
 prefix-long Simultaneous rest = omega arith
 prefix-long Niss rest = omega arith
 
-separator-long : (k : BinaryGroupKind) (rest : List ℕ) → length (putSeparator k rest) ≡ 2 + length rest
+pub separator-long : (k : BinaryGroupKind) (rest : List ℕ) → length (putSeparator k rest) ≡ 2 + length rest
 separator-long Commutator rest = omega arith
 separator-long Conjugate rest = omega arith
 

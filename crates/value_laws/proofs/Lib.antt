@@ -1,4 +1,3 @@
--- The modulo of the C functions' answers never bites.
+-- Which buffers surely suffice, and that the modulo of the C functions' answers never bites.
+pub mod Sizes
 pub mod Values
--- What any tree prints fits the room that its records say.
-pub mod Room

@@ -6,9 +6,9 @@ use mathlib.Core.List.{List, _++_}
 use native.Mathlib.Omega.{arith}
 use borrow.Author.Tests.{leb-true}
 use lib.Dec.{leb, ltb}
-use lib.ListN.{length, drop, getElem?}
+use lib.ListN.{length, drop}
 use Rattle.notation.specs.Basics.{pick}
-use Rattle.notation.specs.Refusals.{Outcome, refusal, result, _>>=_, unless, orRefuse, NO-ROOM, TOO-MANY-STEPS, NO-SUCH-PLACE, NO-SUCH-RECORD}
+use Rattle.notation.specs.Refusals.{Outcome, refusal, result, _>>=_, unless, NO-ROOM, TOO-MANY-STEPS, NO-SUCH-RECORD}
 use Rattle.notation.specs.Tree.{Span, Leaf, rotation, move, pause, pair, slash, megaminx}
 use Rattle.notation.specs.Packed.{RECORD, Head, leafHead, groupHead, binaryHead}
 use Rattle.notation.specs.Unroll.{flatten}
@@ -20,16 +20,13 @@ use Rattle.notation.specs.Host.{VALUES, partNumber, BelowValues, Whole, Lossles
 use Rattle.notation.specs.declared.features.Features.{Features}
 use Rattle.numbers.proofs.Positional.{below-drop}
 use Rattle.record.specs.Range.{FitsSpan, FitsHead}
-use Rattle.record.proofs.RoundTrip.{length-headRecord}
 use Rattle.laws.proofs.Bools.{no-refusal}
 use Rattle.laws.proofs.Outcomes.{same-result, after, test-holds}
-use Rattle.laws.proofs.Packing.{length-pack, well-formed-below}
-use Rattle.laws.proofs.ReadingYields.{reading-size}
+use Rattle.laws.proofs.Packing.{well-formed-below}
 use Rattle.laws.proofs.Accepting.{accepted-tree, checked-tree}
 use Rattle.well_formed.proofs.Bytes.{head-fits}
-use Rattle.simplify.proofs.Few.{few}
-use Rattle.simplify.proofs.Sweep.{length-rangeBytes}
 use Rattle.expand.proofs.Steps.{length-records}
+use Rattle.value_laws.proofs.Sizes.{suffices}
 
 -- What is lent: a result that fits the buffer.
 small : (o : Outcome (List ℕ)) (buffer : List ℕ) → ((l : List ℕ) → o ≡ result l → length l ≤ length buffer → length l < VALUES) →
@@ -42,11 +39,9 @@ small (result l) buffer h = go (leb (length l) (length buffer)) refl
     go true e = h l refl (leb-true (length l) (length buffer) e)
     go false e = omega arith
 
--- Reading: a record for each byte at most.
+-- Reading: of the longest text, a record for each byte.
 reading-at-most : (f : Features) (text : List ℕ) → AtMost (RECORD * MAX-TEXT) (reading f text)
-reading-at-most f text tree e =
-    let a = accepted-tree f text tree e in
-    omega (arith, ap length (a .2), length-pack (a .0), reading-size f text (a .0) (a .1 .reads), a .1 .short)
+reading-at-most f text tree e = omega (arith, suffices .toRead f text tree e, accepted-tree f text tree e .1 .short)
 
 -- Steps: as many as can be counted.
 few-steps : (text tree : List ℕ) (l : List Leaf) → steps text tree ≡ result l → length l ≤ MAX-STEPS
@@ -69,21 +64,10 @@ unrolled-at-most text tree l e =
     let s = after (steps text tree) e in
     omega (arith, ap length (same-result (s .2)), length-records (s .0), few-steps text tree (s .0) (s .1))
 
-step-at-most : (text tree : List ℕ) (k : ℕ) → AtMost RECORD (stepAt text tree k)
-step-at-most text tree k l e =
-    let s = after (steps text tree) e in
-    let x = after (orRefuse NO-SUCH-PLACE (getElem? (s .0) k)) (s .2) in
-    omega (arith, ap length (same-result (x .2)), length-headRecord (leafHead (x .0)))
-
--- Layer ranges: at most 16,384, counted in entries of four bytes.
+-- Layer ranges, which are counted in entries of four bytes.
 in-entries : (o : Outcome ℕ) → BelowValues o → BelowValues (_>>=_ o (λ n. result (n / 4)))
 in-entries (refusal r) h = omega arith
 in-entries (result n) h = omega arith
-
-ranges-at-most : (text tree : List ℕ) (k n : ℕ) (neg : Bool) → AtMost 65536 (do l ← layerRanges text tree k n neg; result (rangeBytes l))
-ranges-at-most text tree k n neg bytes e =
-    let r = after (layerRanges text tree k n neg) e in
-    omega (arith, ap length (same-result (r .2)), length-rangeBytes (r .0), few text tree k n neg (r .0) (r .1) .many)
 
 -- Families: both numbers of a part fit their fields.
 family-fits : (h : Head) (p : Span) → FitsHead h → familyOf h ≡ result p → FitsSpan p
@@ -122,11 +106,11 @@ lossless =
       whole = whole;
       reading = λ f text buffer. small (reading f text) buffer (λ l e h. omega (arith, reading-at-most f text l e));
       counting = counted;
-      seeking = λ text tree k buffer. small (stepAt text tree k) buffer (λ l e h. omega (arith, step-at-most text tree k l e));
+      seeking = λ text tree k buffer. small (stepAt text tree k) buffer (λ l e h. omega (arith, suffices .toSeek text tree k l e));
       unrolling = λ text tree buffer. small (unrolled text tree) buffer (λ l e h. omega (arith, unrolled-at-most text tree l e));
       layering = λ text tree k n neg buffer.
           let o : Outcome (List ℕ) = (do l ← layerRanges text tree k n neg; result (rangeBytes l)) in
-          in-entries (lend o buffer .answer) (small o buffer (λ l e h. omega (arith, ranges-at-most text tree k n neg l e)));
+          in-entries (lend o buffer .answer) (small o buffer (λ l e h. omega (arith, suffices .toSimplify text tree k n neg l e)));
       naming = named;
       inverting = λ text tree buffer b. small (inverse text tree) buffer (λ l e h. omega arith);
       invertingDeeply = λ text tree buffer b. small (deepInverse text tree) buffer (λ l e h. omega arith);

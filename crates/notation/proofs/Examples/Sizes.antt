@@ -6,7 +6,7 @@ use mathlib.Core.List.{List, [], _∷_, map}
 use lib.ListN.{length}
 use Rattle.notation.specs.Basics.{total}
 use Rattle.notation.specs.Features.{MAXIMAL}
-use Rattle.notation.specs.Refusals.{Outcome, refusal, result, _>>=_}
+use Rattle.notation.specs.Refusals.{Outcome, result, _>>=_}
 use Rattle.notation.specs.Clauses.{fieldsOf}
 use Rattle.notation.specs.Entries.{reading, display}
 use Rattle.notation.specs.Demands.{printedInverse}
