@@ -2,7 +2,8 @@
 """Compares the example of a host, examples/card.c, with cards made by the Python reference (tests/reference/notation.py): card.py PROGRAM..
 
 The texts are those of the header's table of texts, which are so run over the archive, some that are refused each way that a text given on a
-command line can be, and random ones."""
+command line can be, and random ones. The card that README.md shows is compared too."""
+import os
 import random
 import re
 import subprocess
@@ -65,11 +66,19 @@ def card(letter, text, place, count):
     return "\n".join(out) + "\n", 0
 
 
+def shown():
+    """Gives the call that README.md shows, and the card that it shows for it."""
+    readme = open(os.path.join(header.ROOT, "README.md"), encoding="utf-8").read()
+    letter, text, place, count, written = re.search(r'^examples/run.sh (\w) "(.*)" (\d+) (\d+)\n```\n```\n(.*?)```', readme, re.M | re.S).groups()
+    return (letter, text.encode(), int(place), int(count)), written
+
+
 def main():
     random.seed(10)
     texts = [text.encode() for text, _ in header.rows()] + [t.encode("latin-1" if "\xff" in t else "utf-8") for t in TEXTS]
     texts += [made.well_made(random.randrange(1, 6)).encode() for _ in range(150)]
-    total = differ = 0
+    call, written = shown()
+    total, differ = 1, int(card(*call)[0] != written)
     for program in sys.argv[1:]:
         for text in texts:
             for letter in "wm":
@@ -81,7 +90,7 @@ def main():
                     differ += 1
                     print("differs:", letter, text[:100], place, count, "\n  wrote", ran.stdout[:300], ran.returncode, "\n  for  ", wanted)
     print(total, "cards,", differ, "differ")
-    sys.exit(bool(differ) or not total)
+    sys.exit(bool(differ) or total == 1)
 
 
 if __name__ == "__main__":

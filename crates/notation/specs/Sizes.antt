@@ -38,7 +38,8 @@ abbrev pub Exactly : ℕ → Outcome Bytes → Type 0
 Exactly n o = (l : Bytes) → o ≡ result l → length l ≡ n
 
 pub record Suffices : Type 0 where
-  pub toRead : (f : Features) (text : Bytes) → AtMost (length text * RECORD) (reading f text)
+  -- a record for every two bytes: nodes do not touch, and what holds them has a bracket on either side
+  pub toRead : (f : Features) (text : Bytes) → AtMost ((length text + 1) / 2 * RECORD) (reading f text)
   pub toInvert : (text tree : Bytes) → Exactly (length tree) (inverse text tree)
   pub toInvertDeep : (text tree : Bytes) → Exactly (length tree) (deepInverse text tree)
   pub toUnroll : (text tree : Bytes) (n : ℕ) → countSteps text tree ≡ result n → Exactly (n * RECORD) (unrolled text tree)

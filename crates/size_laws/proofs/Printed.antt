@@ -6,7 +6,6 @@ use mathlib.Core.Bool.{Bool, true, false, _&&_}
 use mathlib.Core.List.{List, [], _∷_, _++_}
 use mathlib.Core.Option.{Option, none, some}
 use native.Mathlib.Omega.{arith}
-use borrow.Author.Tests.{leb-true}
 use lib.IntN.{natAbs}
 use lib.ListN.{length, drop, length-append, length-take}
 use Rattle.notation.specs.Numbers.{show, showSigned}
@@ -30,6 +29,7 @@ use Rattle.laws.proofs.Bools.{and-left, and-right}
 use Rattle.size_laws.proofs.Digits.{some-digit, show-long, signed-long, signed-most, multiplier-most}
 use Rattle.size_laws.proofs.Sets.{constraints-long, layers-long}
 use Rattle.size_laws.proofs.Bytes.{layerBytes, leafBytes, prefixBytes, nodeBytes, bodyBytes, spaced, bytes}
+use Rattle.size_laws.proofs.Records.{some-byte}
 
 -- Parts of a step.
 pub part-long : (text : List ℕ) (p : Span) → length (partOf text p) ≤ p .size
@@ -105,11 +105,9 @@ printed-step text x rest h = omega (arith, step-long text x rest h, beyond-most 
 
 -- by the bytes that it is read from
 beyond-least : (text : List ℕ) (x : Leaf) → leafOk text x ≡ true → beyond x ≤ leafBytes x + 3
-unfolding leafOk leafBytes
+unfolding leafBytes
 beyond-least text (rotation f c m) h = omega arith
-beyond-least text (move t l f c m) h =
-    let named = and-right (layersOk text l) _ (and-left _ _ (and-left _ _ h)) in
-    omega (arith, leb-true 1 (f .size) (and-right (inside text f) _ (and-left _ _ named)))
+beyond-least text (move t l f c m) h = omega (arith, some-byte text (move t l f c m) h)
 beyond-least text pause h = omega arith
 beyond-least text (pair u d) h = omega (arith, some-digit (natAbs u), some-digit (natAbs d))
 beyond-least text slash h = omega arith

@@ -1,5 +1,5 @@
 -- Which buffers surely suffice: what each rule gives has as many bytes as specs/Sizes says, or no more. Assumes nothing.
-use Prim.Native.Nat.{ℕ, _*_}
+use Prim.Native.Nat.{ℕ, _+_, _*_, _/_}
 use mathlib.Core.Path.{_≡_, sym, ap, _∙_}
 use mathlib.Core.Bool.{Bool}
 use mathlib.Core.List.{List}
@@ -21,8 +21,10 @@ use Rattle.laws.proofs.Packing.{length-pack}
 use Rattle.laws.proofs.Inverses.{inv-is, invDeep-is}
 use Rattle.laws.proofs.WellFormedInverses.{inverted-size, deeply-size}
 use Rattle.laws.proofs.Reached.{verdict-list}
-use Rattle.laws.proofs.ReadingYields.{reading-size}
+use Rattle.laws.proofs.ReadingYields.{reading-ok}
 use Rattle.laws.proofs.Accepting.{accepted-tree}
+use Rattle.size_laws.proofs.Bytes.{reading-bytes}
+use Rattle.size_laws.proofs.Records.{tree-records}
 use Rattle.size_laws.proofs.Made.{made-printed}
 use Rattle.display.proofs.Room.{printed-room}
 use Rattle.simplify.proofs.Few.{few}
@@ -30,11 +32,12 @@ use Rattle.simplify.proofs.Sweep.{length-rangeBytes}
 use Rattle.expand.proofs.Steps.{length-records}
 use Rattle.checked.proofs.Outcomes.{checked-accepted}
 
--- Reading: a record for each byte at most.
-to-read : (f : Features) (text : List ℕ) → AtMost (length text * RECORD) (reading f text)
+-- Reading: a record for every two bytes at most.
+to-read : (f : Features) (text : List ℕ) → AtMost ((length text + 1) / 2 * RECORD) (reading f text)
 to-read f text tree e =
     let a = accepted-tree f text tree e in
-    omega (arith, ap length (a .2), length-pack (a .0), reading-size f text (a .0) (a .1 .reads))
+    let reads = a .1 .reads in
+    omega (arith, ap length (a .2), length-pack (a .0), tree-records text (a .0) (reading-ok f text (a .0) reads), reading-bytes f text (a .0) reads)
 
 -- Inverses: as many records as the tree has, by any rule that keeps their number.
 to-invert : (rule : Tree → Outcome Tree) → ((t t′ : Tree) → rule t ≡ result t′ → size t′ ≡ size t) → (text tree : List ℕ) →

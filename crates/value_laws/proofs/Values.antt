@@ -39,7 +39,7 @@ small (result l) buffer h = go (leb (length l) (length buffer)) refl
     go true e = h l refl (leb-true (length l) (length buffer) e)
     go false e = omega arith
 
--- Reading: of the longest text, a record for each byte.
+-- Reading: of the longest text, a record for each byte would be enough.
 reading-at-most : (f : Features) (text : List ℕ) → AtMost (RECORD * MAX-TEXT) (reading f text)
 reading-at-most f text tree e = omega (arith, suffices .toRead f text tree e, accepted-tree f text tree e .1 .short)
 

@@ -1,4 +1,4 @@
--- What is surely enough to print: by the text for trees that the library makes, by the records for any tree.
+-- What is surely enough: for a tree by its text, to print what the library makes by the text too, and any tree by its records.
 use Prim.Native.Nat.{ℕ}
 use Prim.Native.String.{String}
 use mathlib.Core.Path.{_≡_, refl}
@@ -13,6 +13,17 @@ use Rattle.notation.specs.Demands.{printedInverse}
 use Rattle.notation.specs.Marked.{ascii}
 use Rattle.notation.specs.Sizes.{displayRoom}
 use Rattle.notation.proofs.Opened.{opened}
+
+-- bytes of a text and of its tree: a record for every two bytes, where no fewer will do
+abbrev treeSize : String → Outcome (List ℕ)
+treeSize s = do
+  tree ← reading MAXIMAL (ascii s)
+  result (length (ascii s) ∷ length tree ∷ [])
+
+trees : map treeSize ("" ∷ "R" ∷ "R U" ∷ "(R)" ∷ "[R,U]" ∷ [])
+    ≡ result (0 ∷ 0 ∷ []) ∷ result (1 ∷ 38 ∷ []) ∷ result (3 ∷ 76 ∷ []) ∷ result (3 ∷ 76 ∷ []) ∷ result (5 ∷ 114 ∷ []) ∷ []
+unfolding opened
+trees = refl
 
 -- bytes of the printed inverse of a text
 abbrev inverseSize : String → Outcome ℕ
