@@ -77,7 +77,10 @@ int main(int argc, char **argv) {
     size_t text_size = strlen(argv[2]), moves = 0;
     uint8_t *tree = room(HYPUZ_TREE_ROOM(text_size));
     uint64_t read = hypuz_parse_notation(text, text_size, *argv[1] == 'w' ? HYPUZ_WCA : HYPUZ_MAXIMAL, tree, HYPUZ_TREE_ROOM(text_size));
-    if (!accepted("text", read)) return 1;
+    if (!accepted("text", read)) {
+        free(tree);
+        return 1;
+    }
     struct item i = {text, tree, text_size, (size_t)hypuz_value(read)};
     show("text", i);
     show_inverse("inverse", i, hypuz_inv);

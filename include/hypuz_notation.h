@@ -10,23 +10,24 @@
  * called from any number of threads, each with its own buffers. A stack of 256 KB is enough.
  *
  * Answers. Every function answers one number, which holds a refusal and a value. Ask hypuz_refusal first: 0 says that the
- * call did its job, and any other number says why it did not (enum hypuz_refused, hypuz_refusal_text). After that hypuz_value
- * is what the function gives. The value beside a refusal is 0, and so is what an empty text gives, so a value of 0 alone says
- * nothing. The number is the refusal times 2^56 plus the value modulo 2^56; no value reaches 2^56 where no buffer has so many
- * bytes.
+ * call did its job, and any other number says why it did not (enum hypuz_refused, hypuz_refusal_text). Then hypuz_value is
+ * what the function gives. It is 0 beside a refusal, but 0 may also be what is given, as the steps of an empty text are. In
+ * the number the refusal has the highest 8 bits, and the value the other 56, which are enough for every value.
  *
  * Buffers. A buffer is a pointer and a length in bytes. Results go into buffers that the caller lends. A refusal leaves every
  * byte of a lent buffer as it was; after success the bytes past the used part are as they were. A buffer that is written may
  * not overlap the text or the tree. No pointer may be null, also where the length is 0. An empty C++ vector may have null as
- * its data(), and malloc(0) may give it: pass the address of any byte with the length 0 instead.
+ * its data(), and malloc(0) may give it: pass the address of any byte instead, with the length 0, and it is not touched.
  *
- * Texts and trees. A text is UTF-8 whose length says where it ends; a zero byte at its end, or a byte order mark before it, does
- * not belong to it. A tree names parts of its text by their places, so each call is handed the text and the tree together. Any
- * bytes may be given as a tree; those that are no tree over this text are refused.
+ * Texts and trees. A text is UTF-8, and its length says where it ends: a zero byte at its end is refused like any other
+ * character that is not notation, and so is a byte order mark. A tree names parts of its text by their places, so each call is
+ * handed the text and the tree together. Any bytes may be given as a tree; those that are no tree over this text are refused.
  *
  * Cost. Reading takes time linear in the text. Every other call checks the whole text and the whole tree first, since nothing
- * is kept between calls: time linear in both. What a function does beyond the check is said where it is declared. (A tree that
- * a host puts together by hand may name one long part of the text in many records; the check reads it once for each.)
+ * is kept between calls: time linear in both. What a function does beyond the check is said where it is declared. To ask
+ * something of many records, hand in one at a time: the record of a leaf is a tree by itself, and then only the text is
+ * checked as a whole. (A tree put together by hand may name one long part of the text in many records; the check reads that
+ * part once for each.)
  */
 #ifndef HYPUZ_NOTATION_H
 #define HYPUZ_NOTATION_H
@@ -36,6 +37,9 @@
 
 #ifdef __cplusplus
 extern "C" {
+#define HYPUZ_INLINE inline
+#else
+#define HYPUZ_INLINE static inline
 #endif
 
 /* Limits: bytes of a text, groups one inside another, steps of a list, and the number of the deepest layer. */
@@ -44,64 +48,8 @@ extern "C" {
 #define HYPUZ_MAX_STEPS 4294967295u
 #define HYPUZ_MAX_LAYER 32767u
 
-/* The notation. A text is a list of nodes with white space between them, which may also stand at both ends. White space is
- * Unicode's, line ends included. There are no comments. A node is one of these; those marked with a feature need it:
- *
- *   move         layers, family, constraints, multiplier, of which only the family must be there: R, U2', 3Rw, 2-4r
- *   group        (R U)2, or after a sign: !(R U) macro, &(R L') simultaneous, ^(R U) NISS
- *   commutator   [R, U], which plays R U R' U'       conjugate   [R: U], which plays R U R'
- *   pause        a full stop
- *   rotation     @x2, @ (generalized_rotations)      Square-1    (1,-2) and / (sq1)
- *   Megaminx     R++ R-- D++ D-- (megaminx)
- *
- * A family is any run of a-z, A-Z, _ and 25 Greek letters (Gamma Delta Theta Lambda Xi Pi Sigma Phi Psi Omega, beta delta
- * epsilon zeta eta theta kappa lambda mu xi pi tau phi psi omega); in a rotation it may be empty. What it means (w, M, x, lower
- * case) is left to the host. A multiplier is a number up to 2147483647 or none, which means 1, and after it a prime ' or none.
- * Groups, commutators, conjugates, rotations and moves have one. Layers are one number or a range, from 1 to 32,767, or a layer
- * set {1..3,-1} (layer_sets), with a tilde ~ before them or none (inverted_layers). Constraints are {U->F, L<>B, D}
- * (transform_constraints). What some texts give, in steps or by the refusal of reading:
- *
- *   text                       | HYPUZ_WCA | HYPUZ_MAXIMAL |
- *   R U2' F0                   | 3         | 3         | a move of multiplier 0 is a step too
- *   R'2                        | refused 4 | refused 4 | the number stands before the prime
- *   RU x2                      | 2         | 2         | RU is one move with the family RU, and x2 is a move
- *   RU R'U'                    | refused 4 | refused 4 | nodes that touch
- *   (R U)(R' F)                | refused 4 | refused 4 | nodes that touch
- *   (R U) (R' F)               | 4         | 4         |
- *   [R: U2 F]' (R U)3          | 10        | 10        |
- *   (^(R))0                    | 0         | 0         | what stands in a group of multiplier 0 is not reached
- *   R // comment               | refused 4 | refused 4 | no comments
- *   (1,0) / (3,3) /            | 4         | 4         |
- *   (1,0)/(3,3)/               | refused 4 | refused 4 | nodes that touch
- *   R++ D-- U'                 | 3         | 3         |
- *   3-1R 02U                   | 2         | 2         | the range 1-3, and layer 2
- *   0R                         | refused 4 | refused 4 | no layer 0
- *   ~2R                        | refused 4 | 1         |
- *   {1..3,-1}R {1-3}U          | refused 4 | 2         |
- *   @x2 @                      | refused 4 | 2         |
- *   R{U->F, L<>B} U{}          | refused 4 | 2         | an empty set of constraints is not the same as none
- *   R2147483647                | 1         | 1         |
- *   R2147483648                | refused 4 | refused 4 | too large
- */
-
-/* The features of a setting, to be added up; higher bits are ignored. Each admits what stands beside it. */
-#define HYPUZ_INVERTED_LAYERS 1u       /* ~2R */
-#define HYPUZ_LAYER_SETS 2u            /* {1..3,-1}R */
-#define HYPUZ_HSC1_LAYER_RANGES 4u     /* {1-3}R, where layer sets are admitted too */
-#define HYPUZ_GENERALIZED_ROTATIONS 8u /* @x2 */
-#define HYPUZ_TRANSFORM_CONSTRAINTS 16u /* R{U->F} */
-#define HYPUZ_MEGAMINX 32u             /* R++ R-- D++ D-- */
-#define HYPUZ_SQ1 64u                  /* (1,-2) and / */
-#define HYPUZ_CURLY_PRIMES 128u        /* U+2019 and U+2032 as primes, as word processors write them */
-
-/* The named settings. No named setting admits curly primes: add HYPUZ_CURLY_PRIMES to one. */
-#define HYPUZ_MINIMAL 0u
-#define HYPUZ_WCA (HYPUZ_MEGAMINX | HYPUZ_SQ1)
-#define HYPUZ_MAXIMAL 127u
-
-/* The refusals. Where several apply, the first of this order is given: in reading 1, 2, 3, 4, 5; with a tree 1, 2, 6, then 11,
- * 12, then 7 or 8, whichever unrolling or inverting meets first, then 9, 10, then 5. Each function below lists its own in this
- * order, without the HYPUZ_REFUSED_ of the name. Those from 13 on belong to functions still to come and are given by none yet. */
+/* The refusals. Where several apply, the one is given that a function lists first; it lists them without HYPUZ_REFUSED_. Those
+ * from 13 on belong to functions still to come and are given by none yet. */
 enum hypuz_refused {
     HYPUZ_ACCEPTED = 0,
     HYPUZ_REFUSED_TOO_LONG = 1,
@@ -130,20 +78,20 @@ enum hypuz_refused {
 };
 
 /* An answer taken apart: the refusal, 0 for none, and the value, 0 where the call was refused. */
-static inline unsigned hypuz_refusal(uint64_t answer) { return (unsigned)(answer >> 56); }
-static inline uint64_t hypuz_value(uint64_t answer) { return answer & 0xffffffffffffffu; }
+HYPUZ_INLINE unsigned hypuz_refusal(uint64_t answer) { return (unsigned)(answer >> 56); }
+HYPUZ_INLINE uint64_t hypuz_value(uint64_t answer) { return answer & 0xffffffffffffffu; }
 
 /* A refusal as a sentence, which stays where it is and is never freed. */
-static inline const char *hypuz_refusal_text(unsigned refusal) {
+HYPUZ_INLINE const char *hypuz_refusal_text(unsigned refusal) {
     switch (refusal) {
     case HYPUZ_ACCEPTED: return "The call was not refused.";
     case HYPUZ_REFUSED_TOO_LONG: return "The text has more than 16,777,215 bytes.";
     case HYPUZ_REFUSED_NOT_UTF8: return "The text is not UTF-8.";
-    case HYPUZ_REFUSED_TOO_NESTED: return "The text has more than 64 brackets open at once.";
+    case HYPUZ_REFUSED_TOO_NESTED: return "Some beginning of the text opens over 64 more brackets than it closes.";
     case HYPUZ_REFUSED_NOT_NOTATION: return "The text is not notation in this setting.";
     case HYPUZ_REFUSED_NO_ROOM: return "The lent buffer is too short.";
     case HYPUZ_REFUSED_NOT_WELL_FORMED: return "The bytes given as a tree are not a well-formed tree over this text.";
-    case HYPUZ_REFUSED_NISS: return "A NISS group stands in the way: it can be neither unrolled nor inverted deep.";
+    case HYPUZ_REFUSED_NISS: return "A NISS group would have to be unrolled or inverted deep.";
     case HYPUZ_REFUSED_OVERFLOW: return "The Square-1 number -2147483648 cannot be negated.";
     case HYPUZ_REFUSED_TOO_MANY_STEPS: return "There are more than 4,294,967,295 steps.";
     case HYPUZ_REFUSED_NO_SUCH_PLACE: return "There is no such place.";
@@ -164,11 +112,86 @@ static inline const char *hypuz_refusal_text(unsigned refusal) {
     }
 }
 
+/* The notation. A list is any number of nodes, also none, with white space between them, which may also stand at both ends. A
+ * text is a list, and so is what stands in brackets. White space is Unicode's, line ends included. There are no comments. The
+ * nodes, with the feature that some of them need:
+ *
+ *   move         R  U2'  3Rw  2-4r  ~{1..3,-1}R{U->F}2   layers, family, constraints and multiplier, all but the family optional
+ *   rotation     @x2  @{U->F}'  @     (generalized_rotations) family, constraints and multiplier, all optional
+ *   group        (R U)2               the list, so many times
+ *                !(R U)  &(R L')      macro and simultaneous groups, which play as any group does
+ *                ^(R U)               a NISS group, of moves on the inverse of the scramble, which cannot be played
+ *   commutator   [R, U]               plays R U R' U', and inverted U R U' R'
+ *   conjugate    [R: U]               plays R U R', and inverted R U' R'
+ *   pause        .
+ *   Square-1     (1,-2)  /            (sq1) a pair has numbers from -2147483648 to 2147483647
+ *   Megaminx     R++  R--  D++  D--   (megaminx)
+ *
+ * A family is a run of a-z, A-Z, _ and the Greek letters U+0393 0394 0398 039B 039E 03A0 03A3 03A6 03A8 03A9 03B2 03B4 to 03B8
+ * 03BA to 03BC 03BE 03C0 03C4 03C6 03C8 03C9. What it means (w, M, x, lower case) is left to the host.
+ * A multiplier is a number up to 2147483647 or none, which means 1, and after it a prime ' or none. Groups, commutators,
+ * conjugates, rotations and moves have one. A group plays as often as the number says, and with a prime inverted: its list from
+ * the end, with every step undone. Undoing negates a multiplier and both numbers of a pair, exchanges ++ and --, and leaves a
+ * pause and a slash as they are. A group of multiplier 0 plays nothing, and what stands in it is not reached.
+ * Layers are a number or two with a hyphen, from 1 to 32,767 and in either order, or a layer set (layer_sets): in braces any
+ * number of elements with commas between them, each a number or two with .. between them, from -32,767 to 32,767 but not 0, in
+ * either order, or with hsc1_layer_ranges also two with a hyphen, which then are not negative. A tilde ~ may stand before the
+ * layers, and before the family where there are none (inverted_layers).
+ * Constraints (transform_constraints) are in braces any number of elements with commas between them, each a family or two with
+ * -> or <> between them.
+ * White space may stand just inside brackets and braces, beside a comma, a colon, -> and <>, and nowhere else inside a node.
+ * Numbers may have leading zeros.
+ *
+ * What some texts give, in steps or by a refusal: 4 where they are not notation in the setting, 7 where a NISS group is reached.
+ *
+ *   text                       | HYPUZ_WCA | HYPUZ_MAXIMAL |
+ *   R U2' F0                   | 3         | 3         | a move of multiplier 0 is a step too
+ *   R'2                        | refused 4 | refused 4 | the number stands before the prime
+ *   RU x2                      | 2         | 2         | RU is one move with the family RU, and x2 is a move
+ *   RU R'U'                    | refused 4 | refused 4 | nodes that touch
+ *   (R U)(R' F)                | refused 4 | refused 4 | nodes that touch
+ *   (R U) (R' F)               | 4         | 4         |
+ *   ( R ) [ R , ] ()           | 3         | 3         | lists may be empty
+ *   (R U) 2                    | refused 4 | refused 4 | no space before a multiplier
+ *   [R: U2 F]' (R U)3          | 10        | 10        |
+ *   ^(R)0                      | refused 7 | refused 7 | a NISS group is reached, whatever its multiplier
+ *   (^(R))0                    | 0         | 0         | this one is not reached
+ *   R // comment               | refused 4 | refused 4 | no comments
+ *   (1,0) / ( -3 , 03 ) /      | 4         | 4         |
+ *   (1,0)/(3,3)/               | refused 4 | refused 4 | nodes that touch
+ *   (+1,0)                     | refused 4 | refused 4 | no plus sign
+ *   R++ D-- U'                 | 3         | 3         |
+ *   3-1R 02U                   | 2         | 2         | the range 1-3, and layer 2
+ *   0R                         | refused 4 | refused 4 | no layer 0
+ *   ~2R ~R                     | refused 4 | 2         |
+ *   {1..3,-1}R {3-1}U {}F      | refused 4 | 3         |
+ *   {1 .. 3}R                  | refused 4 | refused 4 | no space beside .. or a hyphen
+ *   @x2 @                      | refused 4 | 2         |
+ *   R{U -> F, L<>B, D} U{}     | refused 4 | 2         | an empty set of constraints is not the same as none
+ *   R2147483647                | 1         | 1         |
+ *   R2147483648                | refused 4 | refused 4 | too large
+ */
+
+/* The features of a setting, to be added up; higher bits are ignored. Each admits what stands beside it. */
+#define HYPUZ_INVERTED_LAYERS 1u       /* ~2R */
+#define HYPUZ_LAYER_SETS 2u            /* {1..3,-1}R */
+#define HYPUZ_HSC1_LAYER_RANGES 4u     /* {1-3}R; needs HYPUZ_LAYER_SETS too */
+#define HYPUZ_GENERALIZED_ROTATIONS 8u /* @x2 */
+#define HYPUZ_TRANSFORM_CONSTRAINTS 16u /* R{U->F} */
+#define HYPUZ_MEGAMINX 32u             /* R++ R-- D++ D-- */
+#define HYPUZ_SQ1 64u                  /* (1,-2) and / */
+#define HYPUZ_CURLY_PRIMES 128u        /* U+2019 and U+2032 as primes, as word processors write them */
+
+/* The named settings. No named setting admits curly primes: add HYPUZ_CURLY_PRIMES to one. */
+#define HYPUZ_MINIMAL 0u
+#define HYPUZ_WCA (HYPUZ_MEGAMINX | HYPUZ_SQ1)
+#define HYPUZ_MAXIMAL 127u
+
 /* Trees. A tree is a run of records of HYPUZ_RECORD bytes, one for each node, in reading order: the record of a group stands
  * before those of its first list, and these before those of its second. Calls name a record by its number in the tree, counted
- * in records from 0. A step is handed over as a record of its own and is itself a tree over the text, of one leaf. Host code
- * that uses the functions below and HYPUZ_RECORD, and never an offset or a bare number, goes on to work when a record gains a
- * field.
+ * in records from 0. A step is handed over as a record of its own, undone where it is played so, and is itself a tree over the
+ * text, of one leaf. Host code that uses the functions below and HYPUZ_RECORD, and never an offset or a bare number, keeps
+ * working when a record gains a field.
  *
  * For languages that cannot call these functions, the fields by their bits, most significant first; what a kind does not use is
  * 0, and so is the offset of an empty family:
@@ -182,8 +205,8 @@ static inline const char *hypuz_refusal_text(unsigned refusal) {
  *   40        count
  *
  * The count is how many steps the node unrolls into, repeats included, and 4,294,967,296 if they are more than 4,294,967,295.
- * It is 1 in a leaf, whatever its multiplier, and 0 in a group of multiplier 0 and in a NISS group; what stands inside such a
- * group has its own count all the same.
+ * It is 1 in a leaf, whatever its multiplier, and 0 in a group of multiplier 0 and in a NISS group, which adds nothing to what
+ * holds it; what stands inside has its own count all the same. Whether a tree unrolls at all, hypuz_count_steps tells.
  *
  * Reading and both inverses write trees, and a node cut out with all that it holds is one too. Whoever puts records together
  * otherwise has to keep these rules, or the tree is refused (HYPUZ_REFUSED_NOT_WELL_FORMED): the length is a multiple of
@@ -211,7 +234,7 @@ enum hypuz_kind {
     HYPUZ_KIND_D_MINUS = 14
 };
 
-enum hypuz_layers {
+enum hypuz_layer_form {
     HYPUZ_LAYERS_NONE = 0,
     HYPUZ_LAYERS_SINGLE = 1, /* 2R */
     HYPUZ_LAYERS_RANGE = 2,  /* 2-3R */
@@ -225,79 +248,81 @@ struct hypuz_span {
 
 /* Numbers as records and ranges hold them, for the functions below: so many bytes, most significant first; 32 bits with a sign;
  * a part of the text. */
-static inline uint64_t hypuz_bytes(const uint8_t *at, size_t size) {
+HYPUZ_INLINE uint64_t hypuz_bytes(const uint8_t *at, size_t size) {
     uint64_t n = 0;
     for (size_t i = 0; i < size; i++) n = n << 8 | at[i];
     return n;
 }
-static inline int32_t hypuz_signed(const uint8_t *at) {
+HYPUZ_INLINE int32_t hypuz_signed(const uint8_t *at) {
     uint32_t n = (uint32_t)hypuz_bytes(at, 4);
     return n <= 0x7fffffffu ? (int32_t)n : -(int32_t)(0xffffffffu - n) - 1;
 }
-static inline struct hypuz_span hypuz_span_at(const uint8_t *at) {
+HYPUZ_INLINE struct hypuz_span hypuz_span_at(const uint8_t *at) {
     struct hypuz_span span = {(uint32_t)hypuz_bytes(at, 3), (uint32_t)hypuz_bytes(at + 3, 3)};
     return span;
 }
 
 /* How many records a tree of so many bytes has, and the record with a number. */
-static inline size_t hypuz_records(size_t tree_size) { return tree_size / HYPUZ_RECORD; }
-static inline const uint8_t *hypuz_record_at(const uint8_t *tree, size_t record) { return tree + record * HYPUZ_RECORD; }
+HYPUZ_INLINE size_t hypuz_records(size_t tree_size) { return tree_size / HYPUZ_RECORD; }
+HYPUZ_INLINE const uint8_t *hypuz_record_at(const uint8_t *tree, size_t record) { return tree + record * HYPUZ_RECORD; }
 
 /* What a record says. Each function gives 0, or a span of length 0, where the kind of the record has no such thing. */
-static inline unsigned hypuz_record_kind(const uint8_t *record) { return record[0] >> 4; }
-static inline int hypuz_record_is_group(const uint8_t *record) { return hypuz_record_kind(record) <= HYPUZ_KIND_CONJUGATE; }
+HYPUZ_INLINE enum hypuz_kind hypuz_record_kind(const uint8_t *record) { return (enum hypuz_kind)(record[0] >> 4); }
+HYPUZ_INLINE int hypuz_record_is_group(const uint8_t *record) { return hypuz_record_kind(record) <= HYPUZ_KIND_CONJUGATE; }
 
 /* The multiplier of a group, a rotation or a move; u and d of a pair. */
-static inline int32_t hypuz_record_multiplier(const uint8_t *record) {
+HYPUZ_INLINE int32_t hypuz_record_multiplier(const uint8_t *record) {
     return hypuz_record_kind(record) <= HYPUZ_KIND_MOVE ? hypuz_signed(record + 7) : 0;
 }
-static inline int32_t hypuz_record_u(const uint8_t *record) {
+HYPUZ_INLINE int32_t hypuz_record_u(const uint8_t *record) {
     return hypuz_record_kind(record) == HYPUZ_KIND_PAIR ? hypuz_signed(record + 7) : 0;
 }
-static inline int32_t hypuz_record_d(const uint8_t *record) {
+HYPUZ_INLINE int32_t hypuz_record_d(const uint8_t *record) {
     return hypuz_record_kind(record) == HYPUZ_KIND_PAIR ? hypuz_signed(record + 11) : 0;
 }
 
-/* Of a move: whether it has a tilde, which of enum hypuz_layers stands before the family, and the layers of a single one, which
- * is both low and high, or of a range. Of a move or a rotation: whether it has constraints, of which there may be none in the
- * braces. */
-static inline int hypuz_record_tilde(const uint8_t *record) { return record[0] >> 3 & 1; }
-static inline unsigned hypuz_record_layers(const uint8_t *record) { return record[0] >> 1 & 3; }
-static inline unsigned hypuz_record_low(const uint8_t *record) {
+/* Of a move: whether it has a tilde, the form of its layers, and the low and the high one, which are equal in a single layer and
+ * 0 where there is no layer or a set. Of a move or a rotation: whether it has constraints, also where it has just the braces. */
+HYPUZ_INLINE int hypuz_record_tilde(const uint8_t *record) { return record[0] >> 3 & 1; }
+HYPUZ_INLINE enum hypuz_layer_form hypuz_record_layer_form(const uint8_t *record) {
+    return (enum hypuz_layer_form)(record[0] >> 1 & 3);
+}
+HYPUZ_INLINE unsigned hypuz_record_low(const uint8_t *record) {
     return hypuz_record_kind(record) == HYPUZ_KIND_MOVE ? (unsigned)hypuz_bytes(record + 11, 2) : 0;
 }
-static inline unsigned hypuz_record_high(const uint8_t *record) {
+HYPUZ_INLINE unsigned hypuz_record_high(const uint8_t *record) {
     return hypuz_record_kind(record) == HYPUZ_KIND_MOVE ? (unsigned)hypuz_bytes(record + 13, 2) : 0;
 }
-static inline int hypuz_record_has_constraints(const uint8_t *record) { return record[0] & 1; }
+HYPUZ_INLINE int hypuz_record_has_constraints(const uint8_t *record) { return record[0] & 1; }
 
 /* Of a group: how many records its first list takes, nested ones included, and its second. Of any node: how many records it
  * takes with all that it holds, so that the next node of its list begins so many records further on. */
-static inline uint32_t hypuz_record_first_list(const uint8_t *record) { return (uint32_t)hypuz_bytes(record + 1, 3); }
-static inline uint32_t hypuz_record_second_list(const uint8_t *record) { return (uint32_t)hypuz_bytes(record + 4, 3); }
-static inline uint32_t hypuz_record_whole(const uint8_t *record) {
+HYPUZ_INLINE uint32_t hypuz_record_first_list(const uint8_t *record) { return (uint32_t)hypuz_bytes(record + 1, 3); }
+HYPUZ_INLINE uint32_t hypuz_record_second_list(const uint8_t *record) { return (uint32_t)hypuz_bytes(record + 4, 3); }
+HYPUZ_INLINE uint32_t hypuz_record_node_size(const uint8_t *record) {
     return 1 + hypuz_record_first_list(record) + hypuz_record_second_list(record);
 }
 
 /* Where the family, the constraints with their braces and the layer set with its braces stand in the text. */
-static inline struct hypuz_span hypuz_record_family(const uint8_t *record) { return hypuz_span_at(record + 15); }
-static inline struct hypuz_span hypuz_record_constraints(const uint8_t *record) { return hypuz_span_at(record + 21); }
-static inline struct hypuz_span hypuz_record_layer_set(const uint8_t *record) { return hypuz_span_at(record + 27); }
+HYPUZ_INLINE struct hypuz_span hypuz_record_family(const uint8_t *record) { return hypuz_span_at(record + 15); }
+HYPUZ_INLINE struct hypuz_span hypuz_record_constraints(const uint8_t *record) { return hypuz_span_at(record + 21); }
+HYPUZ_INLINE struct hypuz_span hypuz_record_layer_set(const uint8_t *record) { return hypuz_span_at(record + 27); }
 
 /* How many steps the node unrolls into, as said above. */
-static inline uint64_t hypuz_record_count(const uint8_t *record) { return hypuz_bytes(record + 33, 5); }
+HYPUZ_INLINE uint64_t hypuz_record_count(const uint8_t *record) { return hypuz_bytes(record + 33, 5); }
 
-/* Room: how many bytes are surely enough for what a function writes. It is proved of each that the result never has more. */
-#define HYPUZ_TREE_ROOM(text_size) ((size_t)(text_size) * HYPUZ_RECORD) /* hypuz_parse_notation */
-#define HYPUZ_INVERSE_ROOM(tree_size) ((size_t)(tree_size))             /* hypuz_inv, hypuz_inv_deep: just as many */
-#define HYPUZ_LIST_ROOM(count) ((size_t)(count) * HYPUZ_RECORD)         /* hypuz_flatten, by hypuz_count_steps: just as many */
-#define HYPUZ_STEP_ROOM HYPUZ_RECORD                                    /* hypuz_seek_step */
-#define HYPUZ_RANGES_ROOM 65536                                         /* hypuz_simplify */
-/* hypuz_display of what reading gave of the text, of its inverses, theirs included, and of any step that was sought in one. */
-#define HYPUZ_DISPLAY_ROOM(text_size) (2 * (size_t)(text_size))
-/* hypuz_display of any tree, the list that hypuz_flatten writes included: the bytes of the tree and of the parts that its records
- * name, with a quarter more for layer sets, where 1-2 prints as 1..2. Linear in the tree. */
-static inline size_t hypuz_display_room(const uint8_t *tree, size_t tree_size) {
+/* Room: how many bytes are surely enough for what a function writes. It is proved of each that the result never has more.
+ * HYPUZ_DISPLAY_ROOM is for printing what hypuz_parse_notation made of the text, inverses of that, inverses of these, and any step
+ * that hypuz_seek_step finds in one of them. hypuz_display_room_of is for printing any tree, such as a list that hypuz_flatten
+ * wrote, a node that was cut out, or a tree put together by hand: it adds to the bytes of the tree those of the parts that its
+ * records name, with a quarter more for layer sets, where 1-2 prints as 1..2. */
+#define HYPUZ_TREE_ROOM(text_size) (((size_t)(text_size) + 1) / 2 * HYPUZ_RECORD) /* hypuz_parse_notation */
+#define HYPUZ_INVERSE_ROOM(tree_size) ((size_t)(tree_size))     /* hypuz_inv, hypuz_inv_deep: just as many */
+#define HYPUZ_LIST_ROOM(count) ((size_t)(count) * HYPUZ_RECORD) /* hypuz_flatten, by hypuz_count_steps: just as many */
+#define HYPUZ_STEP_ROOM HYPUZ_RECORD                            /* hypuz_seek_step: just as many */
+#define HYPUZ_RANGES_ROOM 65536                                 /* hypuz_simplify */
+#define HYPUZ_DISPLAY_ROOM(text_size) (2 * (size_t)(text_size)) /* hypuz_display of what is said above */
+HYPUZ_INLINE size_t hypuz_display_room_of(const uint8_t *tree, size_t tree_size) {
     size_t room = tree_size;
     for (size_t k = 0; k < hypuz_records(tree_size); k++) {
         const uint8_t *record = hypuz_record_at(tree, k);
@@ -309,17 +334,19 @@ static inline size_t hypuz_display_room(const uint8_t *tree, size_t tree_size) {
 
 /* Reads a text in a setting and writes its tree. Value: bytes written, HYPUZ_RECORD for each node.
  * Refusals: TOO_LONG, NOT_UTF8, TOO_NESTED, NOT_NOTATION, NO_ROOM. Room: HYPUZ_TREE_ROOM(text_size).
- * Brackets of every kind count for TOO_NESTED, those of Square-1 pairs too.
+ * TOO_NESTED is given where some beginning of the text has over HYPUZ_MAX_NESTING more of ( and [ than of ) and ], those of
+ * Square-1 pairs included; braces do not count. Where in the text a mistake stands is not told.
  * Example: [R: U2 F]' gives four records, of the conjugate, of R, of U2 and of F. */
 uint64_t hypuz_parse_notation(const uint8_t *text, size_t text_size, uint32_t features, uint8_t *tree, size_t tree_size);
 
 /* Counts the steps that the tree unrolls into. Value: their number.
- * Refusals: TOO_LONG, NOT_UTF8, NOT_WELL_FORMED, NISS or OVERFLOW, TOO_MANY_STEPS. Cost: the check alone.
+ * Refusals: TOO_LONG, NOT_UTF8, NOT_WELL_FORMED, then NISS (a NISS group is reached) or OVERFLOW (a pair with -2147483648 is to be
+ * undone), whichever unrolling meets first, then TOO_MANY_STEPS. Cost: the check alone.
  * Example: 4 for [R: U2 F]'. */
 uint64_t hypuz_count_steps(const uint8_t *text, size_t text_size, const uint8_t *tree, size_t tree_size);
 
-/* Writes the record of the step at a place, counted from 0, undone where it is played so. Value: HYPUZ_RECORD.
- * Refusals: TOO_LONG, NOT_UTF8, NOT_WELL_FORMED, NISS or OVERFLOW, TOO_MANY_STEPS, NO_SUCH_PLACE, NO_ROOM.
+/* Writes the record of the step at a place, counted from 0. Value: HYPUZ_RECORD.
+ * Refusals: TOO_LONG, NOT_UTF8, NOT_WELL_FORMED, NISS or OVERFLOW as in counting, TOO_MANY_STEPS, NO_SUCH_PLACE, NO_ROOM.
  * Room: HYPUZ_STEP_ROOM. Cost: linear in the text and the tree, however many steps there are.
  * Example: place 1 of [R: U2 F]' is F'. */
 uint64_t hypuz_seek_step(const uint8_t *text, size_t text_size, const uint8_t *tree, size_t tree_size, uint64_t place,
@@ -327,9 +354,10 @@ uint64_t hypuz_seek_step(const uint8_t *text, size_t text_size, const uint8_t *t
 
 /* Writes the list of all steps, a record for each in the order in which they are played; it is a tree over the same text.
  * Value: bytes written.
- * Refusals: TOO_LONG, NOT_UTF8, NOT_WELL_FORMED, NISS or OVERFLOW, TOO_MANY_STEPS, NO_ROOM.
+ * Refusals: TOO_LONG, NOT_UTF8, NOT_WELL_FORMED, NISS or OVERFLOW as in counting, TOO_MANY_STEPS, NO_ROOM.
  * Room: HYPUZ_LIST_ROOM(count), where the count is that of hypuz_count_steps: a short text may have a long list.
- * Cost: beyond the check it grows with the list and with the groups without steps that are passed on the way.
+ * Cost: beyond the check it grows with the list. What a multiplier repeats is copied; groups without steps are passed one by one,
+ * again each time that a commutator or conjugate around them plays its list.
  * Example: [R: U2 F]' gives R F' U2' R'. */
 uint64_t hypuz_flatten(const uint8_t *text, size_t text_size, const uint8_t *tree, size_t tree_size, uint8_t *out, size_t out_size);
 
@@ -337,45 +365,50 @@ uint64_t hypuz_flatten(const uint8_t *text, size_t text_size, const uint8_t *tre
  * groups negated. What stands inside a group stays as it is. Value: bytes written.
  * Refusals: TOO_LONG, NOT_UTF8, NOT_WELL_FORMED, OVERFLOW, NO_ROOM. Room: HYPUZ_INVERSE_ROOM(tree_size).
  * Cost: linear in the tree, beyond the check.
- * A NISS group is kept and gets the other sign like any group; the inverse is a formal one there, since neither unrolls.
- * Example: (R U)2 [F, D] gives [F, D]' (R U)2'. */
+ * Where the tree unrolls, and no step is a pair with -2147483648, the inverse unrolls too: into the same steps undone, from the
+ * last to the first. A NISS group is kept and gets the other sign like any group; the inverse is a formal one there, since neither
+ * unrolls. Example: (R U)2 [F, D] gives [F, D]' (R U)2'. */
 uint64_t hypuz_inv(const uint8_t *text, size_t text_size, const uint8_t *tree, size_t tree_size, uint8_t *out, size_t out_size);
 
 /* Writes the deep inverse, a tree over the same text: as the shallow one, but the multipliers of groups stay, with their signs,
  * and what they hold is inverted instead: the list of a group, the second list of a conjugate; the lists of a commutator change
- * places. Value: bytes written.
- * Refusals: TOO_LONG, NOT_UTF8, NOT_WELL_FORMED, NISS or OVERFLOW, NO_ROOM. Room: HYPUZ_INVERSE_ROOM(tree_size).
+ * places. The lists of a commutator and the first list of a conjugate stay as they are. Value: bytes written.
+ * Refusals: TOO_LONG, NOT_UTF8, NOT_WELL_FORMED, then NISS (a NISS group is to be inverted, also inside a group of multiplier 0) or
+ * OVERFLOW, whichever is met first from the end of the tree, then NO_ROOM. Room: HYPUZ_INVERSE_ROOM(tree_size).
  * Cost: linear in the tree, beyond the check.
  * Example: (R U)2' [F, D] gives [D, F] (U' R')2'. */
 uint64_t hypuz_inv_deep(const uint8_t *text, size_t text_size, const uint8_t *tree, size_t tree_size, uint8_t *out,
                         size_t out_size);
 
 /* Prints a tree. Value: bytes written, without a final 0.
- * Refusals: TOO_LONG, NOT_UTF8, NOT_WELL_FORMED, NO_ROOM. Room: HYPUZ_DISPLAY_ROOM(text_size), or hypuz_display_room for any tree.
- * Cost: linear in what is printed, beyond the check.
- * One space stands between nodes, so line ends print as spaces; a multiplier of 1 and leading zeros are left out, and every
- * prime is an apostrophe. Example: (R1  U)02 with a line end after it gives (R U)2. */
+ * Refusals: TOO_LONG, NOT_UTF8, NOT_WELL_FORMED, NO_ROOM. Room: HYPUZ_DISPLAY_ROOM(text_size) or, for any tree,
+ * hypuz_display_room_of. Cost: linear in what is printed, beyond the check.
+ * One space stands between nodes, so line ends print as spaces, and one after the comma or colon of a commutator, a conjugate and
+ * a pair, so a pair has a space inside: (1, -2). Layer sets and constraints print without white space, and ranges in sets with .. .
+ * A multiplier of 1 and leading zeros are left out, and every prime is an apostrophe. What is printed of a tree that reading gave,
+ * or of its shallow inverse, is read again in the same setting with the same meaning, unless it is longer than a text may be.
+ * Example: (R1  U)02 with a line end after it gives (R U)2, and {1-2, 3}R{A -> B} gives {1..2,3}R{A->B}. */
 uint64_t hypuz_display(const uint8_t *text, size_t text_size, const uint8_t *tree, size_t tree_size, uint8_t *out, size_t out_size);
 
 /* Resolves the written prefix of a move on an axis of max_layer layers, 1 being the outermost, and writes the layers as ranges by
- * depth, none touching another. Value: how many ranges; hypuz_range_low and hypuz_range_high take each apart.
+ * depth, none touching another. Value: how many ranges, not bytes; hypuz_range_low and hypuz_range_high take each apart.
  * Refusals: TOO_LONG, NOT_UTF8, NOT_WELL_FORMED, NO_SUCH_LAYER_COUNT (max_layer is 0 or above HYPUZ_MAX_LAYER), NO_SUCH_RECORD
  * (there is no record with this number, or it is not a move), NO_ROOM. Room: HYPUZ_RANGES_ROOM. Cost: linear in max_layer and
- * the layer set, beyond the check; a leaf's record handed in alone, as a tree with the record 0, spares the check of the others.
+ * the layer set, beyond the check.
  * This is not yet what the move turns: what its family means is the host's to know. No prefix means layer 1, so Rw and M give
- * 1-1, and 3Rw gives 3-3. Layers beyond the axis are left out. In a layer set -1 is the deepest layer, unless allow_negatives is
- * 0: then an element of the set that has a negative number gives nothing. With a tilde the answer is the layers from 1 to
- * max_layer that the same prefix without it does not give.
+ * 1-1, and 3Rw gives 3-3. In a layer set -1 is the deepest layer, -2 the one before it and so on, unless allow_negatives is 0:
+ * then an element of the set that has a negative number gives nothing. What of a number or a range is not from 1 to max_layer is
+ * left out. With a tilde the answer is the layers from 1 to max_layer that the same prefix without it does not give.
  * Example, on five layers: {1,3,2,-1}R gives 1-3 and 5-5, with allow_negatives 0 only 1-3; ~2R gives 1-1 and 3-5. */
 uint64_t hypuz_simplify(const uint8_t *text, size_t text_size, const uint8_t *tree, size_t tree_size, uint64_t record,
                         uint32_t max_layer, uint32_t allow_negatives, uint8_t *out, size_t out_size);
 
 /* The range with a number, from 0, in what hypuz_simplify wrote: its lowest and its highest layer. */
 #define HYPUZ_RANGE 4
-static inline unsigned hypuz_range_low(const uint8_t *ranges, size_t k) {
+HYPUZ_INLINE unsigned hypuz_range_low(const uint8_t *ranges, size_t k) {
     return (unsigned)hypuz_bytes(ranges + k * HYPUZ_RANGE, 2);
 }
-static inline unsigned hypuz_range_high(const uint8_t *ranges, size_t k) {
+HYPUZ_INLINE unsigned hypuz_range_high(const uint8_t *ranges, size_t k) {
     return (unsigned)hypuz_bytes(ranges + k * HYPUZ_RANGE + 2, 2);
 }
 
@@ -386,7 +419,7 @@ static inline unsigned hypuz_range_high(const uint8_t *ranges, size_t k) {
  * Example: of record 2 of R (Uw) it is offset 3, length 2. */
 uint64_t hypuz_family(const uint8_t *text, size_t text_size, const uint8_t *tree, size_t tree_size, uint64_t record);
 
-static inline struct hypuz_span hypuz_family_span(uint64_t answer) {
+HYPUZ_INLINE struct hypuz_span hypuz_family_span(uint64_t answer) {
     struct hypuz_span span = {(uint32_t)(hypuz_value(answer) >> 24), (uint32_t)(hypuz_value(answer) & 0xffffffu)};
     return span;
 }

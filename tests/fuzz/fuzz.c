@@ -222,7 +222,7 @@ static void other_layers(const struct input *i) {
     light(&other, without);
     for (uint32_t layer = 1; layer <= i->layers; layer++) {
         demand(with[layer] + without[layer] == 1, "each layer either with the tilde or without");
-        demand(hypuz_record_layers(record) != HYPUZ_LAYERS_NONE || without[layer] == (layer == 1), "no contents: layer 1");
+        demand(hypuz_record_layer_form(record) != HYPUZ_LAYERS_NONE || without[layer] == (layer == 1), "no contents: layer 1");
     }
     free(tree);
 }
@@ -281,7 +281,7 @@ static void every(const struct input *i, size_t room) {
         return;
     }
     demand(r == 0, "printing a tree that is well formed");
-    printed_within(i, i->tree, i->tree_size, hypuz_display_room(i->tree, i->tree_size), "the room for any tree as text");
+    printed_within(i, i->tree, i->tree_size, hypuz_display_room_of(i->tree, i->tree_size), "the room for any tree as text");
     if (hypuz_refusal(turned) == 0 || hypuz_refusal(turned) == 5) other_layers(i);
     counted(i->tree, i->tree_size, "a wrong count is refused 6");
     twice(inv, i, shallow, "inverse twice");

@@ -5,7 +5,7 @@ Each PROGRAM is tests/host/records.c, compiled some way; what its inline functio
 - names and numbers: refusals, kinds and limits with the constants of the code, features with the reference's flags;
 - the table of texts in the comment on the notation: every row with the reference, in both settings;
 - the accessors, on every record of many trees: what they give must be what the reference's nodes say, field by field;
-- the rooms: what the reference writes and prints never has more bytes than they allow, and hypuz_display_room adds up what its comment says.
+- the rooms: what the reference writes and prints never has more bytes than they allow, and hypuz_display_room_of adds up what its comment says.
 With ARCHIVE, it must ask its platform for memcpy and memset alone."""
 import os
 import random
@@ -64,7 +64,7 @@ def names(program):
     setting = {name: sum(1 << i for i, flag in enumerate(n.FLAGS) if flag in on) for name, on in (("MINIMAL", ()), ("WCA", n.WCA), ("MAXIMAL", n.MAXIMAL))}
     expect(dict(line.split() for line in lines[:11]),
            {name: str(value) for name, value in {"RECORD": n.RECORD, **limits, "STEP_ROOM": n.RECORD, "RANGES_ROOM": 4 * 16384, **setting}.items()}, "sizes, limits and settings")
-    expect(lines[11:14], [f"rooms {k} {k * n.RECORD} {k} {k * n.RECORD} {2 * k}" for k in (0, 1, 1000)], "rooms")
+    expect(lines[11:14], [f"rooms {k} {(k + 1) // 2 * n.RECORD} {k} {k * n.RECORD} {2 * k}" for k in (0, 1, 1000)], "rooms")
     said = [line.split(" ", 2)[2] for line in lines[14:270]]
     expect([line.split(" ", 2)[:2] for line in lines[14:270]], [["refusal", str(k)] for k in range(256)], "refusals")
     expect((len(set(said[:24])), set(said[24:])), (24, {"There is no such refusal."}), "a sentence for each of 24, and one for all others")
@@ -114,7 +114,7 @@ def wide():
 
 
 def room(nodes):
-    """Gives what hypuz_display_room says that it adds up."""
+    """Gives what hypuz_display_room_of says that it adds up."""
     return sum(n.RECORD + node[14] + node[16] + node[18] + node[18] // 4 for node in map(says, n.in_order(nodes)))
 
 
@@ -179,6 +179,7 @@ def accessors(programs):
         tight += most == shown > 0
         expect(shown <= room(nodes), True, f"the room by the records for {text[:60]}")
         expect(most is None or shown <= most, True, f"the room by the text for {text[:60]}")
+        expect(most is None or len(n.pack(nodes)) <= (len(text) + 1) // 2 * n.RECORD, True, f"the room for the tree of {text[:60]}")
     expect(tight > 0, True, "some text needs all of the room by the text")
     for f, values in wide():
         hexes += n.packed(f).hex() + "\n"

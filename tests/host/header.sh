@@ -1,6 +1,6 @@
 #!/bin/sh
 # Holds the header to the code, the reference and the archive, and the example of a host to the reference: its inline functions are compiled as
-# C99 and as C++17 with sanitizers, and examples/card.c both ways too.
+# C99 and as C++17 with sanitizers; examples/card.c both ways as its own script does, and with sanitizers too.
 set -eu
 root=$(cd "$(dirname "$0")/../.." && pwd)
 cd "$root"
@@ -9,5 +9,6 @@ flags="-Wall -Wextra -Wpedantic -Wconversion -Wsign-conversion -Wshadow -Werror 
 cc -std=c99 $flags tests/host/records.c -o target/host/records
 c++ -std=c++17 $flags -x c++ tests/host/records.c -o target/host/records++
 examples/run.sh
+cc -std=c99 $flags examples/card.c target/staticlib/libhypuz_notation.a -o target/host/card
 python3 tests/host/header.py target/host/records target/host/records++ -- target/staticlib/libhypuz_notation.a
-python3 tests/host/card.py target/examples/card target/examples/card++
+python3 tests/host/card.py target/examples/card target/examples/card++ target/host/card

@@ -323,6 +323,10 @@ static void examples(void) {
     item("(R U)2 [F, D]", "(R U)2 [F, D]", "[F, D]' (R U)2'", "[D, F] (U' R')2", 0, "R U R U F D F' D'", 8);
     item("(R U)2' [F, D]", "(R U)2' [F, D]", "[F, D]' (R U)2", "[D, F] (U' R')2'", 0, "U' R' U' R' F D F' D'", 8);
     item("(R1  U)02\n", "(R U)2", "(R U)2'", "(U' R')2", 0, "R U R U", 4);
+    item("{1-2, 3}R{A -> B}", "{1..2,3}R{A->B}", "{1..2,3}R{A->B}'", "{1..2,3}R{A->B}'", 0, "{1..2,3}R{A->B}", 1);
+    item("([^(R), ()])0", "([^(R), ()])0", "([^(R), ()])0", "([(), ^(R)])0", 0, "", 0);
+    ranges("{4..-4}R", 3, 1, "1-3");
+    ranges("{-2}R", 3, 1, "2-2");
     ranges("{1,3,2,-1}R", 5, 0, "1-3");
     ranges("Rw", 5, 1, "1-1");
     ranges("M", 5, 1, "1-1");
@@ -344,6 +348,9 @@ static void examples(void) {
     for (int k = 0; k < 64; k++) strcat(pairs, "(");
     strcat(pairs, "(1,2)");
     expect(hypuz_parse_notation(bytes(pairs), strlen(pairs), HYPUZ_MAXIMAL, out, ROOM) == refused(HYPUZ_REFUSED_TOO_NESTED) && untouched(0), "a pair inside 64 groups", pairs);
+    expect(hypuz_parse_notation(bytes(pairs), 64, HYPUZ_MAXIMAL, out, ROOM) == refused(HYPUZ_REFUSED_NOT_NOTATION) && untouched(0), "64 open brackets", pairs);
+    *pairs = ')';
+    expect(hypuz_parse_notation(bytes(pairs), strlen(pairs), HYPUZ_MAXIMAL, out, ROOM) == refused(HYPUZ_REFUSED_NOT_NOTATION) && untouched(0), "63 more that open than close", pairs);
 }
 
 int main(void) {

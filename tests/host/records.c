@@ -10,9 +10,9 @@
 
 static void say(const uint8_t *r) {
     struct hypuz_span family = hypuz_record_family(r), constraints = hypuz_record_constraints(r), set = hypuz_record_layer_set(r);
-    printf("%u %d %ld %ld %ld ", hypuz_record_kind(r), hypuz_record_is_group(r), (long)hypuz_record_multiplier(r), (long)hypuz_record_u(r), (long)hypuz_record_d(r));
-    printf("%d %u %u %u %d ", hypuz_record_tilde(r), hypuz_record_layers(r), hypuz_record_low(r), hypuz_record_high(r), hypuz_record_has_constraints(r));
-    printf("%lu %lu %lu ", (unsigned long)hypuz_record_first_list(r), (unsigned long)hypuz_record_second_list(r), (unsigned long)hypuz_record_whole(r));
+    printf("%u %d %ld %ld %ld ", (unsigned)hypuz_record_kind(r), hypuz_record_is_group(r), (long)hypuz_record_multiplier(r), (long)hypuz_record_u(r), (long)hypuz_record_d(r));
+    printf("%d %u %u %u %d ", hypuz_record_tilde(r), (unsigned)hypuz_record_layer_form(r), hypuz_record_low(r), hypuz_record_high(r), hypuz_record_has_constraints(r));
+    printf("%lu %lu %lu ", (unsigned long)hypuz_record_first_list(r), (unsigned long)hypuz_record_second_list(r), (unsigned long)hypuz_record_node_size(r));
     printf("%lu %lu %lu %lu ", (unsigned long)family.offset, (unsigned long)family.length, (unsigned long)constraints.offset, (unsigned long)constraints.length);
     printf("%lu %lu %llu\n", (unsigned long)set.offset, (unsigned long)set.length, (unsigned long long)hypuz_record_count(r));
 }
@@ -49,7 +49,7 @@ int main(int argc, char **argv) {
     size_t size;
     for (uint8_t *tree; (tree = next(&size)) != NULL; free(tree)) {
         for (size_t k = 0; k < hypuz_records(size); k++) say(hypuz_record_at(tree, k));
-        printf("room %zu\n", hypuz_display_room(tree, size));
+        printf("room %zu\n", hypuz_display_room_of(tree, size));
     }
     return 0;
 }
