@@ -127,20 +127,26 @@ HYPUZ_INLINE const char *hypuz_refusal_text(unsigned refusal) {
  *   Square-1     (1,-2)  /            (sq1) a pair has numbers from -2147483648 to 2147483647
  *   Megaminx     R++  R--  D++  D--   (megaminx)
  *
- * A family is a run of a-z, A-Z, _ and the Greek letters U+0393 0394 0398 039B 039E 03A0 03A3 03A6 03A8 03A9 03B2 03B4 to 03B8
- * 03BA to 03BC 03BE 03C0 03C4 03C6 03C8 03C9. What it means (w, M, x, lower case) is left to the host.
- * A multiplier is a number up to 2147483647 or none, which means 1, and after it a prime ' or none. Groups, commutators,
- * conjugates, rotations and moves have one. A group plays as often as the number says, and with a prime inverted: its list from
- * the end, with every step undone. Undoing negates a multiplier and both numbers of a pair, exchanges ++ and --, and leaves a
- * pause and a slash as they are. A group of multiplier 0 plays nothing, and what stands in it is not reached.
- * Layers are a number or two with a hyphen, from 1 to 32,767 and in either order, or a layer set (layer_sets): in braces any
- * number of elements with commas between them, each a number or two with .. between them, from -32,767 to 32,767 but not 0, in
- * either order, or with hsc1_layer_ranges also two with a hyphen, which then are not negative. A tilde ~ may stand before the
- * layers, and before the family where there are none (inverted_layers).
- * Constraints (transform_constraints) are in braces any number of elements with commas between them, each a family or two with
- * -> or <> between them.
- * White space may stand just inside brackets and braces, beside a comma, a colon, -> and <>, and nowhere else inside a node.
- * Numbers may have leading zeros.
+ * Families. A family is a run of a-z, A-Z, _ and the Greek letters U+0393 0394 0398 039B 039E 03A0 03A3 03A6 03A8 03A9 03B2
+ * 03B4 to 03B8 03BA to 03BC 03BE 03C0 03C4 03C6 03C8 03C9. What it means (w, M, x, lower case) is left to the host.
+ *
+ * Multipliers. A multiplier is a number up to 2147483647 or none, which means 1, and then a prime ' or none. Groups,
+ * commutators, conjugates, rotations and moves have one. A move or a rotation is one step, whatever its multiplier. A group
+ * plays as often as the number says, and with a prime it plays inverted, from its end with every step undone. Undoing negates
+ * the multiplier and both numbers of a pair, exchanges ++ and --, and leaves a pause and a slash as they are. A group of
+ * multiplier 0 plays nothing, and what stands in it is not reached.
+ *
+ * Layers. Before the family may stand one layer, or a range of two with a hyphen, from 1 to 32,767, or a layer set (layer_sets).
+ * A layer set has any number of elements in braces, with commas between them. An element is a layer or a range of two with ..
+ * between them, each from 1 to 32,767 or from -1 to -32,767; with hsc1_layer_ranges a range may have a hyphen instead, and then
+ * no negative layer. The two of a range stand in either order. A tilde ~ (inverted_layers) may stand before the layers, and also
+ * where there are none.
+ *
+ * Constraints. After the family may stand constraints (transform_constraints): any number of elements in braces, with commas
+ * between them, each a family or two with -> or <> between them.
+ *
+ * White space may also stand just inside brackets and braces, beside a comma, a colon, -> and <>, and nowhere else inside a
+ * node. Numbers may have leading zeros.
  *
  * What some texts give, in steps or by a refusal: 4 where they are not notation in the setting, 7 where a NISS group is reached.
  *
