@@ -5,9 +5,10 @@
  * names and where its family stands. This header is all that a host author has to read; examples/card.c is a host to copy
  * from.
  *
- * Linking. `rt staticlib hypuz_notation` makes target/staticlib/libhypuz_notation.a for x86-64. Of its platform the archive
- * asks for memcpy and memset and nothing else: no library, no heap, no start-up call. The functions keep no state and may be
- * called from any number of threads, each with its own buffers. A stack of 256 KB is enough.
+ * Linking. `rt staticlib hypuz_notation`, where rt is the command of the Rattle toolchain, makes the archive
+ * target/staticlib/libhypuz_notation.a for x86-64, which may also be linked into a shared library. Of its platform it asks for
+ * memcpy and memset and nothing else: no library, no heap, no start-up call. The functions keep no state and may be called from
+ * any number of threads, each with its own buffers. A stack of 256 KB is enough. The header needs C99 or C++11.
  *
  * Answers. Every function answers one number, which holds a refusal and a value. Ask hypuz_refusal first: 0 says that the
  * call did its job, and any other number says why it did not (enum hypuz_refused, hypuz_refusal_text). Then hypuz_value is
@@ -23,11 +24,11 @@
  * character that is not notation, and so is a byte order mark. A tree names parts of its text by their places, so each call is
  * handed the text and the tree together. Any bytes may be given as a tree; those that are no tree over this text are refused.
  *
- * Cost. Reading takes time linear in the text. Every other call checks the whole text and the whole tree first, since nothing
- * is kept between calls: time linear in both. What a function does beyond the check is said where it is declared. To ask
- * something of many records, hand in one at a time: the record of a leaf is a tree by itself, and then only the text is
- * checked as a whole. (A tree put together by hand may name one long part of the text in many records; the check reads that
- * part once for each.)
+ * Cost. Reading takes time linear in the text. Every other call first checks that the text is UTF-8 and that the tree is one,
+ * since nothing is kept between calls: time linear in both. What a function does beyond the check is said where it is declared.
+ * To ask something of many records, hand in one at a time: the record of a leaf is a tree by itself, and the check of the others
+ * is saved. (A tree put together by hand may name one long part of the text in many records; the check reads that part once for
+ * each.)
  */
 #ifndef HYPUZ_NOTATION_H
 #define HYPUZ_NOTATION_H
@@ -156,8 +157,9 @@ HYPUZ_INLINE const char *hypuz_refusal_text(unsigned refusal) {
  *   RU x2                      | 2         | 2         | RU is one move with the family RU, and x2 is a move
  *   RU R'U'                    | refused 4 | refused 4 | nodes that touch
  *   (R U)(R' F)                | refused 4 | refused 4 | nodes that touch
- *   (R U) (R' F)               | 4         | 4         |
+ *   (R U) (R' F) &(R L')       | 6         | 6         | what is played simultaneously is still two steps
  *   ( R ) [ R , ] ()           | 3         | 3         | lists may be empty
+ *   [R]                        | refused 4 | refused 4 | square brackets have two lists
  *   (R U) 2                    | refused 4 | refused 4 | no space before a multiplier
  *   [R: U2 F]' (R U)3          | 10        | 10        |
  *   ^(R)0                      | refused 7 | refused 7 | a NISS group is reached, whatever its multiplier
@@ -167,6 +169,7 @@ HYPUZ_INLINE const char *hypuz_refusal_text(unsigned refusal) {
  *   (1,0)/(3,3)/               | refused 4 | refused 4 | nodes that touch
  *   (+1,0)                     | refused 4 | refused 4 | no plus sign
  *   R++ D-- U'                 | 3         | 3         |
+ *   R++'                       | refused 4 | refused 4 | no multiplier
  *   3-1R 02U                   | 2         | 2         | the range 1-3, and layer 2
  *   0R                         | refused 4 | refused 4 | no layer 0
  *   ~2R ~R                     | refused 4 | 2         |
@@ -195,12 +198,14 @@ HYPUZ_INLINE const char *hypuz_refusal_text(unsigned refusal) {
 
 /* Trees. A tree is a run of records of HYPUZ_RECORD bytes, one for each node, in reading order: the record of a group stands
  * before those of its first list, and these before those of its second. Calls name a record by its number in the tree, counted
- * in records from 0. A step is handed over as a record of its own, undone where it is played so, and is itself a tree over the
- * text, of one leaf. Host code that uses the functions below and HYPUZ_RECORD, and never an offset or a bare number, keeps
+ * in records from 0. A step is handed over as a record of its own, undone where it is played inverted, and is itself a tree over
+ * the text, of one leaf. Host code that uses the functions below and HYPUZ_RECORD, and never an offset or a bare number, keeps
  * working when a record gains a field.
  *
- * For languages that cannot call these functions, the fields by their bits, most significant first; what a kind does not use is
- * 0, and so is the offset of an empty family:
+ * For languages that cannot call these functions, the fields by their bits, most significant first. A group uses the sizes of its
+ * lists and its multiplier, a rotation family, constraints and multiplier, a move these and tilde and layers, a pair its two
+ * numbers, and every record its kind and its count; all else is 0, the multiplier of a pause too, and so is the offset of an empty
+ * family. hypuz_seek_step answers HYPUZ_RECORD, by which such a host can tell whether the record has changed since.
  *
  *   4         kind
  *   1, 2, 1   tilde; form of the layers; whether there are constraints
@@ -321,7 +326,7 @@ HYPUZ_INLINE uint64_t hypuz_record_count(const uint8_t *record) { return hypuz_b
  * HYPUZ_DISPLAY_ROOM is for printing what hypuz_parse_notation made of the text, inverses of that, inverses of these, and any step
  * that hypuz_seek_step finds in one of them. hypuz_display_room_of is for printing any tree, such as a list that hypuz_flatten
  * wrote, a node that was cut out, or a tree put together by hand: it adds to the bytes of the tree those of the parts that its
- * records name, with a quarter more for layer sets, where 1-2 prints as 1..2. */
+ * records name, with a quarter more for layer sets, where 1-2 prints as 1..2. Of bytes that are no tree it may be any number. */
 #define HYPUZ_TREE_ROOM(text_size) (((size_t)(text_size) + 1) / 2 * HYPUZ_RECORD) /* hypuz_parse_notation */
 #define HYPUZ_INVERSE_ROOM(tree_size) ((size_t)(tree_size))     /* hypuz_inv, hypuz_inv_deep: just as many */
 #define HYPUZ_LIST_ROOM(count) ((size_t)(count) * HYPUZ_RECORD) /* hypuz_flatten, by hypuz_count_steps: just as many */
@@ -372,13 +377,14 @@ uint64_t hypuz_flatten(const uint8_t *text, size_t text_size, const uint8_t *tre
  * Refusals: TOO_LONG, NOT_UTF8, NOT_WELL_FORMED, OVERFLOW, NO_ROOM. Room: HYPUZ_INVERSE_ROOM(tree_size).
  * Cost: linear in the tree, beyond the check.
  * Where the tree unrolls, and no step is a pair with -2147483648, the inverse unrolls too: into the same steps undone, from the
- * last to the first. A NISS group is kept and gets the other sign like any group; the inverse is a formal one there, since neither
- * unrolls. Example: (R U)2 [F, D] gives [F, D]' (R U)2'. */
+ * last to the first. The inverse of the inverse is the tree again. A NISS group is kept and gets the other sign like any group;
+ * the inverse is a formal one there, since neither unrolls.
+ * Example: (R U)2 [F, D] gives [F, D]' (R U)2'. */
 uint64_t hypuz_inv(const uint8_t *text, size_t text_size, const uint8_t *tree, size_t tree_size, uint8_t *out, size_t out_size);
 
 /* Writes the deep inverse, a tree over the same text: as the shallow one, but the multipliers of groups stay, with their signs,
- * and what they hold is inverted instead: the list of a group, the second list of a conjugate; the lists of a commutator change
- * places. The lists of a commutator and the first list of a conjugate stay as they are. Value: bytes written.
+ * and instead the list of a group and the second list of a conjugate are inverted deep, and the lists of a commutator change
+ * places. These two lists, and the first of a conjugate, stay as they are inside. Value: bytes written.
  * Refusals: TOO_LONG, NOT_UTF8, NOT_WELL_FORMED, then NISS (a NISS group is to be inverted, also inside a group of multiplier 0) or
  * OVERFLOW, whichever is met first from the end of the tree, then NO_ROOM. Room: HYPUZ_INVERSE_ROOM(tree_size).
  * Cost: linear in the tree, beyond the check.
