@@ -25,10 +25,10 @@
  * handed the text and the tree together. Any bytes may be given as a tree; those that are no tree over this text are refused.
  *
  * Cost. Reading takes time linear in the text. Every other call first checks that the text is UTF-8 and that the tree is one,
- * since nothing is kept between calls: time linear in both. What a function does beyond the check is said where it is declared.
- * To ask something of many records, hand in one at a time: the record of a leaf is a tree by itself, and the check of the others
- * is saved. (A tree put together by hand may name one long part of the text in many records; the check reads that part once for
- * each.)
+ * since nothing is kept between calls: time linear in both. What a function does beyond the check is said where it is declared. To
+ * ask something of many records, hand in one at a time: the record of a leaf is a tree by itself, and the check of the others is
+ * saved, if not that of the text. (A tree put together by hand may name one long part of the text in many records; the check reads
+ * that part once for each.)
  */
 #ifndef HYPUZ_NOTATION_H
 #define HYPUZ_NOTATION_H
@@ -88,7 +88,7 @@ HYPUZ_INLINE const char *hypuz_refusal_text(unsigned refusal) {
     case HYPUZ_ACCEPTED: return "The call was not refused.";
     case HYPUZ_REFUSED_TOO_LONG: return "The text has more than 16,777,215 bytes.";
     case HYPUZ_REFUSED_NOT_UTF8: return "The text is not UTF-8.";
-    case HYPUZ_REFUSED_TOO_NESTED: return "Some beginning of the text opens over 64 more brackets than it closes.";
+    case HYPUZ_REFUSED_TOO_NESTED: return "At some place over 64 more brackets were opened than closed.";
     case HYPUZ_REFUSED_NOT_NOTATION: return "The text is not notation in this setting.";
     case HYPUZ_REFUSED_NO_ROOM: return "The lent buffer is too short.";
     case HYPUZ_REFUSED_NOT_WELL_FORMED: return "The bytes given as a tree are not a well-formed tree over this text.";
@@ -113,12 +113,12 @@ HYPUZ_INLINE const char *hypuz_refusal_text(unsigned refusal) {
     }
 }
 
-/* The notation. A list is any number of nodes, also none, with white space between them, which may also stand at both ends. A
- * text is a list, and so is what stands in brackets. White space is Unicode's, line ends included. There are no comments. The
- * nodes, with the feature that some of them need:
+/* The notation. A list is any number of nodes, also none, with at least one character of white space between two nodes, which may
+ * also stand at both ends. A text is a list, and so is what stands in brackets. White space is what Unicode calls White_Space,
+ * line ends included. There are no comments. The nodes, with the feature that some of them need:
  *
- *   move         R  U2'  3Rw  2-4r  ~{1..3,-1}R{U->F}2   layers, family, constraints and multiplier, all but the family optional
- *   rotation     @x2  @{U->F}'  @     (generalized_rotations) family, constraints and multiplier, all optional
+ *   move         R  U2'  3Rw  2-4r  ~{1..3,-1}R{U->F}2   tilde, layers, family, constraints, multiplier, optional but the family
+ *   rotation     @x2  @{U->F}'  @     (generalized_rotations) family, constraints, multiplier, all optional
  *   group        (R U)2               the list, so many times
  *                !(R U)  &(R L')      macro and simultaneous groups, which play as any group does
  *                ^(R U)               a NISS group, of moves on the inverse of the scramble, which cannot be played
@@ -128,14 +128,15 @@ HYPUZ_INLINE const char *hypuz_refusal_text(unsigned refusal) {
  *   Square-1     (1,-2)  /            (sq1) a pair has numbers from -2147483648 to 2147483647
  *   Megaminx     R++  R--  D++  D--   (megaminx)
  *
+ * Commutators and conjugates are groups too. Groups, rotations and moves have a multiplier, and no other node has one.
+ *
  * Families. A family is a run of a-z, A-Z, _ and the Greek letters U+0393 0394 0398 039B 039E 03A0 03A3 03A6 03A8 03A9 03B2
  * 03B4 to 03B8 03BA to 03BC 03BE 03C0 03C4 03C6 03C8 03C9. What it means (w, M, x, lower case) is left to the host.
  *
- * Multipliers. A multiplier is a number up to 2147483647 or none, which means 1, and then a prime ' or none. Groups,
- * commutators, conjugates, rotations and moves have one. A move or a rotation is one step, whatever its multiplier. A group
- * plays as often as the number says, and with a prime it plays inverted, from its end with every step undone. Undoing negates
- * the multiplier and both numbers of a pair, exchanges ++ and --, and leaves a pause and a slash as they are. A group of
- * multiplier 0 plays nothing, and what stands in it is not reached.
+ * Multipliers. A multiplier is a number from 0 to 2147483647 or none, which means 1, and then a prime ' or none. A move or a
+ * rotation is one step, whatever its multiplier. A group plays as often as the number says, and with a prime it plays inverted,
+ * from its end with every step undone. Undoing negates the multiplier and both numbers of a pair, exchanges ++ and --, and leaves
+ * a pause and a slash as they are. A group of multiplier 0 plays nothing, and what stands in it is not reached.
  *
  * Layers. Before the family may stand one layer, or a range of two with a hyphen, from 1 to 32,767, or a layer set (layer_sets).
  * A layer set has any number of elements in braces, with commas between them. An element is a layer or a range of two with ..
@@ -147,7 +148,8 @@ HYPUZ_INLINE const char *hypuz_refusal_text(unsigned refusal) {
  * between them, each a family or two with -> or <> between them.
  *
  * White space may also stand just inside brackets and braces, beside a comma, a colon, -> and <>, and nowhere else inside a
- * node. Numbers may have leading zeros.
+ * node. No comma stands before the first element or after the last. Numbers are digits from 0 to 9, may have leading zeros, and
+ * have a hyphen before them where they are negative.
  *
  * What some texts give, in steps or by a refusal: 4 where they are not notation in the setting, 7 where a NISS group is reached.
  *
@@ -181,7 +183,7 @@ HYPUZ_INLINE const char *hypuz_refusal_text(unsigned refusal) {
  *   R2147483648                | refused 4 | refused 4 | too large
  */
 
-/* The features of a setting, to be added up; higher bits are ignored. Each admits what stands beside it. */
+/* The features of a setting, to be joined by |; higher bits are ignored. Each admits what stands beside it. */
 #define HYPUZ_INVERTED_LAYERS 1u       /* ~2R */
 #define HYPUZ_LAYER_SETS 2u            /* {1..3,-1}R */
 #define HYPUZ_HSC1_LAYER_RANGES 4u     /* {1-3}R; needs HYPUZ_LAYER_SETS too */
@@ -191,7 +193,7 @@ HYPUZ_INLINE const char *hypuz_refusal_text(unsigned refusal) {
 #define HYPUZ_SQ1 64u                  /* (1,-2) and / */
 #define HYPUZ_CURLY_PRIMES 128u        /* U+2019 and U+2032 as primes, as word processors write them */
 
-/* The named settings. No named setting admits curly primes: add HYPUZ_CURLY_PRIMES to one. */
+/* The named settings. None of them admits curly primes: write HYPUZ_WCA | HYPUZ_CURLY_PRIMES. */
 #define HYPUZ_MINIMAL 0u
 #define HYPUZ_WCA (HYPUZ_MEGAMINX | HYPUZ_SQ1)
 #define HYPUZ_MAXIMAL 127u
@@ -204,8 +206,9 @@ HYPUZ_INLINE const char *hypuz_refusal_text(unsigned refusal) {
  *
  * For languages that cannot call these functions, the fields by their bits, most significant first. A group uses the sizes of its
  * lists and its multiplier, a rotation family, constraints and multiplier, a move these and tilde and layers, a pair its two
- * numbers, and every record its kind and its count; all else is 0, the multiplier of a pause too, and so is the offset of an empty
- * family. hypuz_seek_step answers HYPUZ_RECORD, by which such a host can tell whether the record has changed since.
+ * numbers, and every record its kind and its count. All else is 0: the multiplier of a pause, low and high without layers or with
+ * a set, the place of a set or of constraints that are not there, and also the offset of an empty family. hypuz_seek_step answers
+ * HYPUZ_RECORD, by which such a host can tell whether the record has changed since.
  *
  *   4         kind
  *   1, 2, 1   tilde; form of the layers; whether there are constraints
@@ -219,10 +222,10 @@ HYPUZ_INLINE const char *hypuz_refusal_text(unsigned refusal) {
  * It is 1 in a leaf, whatever its multiplier, and 0 in a group of multiplier 0 and in a NISS group, which adds nothing to what
  * holds it; what stands inside has its own count all the same. Whether a tree unrolls at all, hypuz_count_steps tells.
  *
- * Reading and both inverses write trees, and a node cut out with all that it holds is one too. Whoever puts records together
- * otherwise has to keep these rules, or the tree is refused (HYPUZ_REFUSED_NOT_WELL_FORMED): the length is a multiple of
- * HYPUZ_RECORD; kinds are 0 to 14 and unused fields 0; parts lie inside the text; lists end inside the list that holds them;
- * groups stand at most HYPUZ_MAX_NESTING deep; layers are from 1 to HYPUZ_MAX_LAYER, low not above high, equal in a single
+ * Reading, both inverses, unrolling and seeking write trees, and a node cut out with all that it holds is one too. Whoever puts
+ * records together otherwise has to keep these rules, or the tree is refused (HYPUZ_REFUSED_NOT_WELL_FORMED): the length is a
+ * multiple of HYPUZ_RECORD; kinds are 0 to 14 and unused fields 0; parts lie inside the text; lists end inside the list that holds
+ * them; groups stand at most HYPUZ_MAX_NESTING deep; layers are from 1 to HYPUZ_MAX_LAYER, low not above high, equal in a single
  * layer; no multiplier is -2147483648; families have family characters only, and at least one in a move; layer sets and
  * constraints are what reading admits with all features; and every count is right. */
 #define HYPUZ_RECORD 38
@@ -346,7 +349,8 @@ HYPUZ_INLINE size_t hypuz_display_room_of(const uint8_t *tree, size_t tree_size)
 /* Reads a text in a setting and writes its tree. Value: bytes written, HYPUZ_RECORD for each node.
  * Refusals: TOO_LONG, NOT_UTF8, TOO_NESTED, NOT_NOTATION, NO_ROOM. Room: HYPUZ_TREE_ROOM(text_size).
  * TOO_NESTED is given where some beginning of the text has over HYPUZ_MAX_NESTING more of ( and [ than of ) and ], those of
- * Square-1 pairs included; braces do not count. Where in the text a mistake stands is not told.
+ * Square-1 pairs included, so that a pair inside 64 groups is refused, which a tree may hold; braces do not count. Where in the
+ * text a mistake stands is not told.
  * Example: [R: U2 F]' gives four records, of the conjugate, of R, of U2 and of F. */
 uint64_t hypuz_parse_notation(const uint8_t *text, size_t text_size, uint32_t features, uint8_t *tree, size_t tree_size);
 
@@ -382,11 +386,12 @@ uint64_t hypuz_flatten(const uint8_t *text, size_t text_size, const uint8_t *tre
  * Example: (R U)2 [F, D] gives [F, D]' (R U)2'. */
 uint64_t hypuz_inv(const uint8_t *text, size_t text_size, const uint8_t *tree, size_t tree_size, uint8_t *out, size_t out_size);
 
-/* Writes the deep inverse, a tree over the same text: as the shallow one, but the multipliers of groups stay, with their signs,
- * and instead the list of a group and the second list of a conjugate are inverted deep, and the lists of a commutator change
- * places. These two lists, and the first of a conjugate, stay as they are inside. Value: bytes written.
+/* Writes the deep inverse, a tree over the same text: the outer list reversed and its leaves undone. Groups keep their multipliers,
+ * with their signs. The list of a group with a single list, and the second list of a conjugate, are inverted deep in their turn; the
+ * two lists of a commutator change places, unchanged inside; the first list of a conjugate stays. Value: bytes written.
  * Refusals: TOO_LONG, NOT_UTF8, NOT_WELL_FORMED, then NISS (a NISS group is to be inverted, also inside a group of multiplier 0) or
- * OVERFLOW, whichever is met first from the end of the tree, then NO_ROOM. Room: HYPUZ_INVERSE_ROOM(tree_size).
+ * OVERFLOW, whichever is met first when each list is gone through from its end, a group before what it holds, then NO_ROOM.
+ * Room: HYPUZ_INVERSE_ROOM(tree_size).
  * Cost: linear in the tree, beyond the check.
  * Example: (R U)2' [F, D] gives [D, F] (U' R')2'. */
 uint64_t hypuz_inv_deep(const uint8_t *text, size_t text_size, const uint8_t *tree, size_t tree_size, uint8_t *out,
@@ -397,13 +402,15 @@ uint64_t hypuz_inv_deep(const uint8_t *text, size_t text_size, const uint8_t *tr
  * hypuz_display_room_of. Cost: linear in what is printed, beyond the check.
  * One space stands between nodes, so line ends print as spaces, and one after the comma or colon of a commutator, a conjugate and
  * a pair, so a pair has a space inside: (1, -2). Layer sets and constraints print without white space, and ranges in sets with .. .
- * A multiplier of 1 and leading zeros are left out, and every prime is an apostrophe. What is printed of a tree that reading gave,
- * or of its shallow inverse, is read again in the same setting with the same meaning, unless it is longer than a text may be.
+ * A range before a family prints with its lower layer first, one in a set as it was written. A multiplier of 1, leading zeros and
+ * the sign of 0 are left out, and every prime is an apostrophe. What is printed of a tree that reading gave, or of its shallow
+ * inverse, is read again in the same setting with the same meaning, unless it is longer than a text may be.
  * Example: (R1  U)02 with a line end after it gives (R U)2, and {1-2, 3}R{A -> B} gives {1..2,3}R{A->B}. */
 uint64_t hypuz_display(const uint8_t *text, size_t text_size, const uint8_t *tree, size_t tree_size, uint8_t *out, size_t out_size);
 
-/* Resolves the written prefix of a move on an axis of max_layer layers, 1 being the outermost, and writes the layers as ranges by
- * depth, none touching another. Value: how many ranges, not bytes; hypuz_range_low and hypuz_range_high take each apart.
+/* Resolves the written prefix of a move on an axis of max_layer layers, 1 being the outermost, and writes the layers as ranges in
+ * rising order, with a layer or more left out between two of them. Value: how many ranges, not bytes; hypuz_range_low and
+ * hypuz_range_high take each apart.
  * Refusals: TOO_LONG, NOT_UTF8, NOT_WELL_FORMED, NO_SUCH_LAYER_COUNT (max_layer is 0 or above HYPUZ_MAX_LAYER), NO_SUCH_RECORD
  * (there is no record with this number, or it is not a move), NO_ROOM. Room: HYPUZ_RANGES_ROOM. Cost: linear in max_layer and
  * the layer set, beyond the check.
@@ -411,7 +418,8 @@ uint64_t hypuz_display(const uint8_t *text, size_t text_size, const uint8_t *tre
  * 1-1, and 3Rw gives 3-3. In a layer set -1 is the deepest layer, -2 the one before it and so on, unless allow_negatives is 0:
  * then an element of the set that has a negative number gives nothing. What of a number or a range is not from 1 to max_layer is
  * left out. With a tilde the answer is the layers from 1 to max_layer that the same prefix without it does not give.
- * Example, on five layers: {1,3,2,-1}R gives 1-3 and 5-5, with allow_negatives 0 only 1-3; ~2R gives 1-1 and 3-5. */
+ * Examples, on five layers: {1,3,2,-1}R gives 1-3 and 5-5, with allow_negatives 0 only 1-3; {-1..2}R gives 2-5, {-9..2}R gives
+ * 1-2, and {6..9}R nothing; ~2R gives 1-1 and 3-5. */
 uint64_t hypuz_simplify(const uint8_t *text, size_t text_size, const uint8_t *tree, size_t tree_size, uint64_t record,
                         uint32_t max_layer, uint32_t allow_negatives, uint8_t *out, size_t out_size);
 
