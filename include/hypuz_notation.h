@@ -387,8 +387,8 @@ uint64_t hypuz_flatten(const uint8_t *text, size_t text_size, const uint8_t *tre
 uint64_t hypuz_inv(const uint8_t *text, size_t text_size, const uint8_t *tree, size_t tree_size, uint8_t *out, size_t out_size);
 
 /* Writes the deep inverse, a tree over the same text: the outer list reversed and its leaves undone. Groups keep their multipliers,
- * with their signs. The list of a group with a single list, and the second list of a conjugate, are inverted deep in their turn; the
- * two lists of a commutator change places, unchanged inside; the first list of a conjugate stays. Value: bytes written.
+ * with their signs. The list of a group with a single list, and the second list of a conjugate, are inverted deep in their turn;
+ * the two lists of a commutator change places, unchanged inside; the first list of a conjugate stays. Value: bytes written.
  * Refusals: TOO_LONG, NOT_UTF8, NOT_WELL_FORMED, then NISS (a NISS group is to be inverted, also inside a group of multiplier 0) or
  * OVERFLOW, whichever is met first when each list is gone through from its end, a group before what it holds, then NO_ROOM.
  * Room: HYPUZ_INVERSE_ROOM(tree_size).
