@@ -234,7 +234,10 @@ static void printed_within(const struct input *i, const uint8_t *tree, size_t si
     free(out);
 }
 
-/* Checks the rooms of what the library makes over a text: its tree, the inverses of that, and the step at a place. */
+static void reads_back(const struct input *i, const uint8_t *tree, size_t size);
+
+/* Checks the rooms of what the library makes over a text: its tree, the inverses of that, and the step at a place. The tree and its shallow inverse,
+ * printed, are read back too, whether they unroll or not. */
 static void rooms(const struct input *i) {
     size_t room = HYPUZ_TREE_ROOM(i->text_size), shown = HYPUZ_DISPLAY_ROOM(i->text_size);
     uint8_t *tree = malloc(room + 1), *inverse = malloc(room + 1), step[HYPUZ_STEP_ROOM];
@@ -242,12 +245,14 @@ static void rooms(const struct input *i) {
     demand(hypuz_refusal(read) != HYPUZ_REFUSED_NO_ROOM, "the room for a tree");
     if (!hypuz_refusal(read)) {
         printed_within(i, tree, read, shown, "the room for a text that was read");
+        reads_back(i, tree, read);
         struct input own = *i;
         own.tree = tree, own.tree_size = read;
         for (int deep = 0; deep < 2; deep++) {
             uint64_t inverted = (deep ? inv_deep : inv)(&own, inverse, HYPUZ_INVERSE_ROOM(read));
             demand(hypuz_refusal(inverted) != HYPUZ_REFUSED_NO_ROOM, "the room for an inverse");
             if (!hypuz_refusal(inverted)) printed_within(i, inverse, inverted, shown, "the room for an inverse as text");
+            if (!deep && !hypuz_refusal(inverted)) reads_back(i, inverse, inverted);
         }
         uint64_t found = seek(&own, step, sizeof step);
         demand(hypuz_refusal(found) != HYPUZ_REFUSED_NO_ROOM, "the room for a step");
