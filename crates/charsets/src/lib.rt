@@ -1,5 +1,7 @@
 // Characters and texts: which characters a family name may hold, what is a prime, what is white space, and UTF-8.
 
+#![tactic(auto)]
+
 pub mod chars;
 mod classes;
 pub mod utf8;

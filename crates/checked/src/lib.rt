@@ -1,4 +1,7 @@
 // What every entry asks first of a text and a tree, and what every entry that unrolls asks next.
+
+#![tactic(auto)]
+
 ghost use Rattle.std.specs.Prelude.{◌≡◌, ℕ, List};
 ghost use Rattle.notation.specs.Refusals.{result};
 ghost use Rattle.notation.specs.Lending.{outcome};

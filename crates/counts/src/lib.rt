@@ -1,6 +1,9 @@
 // Step counts as records store them: capped, so that a count above 4,294,967,295 is 4,294,967,296. Sums and products of
 // capped counts are capped again. The pass that fills the counts in (crate `tally`) works by these functions, and refusal 6
 // compares the stored ones with them.
+
+#![tactic(auto)]
+
 ghost use Rattle.std.specs.Prelude.{◌≡◌, ◌+◌, ◌^◌, ◌≤◌, ◌<◌};
 ghost use Rattle.notation.specs.Numbers.{from_bits};
 ghost use Rattle.notation.specs.Counts as rule;

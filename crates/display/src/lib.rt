@@ -1,5 +1,7 @@
 // Printing a packed tree: the `Display` of the Rust's unspanned.rs and common.rs.
 
+#![tactic(auto)]
+
 pub mod bound;
 mod common;
 mod constraints;

@@ -1,6 +1,8 @@
 // The entries that take a tree: each asks `checked::check` first, and its answer and the final bytes of its buffer are
 // those of its rule in notation/specs/Entries.
 
+#![tactic(auto)]
+
 pub mod inverses;
 pub mod parts;
 pub mod printing;

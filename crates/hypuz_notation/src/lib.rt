@@ -1,6 +1,8 @@
 // The public entries by the Rust's names, and what is said of them together: that they agree about a text (demand 3),
 // and what a host that calls from C is handed.
 
+#![tactic(auto)]
+
 pub mod agreement;
 pub mod host;
 

@@ -1,6 +1,8 @@
 // Both inverses of a packed tree (invert.rs and the `Invert` impls). A packed list can only be walked forwards, so each
 // node is written at its place counted from the end.
 
+#![tactic(auto)]
+
 pub mod parts;
 pub mod refusal;
 

@@ -1,5 +1,7 @@
 // Layers of an axis and ranges of them: the Rust's layer/.
 
+#![tactic(auto)]
+
 pub mod count;
 pub mod range;
 pub mod signed;

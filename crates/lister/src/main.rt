@@ -1,6 +1,8 @@
 // The lister: reads a line that names the features and a text, and writes the text, its inverse and its steps (document
 // 01).
 
+#![tactic(auto)]
+
 use libc::{STDIN_FILENO, STDOUT_FILENO};
 use listing::{MAX_LISTING, MAX_READ};
 

@@ -1,5 +1,7 @@
 // The listing of a text, as the lister program writes it (document 01).
 
+#![tactic(auto)]
+
 pub mod lines;
 pub mod whole;
 

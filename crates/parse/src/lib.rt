@@ -1,5 +1,7 @@
 // Reading: the parts of the notation from an offset of the text on, and a whole text into a packed tree.
 
+#![tactic(auto)]
+
 pub mod leaves;
 mod look;
 mod nesting;

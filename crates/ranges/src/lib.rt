@@ -1,6 +1,9 @@
 // Layer ranges into a lent run of ranges, each low and high: the Rust's `Vec<LayerRange>`. The checker covers no
 // function that takes a slice of structs, so `fill` and `simplify` are proved by a walk of their MIR, by hand, and hold
 // as little as can be: the work is done on bytes.
+
+#![tactic(auto)]
+
 ghost use Rattle.std.specs.Prelude.{◌≡◌, ◌++◌, map, ◌+◌, ◌*◌, ◌≤◌, length, drop};
 ghost use Rattle.notation.specs.Entries as rule;
 ghost use Rattle.layer.specs.Meaning as meaning;

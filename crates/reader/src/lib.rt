@@ -2,6 +2,8 @@
 // takes the struct apart and leaves the work to a function on a slice and a number; the text stays, and the cursor moves
 // on.
 
+#![tactic(auto)]
+
 ghost use Rattle.std.specs.Prelude.{◌≡◌, ◌≤◌, eqb, length};
 ghost use Rattle.notation.specs.Entries.{MAX-TEXT};
 ghost use Rattle.notation.specs.Numbers.{from_bits};

@@ -2,6 +2,9 @@
 // group that it belongs to, so each list has a running sum, its tally, until its group takes it. Lists that are open at
 // one time have tallies of different numbers, and until a record's count is filled in, the field holds the number of its
 // list's tally: in `[R: U] F` the conjugate and F have 0, R has 2 and U has 1.
+
+#![tactic(auto)]
+
 ghost use Rattle.std.specs.Prelude.{◌≡◌, ◌+◌, ◌/◌, ◌≤◌, ◌<◌, length, get_or, set};
 ghost use Rattle.notation.specs.Tree.{Tree};
 ghost use Rattle.notation.specs.Numbers.{from_bits};

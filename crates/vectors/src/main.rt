@@ -1,6 +1,9 @@
 // Runs stored cases: each line of standard input is one case, and its answer is one line of standard output, which the
 // gate compares with the file stdout. tests/reference/vectors.py makes both files. A line's first byte tells which entry
 // it is for.
+
+#![tactic(auto)]
+
 mod agreement;
 mod calls;
 mod hex;

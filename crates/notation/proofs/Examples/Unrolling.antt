@@ -43,6 +43,7 @@ not_entered = refl
 only_outer : {e : Bool} {x : Node Leaf} → Reached false (cons outer nil) e x → x ≡ outer
 only_outer here = refl
 only_outer (inside nonzero enters r) = absurd (nonzero refl)
+only_outer {e = e} (later r) = elim r [ ]
 
 -- in `^(R)0` the NISS group is reached
 niss_at_zero : (tree_in MAXIMAL (ascii "^(R)0") ≡ result (cons (niss_in (pos 0) 2) nil))
@@ -64,6 +65,8 @@ both_ways = (refl, λ e. inside (λ (z : pos 1 ≡ pos 0). let w : ◌≡◌ {A 
 one_way : {e : Bool} → Reached false conjugated e (turn 18) → e ≡ false
 one_way (inside nonzero in_first (later r)) = elim r [ ]
 one_way (inside nonzero in_conjugate here) = refl
+one_way {e = e} (later r) = elim r [ ]
+one_way {e = e} (inside nonzero in_conjugate (later r)) = elim r [ ]
 
 -- a leaf is one step, multiplier 0 included; a pause and a slash stay as they are, `++` and `--` are exchanged
 leaves : listed "(R0 . / (3,-3) R++ D-- @U2')'" ≡ as_listed ("@U2" ∷ "D++" ∷ "R--" ∷ "(-3, 3)" ∷ "/" ∷ "." ∷ "R0" ∷ [])
