@@ -8,6 +8,7 @@ use Rattle.notation.specs.Numbers.{to_bits, from_bits, fits_bits}
 
 -- the highest bit is one half of the range
 halves : (w : ℕ) → 0 < w → 2 ^ w ≡ 2 ^ (w - 1) + 2 ^ (w - 1)
+halves zero h = elim h [ ]
 halves (suc w) h = rw (sub-one, two-pow-succ)
 
 pub to_bits_lt : (w : ℕ) (z : ℤ) → 0 < w → fits_bits w z ≡ true → to_bits w z < 2 ^ w

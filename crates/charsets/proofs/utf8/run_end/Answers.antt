@@ -1,0 +1,29 @@
+-- `charsets::utf8::run_end` meets its contract: by the laws of a walk along a run.
+use Prim.Native.Nat.{ℕ, ◌-◌}
+use mathlib.Core.Bool.{Bool}
+use native.Mathlib.Omega.{arith}
+use borrow.Author.Rules.{rules}
+use lib.ListN.{length}
+use Rattle.notation.specs.Basics.{pick}
+use Rattle.notation.specs.Chars.{is_family_char, white_space}
+use Rattle.charsets.proofs.Runs.{Reached, set_out, fits, goes_on, arrived, at-the-end}
+use Rattle.charsets.proofs.utf8.run_end.Goals as goal
+use Rattle.charsets.proofs.utf8.run_end.Invariants.{wanted}
+
+pub loop-end-init : goal.loop-end-init
+loop-end-init c = set_out (wanted c.args.white) c.requires
+
+pub returns-then-width-eq0 : goal.returns-then-width-eq0
+returns-then-width-eq0 c = arrived _ c.loop-end.invariant c.width-width.ensures c.if-width-eq0.true
+
+pub overflow_add-end : goal.overflow_add-end
+overflow_add-end c = omega (arith, fits _ c.loop-end.invariant c.width-width.ensures)
+
+pub loop-end-smaller : goal.loop-end-smaller
+loop-end-smaller c = omega (arith, fits _ c.loop-end.invariant c.width-width.ensures)
+
+pub loop-end-preserved : goal.loop-end-preserved
+loop-end-preserved c = goes_on _ c.loop-end.invariant c.width-width.ensures (omega arith)
+
+pub returns : goal.returns
+returns c = at-the-end _ c.loop-end.invariant c.loop-end-test.false

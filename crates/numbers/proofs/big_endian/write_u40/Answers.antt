@@ -1,0 +1,13 @@
+use Rattle.std.proofs.Common.{ℕ, ◌+◌, ◌/◌, ◌%◌, List, ap, ◌∙◌, rules}
+use lib.Seq.{sets}
+use Rattle.notation.specs.Numbers.{big_endian}
+use Rattle.numbers.proofs.BigEndian.{last_byte, store-parts}
+use Rattle.numbers.proofs.big_endian.write_u40.Goals as goal
+
+pub returns : goal.returns
+returns c =
+    let a = c.args in
+    c.write_u32.ensures
+    ∙ ap (λ (l : List ℕ). sets l (a.at + 1) (big_endian 4 (a.n % 4294967296))) c.write_u8.ensures
+    ∙ ap (λ (l : List ℕ). sets (sets a.out.now a.at l) (a.at + 1) (big_endian 4 (a.n % 4294967296))) (last_byte (a.n / 4294967296))
+    ∙ store-parts a.out.now a.at 1 4 a.n

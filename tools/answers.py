@@ -1,0 +1,462 @@
+#!/usr/bin/env python3
+"""Turns proofs in the older form, Proof.antt over `Tie`, into today's Invariants.antt and Answers.antt.
+
+usage: answers.py NAMES.json CRATE [FUNCTION..]
+
+NAMES.json is what `rt check --generated DIR --old-names` writes in the crate's folder. CRATE is that folder. For each crates/../proofs/../Proof.antt that is
+written over `Tie` it writes the two files beside it, with every goal under its new name and every fact under its new path, and removes Proof.antt. An answer
+that is only `search rules` is left out, since the check tries that itself. What it cannot turn it prints.
+"""
+
+import json
+import os
+import re
+import sys
+
+DELIM = r"\s(){}\[\],;.:"
+NAME = rf"[^{DELIM}]+"
+PATH = re.compile(rf"(?<![^\s(\[{{,;])({NAME})((?:\.{NAME})*)")
+GARBLED = {"all_IsAscii": "all_ascii", "is_IsLeaf": "is_leaf", "walk_Meets": "walk_meets", "step_Lines": "step_lines"}
+
+
+def norm(s):
+    s = GARBLED.get(s.replace("-", "_"), s)
+    return GARBLED.get(s, s).replace("-", "_")
+
+
+class Entry:
+    """What names.json says of one function."""
+
+    def __init__(self, e):
+        self.places = {norm(p[0]): p for p in e["places"]}
+        self.order = [p[0] for p in e["places"]]
+        self.new = dict(zip((norm(p[0]) for p in e["places"]), e["places_by_name"]))
+        self.arms = {norm(p[0]): a for p, a in zip(e["places"], e["arms"])}
+        self.typed = {norm(p[0]): t for p, t in zip(e["places"], e["typed"])}
+        self.needs = {norm(a): (b, norm(at[0])) for (a, b), at in zip(e["needs"], e["asked_at"])}
+        self.need_list = [(norm(a), b, norm(at[0])) for (a, b), at in zip(e["needs"], e["asked_at"])]
+        self.settled = e["settled"]
+        self.loops = {norm(l[0][0]): (l[0][1], l[1], ch) for l, ch in zip(e["loops"], e["changed"])}
+
+    def parent(self, place):
+        p = self.places[place][1]
+        return norm(p) if p else None
+
+    def need(self, name):
+        n = norm(name)
+        for cut in ("", "overflow_", "slice_bounds_"):
+            m = n[len(cut):] if cut and n.startswith(cut) else n if not cut else None
+            if m is None:
+                continue
+            for alt in (m, "part_" + m if cut == "slice_bounds_" else m, "slice_bounds_" + m if cut == "slice_bounds_" else m):
+                if alt in self.needs:
+                    return self.needs[alt]
+        for new, at in self.needs.values():
+            if norm(new) == n:
+                return new, at
+        return None
+
+
+class File:
+    def __init__(self, path, entry, module, said, params):
+        self.path, self.entry, self.module, self.said, self.params = path, entry, module, said, params
+        with open(path, encoding="utf-8") as f:
+            self.text = f.read()
+        self.shared, self.alias, self.imports = [], {}, set()
+
+    def say(self, what):
+        self.said.append(f"{self.path}: {what}")
+
+    # paths -----------------------------------------------------------------
+    def walk(self, place, comps, goal, home):
+        """The text for a path from a record at a place. Returns (text, place): the place where the path ends at a record, else None."""
+        e, cur, i = self.entry, place, 0
+        while i < len(comps):
+            comp = comps[i]
+            n = norm(comp)
+            if n == "before":
+                up = e.parent(cur)
+                if up is None:
+                    self.say(f"no place before {cur}: {'.'.join(comps)}")
+                    return None, None
+                cur, i = up, i + 1
+                continue
+            old, new = e.places[cur][2]
+            rest = comps[i + 1:]
+            if norm(old) == n and old:
+                arm = e.arms.get(cur)
+                if arm:
+                    for field, step, at in arm[2]:
+                        if norm(step) == n and [norm(x) for x in at] == [norm(x) for x in rest[:len(at)]] and at:
+                            return ".".join(["c", arm[0], field] + rest[len(at):]), None
+                    if rest[:1] == ["rest"] and any(field == "in_default-own" for field, _, _ in arm[2]):
+                        rest = ["in_default-own"] + rest
+                    return ".".join(["c", arm[0]] + rest), None
+                if n.startswith("shared_slice_known") and rest[:1] == ["given"]:
+                    for var, step in e.typed.get(cur, []):
+                        if norm(step) == n:
+                            return ".".join(["c", "type_inv", var] + rest[1:]), None
+                return ".".join(["c", new] + rest), None
+            if cur == "Start" or n in ("args", "requires", "lifetimes", "ranges"):
+                if n == "args" and i + 1 < len(comps):
+                    comps = comps[:i + 1] + [comps[i + 1].replace("-", "_")] + comps[i + 2:]
+                return ".".join(["c"] + comps[i:]), None
+            # a flat field of the place
+            self.say(f"at {cur}: {'.'.join(comps)}")
+            return ".".join(["c"] + comps[i:]), None
+        return None, cur
+
+    def record(self, cur, goal, home):
+        if cur == home:
+            return "c"
+        if goal is None:
+            self.say(f"a helper hands on the place {cur}")
+            return f"(?{self.entry.new[cur]})"
+        return f"(goal.at.{goal} c).{self.entry.new[cur]}"
+
+    def turn(self, text, env, goal, home):
+        out, at = [], 0
+        env = dict(env)
+        let = re.compile(rf"let ({NAME}) = ((?:{NAME})(?:\.{NAME})*) in\s*")
+        fn = re.compile(rf"\(({NAME}) ({NAME}(?:\.{NAME})*)\)((?:\.{NAME})*)")
+        bare = re.compile(rf"({NAME}) ({NAME}(?:\.{NAME})*)(?![^\s)\],;])")
+        while at < len(text):
+            prev = text[at - 1] if at else " "
+            start = prev in " \n\t([{,;" or at == 0
+            if start:
+                m = let.match(text, at)
+                if m:
+                    root, *comps = m.group(2).split(".")
+                    if root in env:
+                        t, cur = self.walk(env[root], comps, goal, home)
+                        if cur is not None:
+                            env[m.group(1)] = cur
+                            at = m.end()
+                            continue
+                m = re.compile(rf"let ({NAME}) = ({NAME}) ({NAME}(?:\.{NAME})*) in\s*").match(text, at)
+                if m and m.group(2) in self.alias:
+                    root, *comps = m.group(3).split(".")
+                    if root in env:
+                        env[m.group(1)] = self.alias[m.group(2)]
+                        at = m.end()
+                        continue
+                m = fn.match(text, at)
+                if m and m.group(1) in self.alias:
+                    root, *comps = m.group(2).split(".")
+                    if root in env:
+                        rest = [x for x in m.group(3).split(".") if x]
+                        t, cur = self.walk(self.alias[m.group(1)], rest, goal, home)
+                        out.append(t if cur is None else self.record(cur, goal, home))
+                        at = m.end()
+                        continue
+                m = PATH.match(text, at)
+                if m and m.group(1) in env:
+                    comps = [x for x in m.group(2).split(".") if x]
+                    t, cur = self.walk(env[m.group(1)], comps, goal, home)
+                    out.append(t if cur is None else self.record(cur, goal, home))
+                    at = m.end()
+                    continue
+                if m and m.group(1) in self.alias and not m.group(2):
+                    m2 = bare.match(text, at)
+                    if m2 and m2.group(2).split(".")[0] in env:
+                        out.append(self.record(self.alias[m.group(1)], goal, home))
+                        at = m2.end()
+                        continue
+                if m:
+                    out.append(m.group(0))
+                    at = m.end()
+                    continue
+            out.append(text[at])
+            at += 1
+        done = re.sub(r"\.branch(?![\w-])", ".branch-raw", "".join(out))
+        return re.sub(rf"(?<=\.)({NAME})", lambda m: m.group(1).replace("-", "_") if m.group(1).replace("-", "_") in self.params else m.group(1), done)
+
+    # declarations -------------------------------------------------------------
+    def parts(self):
+        lines = self.text.split("\n")
+        blocks, cur = [], []
+        for l in lines:
+            if not l.strip():
+                if cur:
+                    blocks.append(cur)
+                cur = []
+            else:
+                cur.append(l)
+        if cur:
+            blocks.append(cur)
+        return blocks
+
+    def place_type(self, t):
+        t = t.strip()
+        m = re.fullmatch(rf"tie\.({NAME})((?: {NAME})*)", t)
+        if m and norm(m.group(1)) in self.entry.places:
+            return norm(m.group(1))
+        m = re.fullmatch(rf"tie\.({NAME})((?: {NAME})*)", t)
+        if m:
+            for old, new in self.entry.new.items():
+                if norm(new) == norm(m.group(1)):
+                    return old
+        return None
+
+    def segments(self, sig):
+        depth, seg, out = 0, "", []
+        for ch in sig:
+            if ch in "({[":
+                depth += 1
+            if ch in ")}]":
+                depth -= 1
+            if ch == "→" and depth == 0:
+                out.append(seg.strip())
+                seg = ""
+            else:
+                seg += ch
+        out.append(seg.strip())
+        flat = []
+        for s in out:
+            # binder groups that follow one another without an arrow
+            groups, depth, start = [], 0, 0
+            for i, ch in enumerate(s):
+                if ch in "({[":
+                    if depth == 0:
+                        start = i
+                    depth += 1
+                if ch in ")}]":
+                    depth -= 1
+                    if depth == 0:
+                        groups.append(s[start:i + 1])
+            if len(groups) > 1 and " ".join(groups) == s and all(re.match(r"[({][^:]* : ", g) for g in groups):
+                flat += groups
+            else:
+                flat.append(s)
+        return flat
+
+    def place_new(self, place):
+        self.imports.add(self.entry.new[place])
+        return self.entry.new[place]
+
+    def decl(self, block):
+        comments = [l for l in block if l.startswith("--")]
+        body = [l for l in block if not l.startswith("--")]
+        if not body:
+            return ("comment", block)
+        if body[0].startswith(("use ", "pub use ")) or body[0].startswith("  ") or body[0].startswith("}"):
+            return ("use", block)
+        # signature up to the first line that begins with the name again or 'unfolding'
+        m = re.match(rf"((?:abbrev |pub |unfoldable )*)({NAME}) : ", body[0])
+        if not m:
+            return ("other", block)
+        name = m.group(2)
+        k = 1
+        while k < len(body) and not body[k].startswith(name + " ") and not body[k].startswith("unfolding"):
+            k += 1
+        sig = "\n".join(body[:k])[m.end():]
+        unf = []
+        while k < len(body) and (body[k].startswith("unfolding") or (unf and body[k].startswith(" ") and not body[k].startswith(name))):
+            unf.append(body[k])
+            k += 1
+        return ("decl", (comments, m.group(1), name, sig, unf, body[k:]))
+
+    def clauses(self, name, lines):
+        out = []
+        for l in lines:
+            if l.startswith(name + " ") or l.startswith(name + "="):
+                out.append(l)
+            else:
+                out[-1] += "\n" + l
+        return out
+
+    def run(self):
+        uses, answers, invariants, inv_names = [], [], [], {}
+        head = []
+        for block in self.parts():
+            kind, what = self.decl(block)
+            if kind == "comment":
+                head.append("\n".join(block))
+                continue
+            if kind == "use":
+                for l in block:
+                    if l.startswith("--"):
+                        head.append(l)
+                uses.append("\n".join(l for l in block if not l.startswith("--")))
+                continue
+            if kind == "other":
+                self.say("left: " + block[0])
+                answers.append("\n".join(block))
+                continue
+            comments, mods, name, sig, unf, rest = what
+            one = " ".join(sig.split())
+            if one.endswith("→ statement M") or " statement M" in one and "tie." not in one:
+                continue
+            m = re.fullmatch(r"tie\.(invariant|decreases)-(\S+)", one)
+            if m:
+                loop = self.entry.loops.get(norm(m.group(2)))
+                if loop is None:
+                    self.say(f"no loop {m.group(2)}")
+                    continue
+                inv_names[name] = 1
+                new, vars_, changed = loop
+                clause = self.clauses(name, rest)
+                if len(clause) != 1:
+                    self.say(f"{name}: {len(clause)} clauses")
+                lhs, rhs = clause[0].split(" =", 1)
+                pars = lhs.split()[1:]
+                same = [v for v, c in zip(vars_, changed) if not c]
+                diff = [v for v, c in zip(vars_, changed) if c]
+                news = [f"l.{v}" for v in same] + [f"l.initial.{v}" for v in diff] + [f"l.{v}" for v in diff]
+                if len(pars) != len(news):
+                    self.say(f"{name}: parameters {pars} for {news}")
+                table = dict(zip(pars, news))
+                rhs = PATH.sub(lambda t: table.get(t.group(1), t.group(1)) + t.group(2), rhs)
+                word = f"{m.group(1)}-{new}"
+                invariants.append("\n".join(comments + [f"abbrev pub {word} : goal.{word}"] + unf + [f"{word} l ={rhs}"]))
+                continue
+            m = re.match(rf"tie\.Need-({NAME})((?: {NAME})*)$", one)
+            if m:
+                need = self.entry.need(m.group(1))
+                body_text = "\n".join(rest)
+                trivial = re.fullmatch(rf"{re.escape(name)} c(?: κs)? = search rules", body_text.strip())
+                if need is None:
+                    if not trivial:
+                        self.say(f"no goal for {m.group(1)}: {body_text[:200]}")
+                    continue
+                new, at = need
+                if trivial:
+                    continue
+                parts = []
+                for clause in self.clauses(name, rest):
+                    lhs, rhs = clause.split(" =", 1)
+                    pars = lhs.split()[1:]
+                    if pars[:1] != ["c"]:
+                        self.say(f"{name}: parameters {pars}")
+                    pars = [p for p in pars if p != "κs"]
+                    parts.append(f"{new} {' '.join(pars)} =" + self.turn(rhs, {"c": at}, new, at))
+                answers.append("\n".join(comments + [f"pub {new} : goal.{new}"] + unf + parts))
+                continue
+            # a helper, perhaps over places
+            segs = self.segments(one)
+            places = {}
+            newsegs = []
+            for i, s in enumerate(segs):
+                p = re.fullmatch(rf"\(({NAME}) : (tie\.{NAME}(?: {NAME})*)\)", s)
+                if p and self.place_type(p.group(2)):
+                    places[i] = (p.group(1), self.place_type(p.group(2)))
+                elif self.place_type(s):
+                    places[i] = (None, self.place_type(s))
+            if not places:
+                if "tie." in one:
+                    self.say(f"helper {name}: {one}")
+                answers.append("\n".join(comments + [f"{mods}{name} : {sig}"] + unf + rest))
+                continue
+            last = len(segs) - 1
+            if last in places:
+                self.alias[name] = places[last][1]
+                continue
+            env_sig, home = {}, None
+            turned = []
+            for i, s in enumerate(segs):
+                if i in places:
+                    nm, pl = places[i]
+                    if home is None:
+                        home = pl
+                    turned.append(f"({nm} : {self.place_new(pl)})" if nm else self.place_new(pl))
+                    if nm:
+                        env_sig[nm] = pl
+                else:
+                    turned.append(self.turn(s, env_sig, None, home) if env_sig else s)
+            if len(places) > 1:
+                self.say(f"helper {name} over {len(places)} places")
+            parts = []
+            for clause in self.clauses(name, rest):
+                lhs, rhs = clause.split(" =", 1)
+                pars = lhs.split()[1:]
+                env = {}
+                explicit = [i for i, s in enumerate(segs) if not s.startswith("{")]
+                for i, (nm, pl) in places.items():
+                    i = explicit.index(i)
+                    if i < len(pars):
+                        env[pars[i]] = pl
+                        if pars[i] != "c":
+                            self.say(f"helper {name}: its record is called {pars[i]}")
+                parts.append(f"{lhs} =" + self.turn(rhs, env, None, home))
+            answers.append("\n".join(comments + [f"{mods}{name} : {' → '.join(turned)}"] + unf + parts))
+        uses = [u for u in "\n".join(uses).split("\n")]
+        keep = [u for u in uses if not re.match(r"use Rattle\.\S+\.(Statement\.\{statement\}|Tie as tie)$", u)]
+        if invariants:
+            shared, text = [], "\n".join(invariants)
+            again = True
+            while again:
+                again = False
+                for a in list(answers):
+                    m = re.search(rf"^(?:abbrev |unfoldable )*({NAME}) : (?!goal)", a, re.M)
+                    if m and re.search(rf"(?<![^\s(\[{{,;]){re.escape(m.group(1))}(?![^\s)\],;.])", text):
+                        answers.remove(a)
+                        shared.insert(0, re.sub(rf"^((?:abbrev |unfoldable )*)({re.escape(m.group(1))} : )", lambda k: (k.group(1) + "pub " if k.group(1) else "pub ") + k.group(2), a, count=1, flags=re.M))
+                        self.shared.append(m.group(1))
+                        text += "\n" + a
+                        again = True
+            invariants[:0] = shared
+        return head, keep, invariants, answers
+
+    def write(self):
+        head, keep, invariants, answers = self.run()
+        folder = os.path.dirname(self.path)
+        os.remove(self.path)
+        if invariants:
+            with open(os.path.join(folder, "Invariants.antt"), "w", encoding="utf-8") as f:
+                f.write("\n".join(head + keep + [f"use {self.module}.Given as goal"]) + "\n\n" + "\n\n".join(invariants) + "\n")
+        if answers:
+            more = [f"use {self.module}.Goals as goal"]
+            if self.shared:
+                more.append(f"use {self.module}.Invariants.{{{', '.join(self.shared)}}}")
+            if self.imports:
+                more.append(f"use {self.module}.Goals.{{{', '.join(sorted(self.imports))}}}")
+            with open(os.path.join(folder, "Answers.antt"), "w", encoding="utf-8") as f:
+                f.write("\n".join(head + keep + more) + "\n\n" + "\n\n".join(answers) + "\n")
+        elif not invariants:
+            try:
+                os.rmdir(folder)
+            except OSError:
+                pass
+
+
+def parameters(crate):
+    """The names of parameters and fields in the crate's source that have an underscore."""
+    found = set()
+    for folder, _, files in os.walk(os.path.join(crate, "src")):
+        for f in files:
+            with open(os.path.join(folder, f), encoding="utf-8") as g:
+                found |= set(re.findall(r"\b([a-z]\w*_\w*): ", g.read()))
+    return found
+
+
+def main():
+    with open(sys.argv[1], encoding="utf-8") as f:
+        names = json.load(f)
+    crate = sys.argv[2].rstrip("/")
+    only = sys.argv[3:]
+    cname = os.path.basename(crate)
+    said, params = [], parameters(crate)
+    n = 0
+    for folder, dirs, files in os.walk(os.path.join(crate, "proofs")):
+        if "Proof.antt" not in files:
+            continue
+        path = os.path.join(folder, "Proof.antt")
+        rel = os.path.relpath(folder, os.path.join(crate, "proofs")).replace("/", ".")
+        if only and rel.split(".")[-1] not in only:
+            continue
+        with open(path, encoding="utf-8") as f:
+            if "Tie as tie" not in f.read():
+                said.append(f"{path}: not over Tie")
+                continue
+        e = names.get(f"Rattle-{cname}-proofs.{rel}.Lts")
+        if e is None:
+            said.append(f"{path}: names.json has no entry")
+            continue
+        File(path, Entry(e), f"Rattle.{cname}.proofs.{rel}", said, params).write()
+        n += 1
+    print("\n".join(said))
+    print(f"{n} turned, {len(said)} remarks")
+
+
+if __name__ == "__main__":
+    main()
