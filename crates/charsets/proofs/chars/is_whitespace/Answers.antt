@@ -7,7 +7,7 @@ use borrow.Author.Rules.{rules}
 use Rattle.charsets.proofs.chars.is_whitespace.Goals as goal
 
 pub returns-in_default : goal.returns-in_default
-returns-in_default c = let x = c.args.c in c.between.ensures ∙ sym (unlisted x c.if-c-le127.false c.in_default-1.rest.1 (⊎_elim (λ w. below 0x2028 0x2029 x w.if-c-lt8232.true) (λ w. above 0x2028 0x2029 x w.if-c-lt8234.false) c.in_default.branch-raw))
+returns-in_default c = let x = c.args.c in c.between.ensures ∙ sym (unlisted x c.if-c-le127.false c.in_default-1.rest.1 (⊎_elim (λ w. below 0x2028 0x2029 x w.if-c-lt8232-1.true) (λ w. above 0x2028 0x2029 x w.if-c-lt8234-1.false) c.in_default.branch-raw))
 
 pub returns-in-133 : goal.returns-in-133
 returns-in-133 c = sym (listed _ c.in-133.is)
