@@ -15,7 +15,6 @@ ghost use Rattle.laws.specs.Inverted.{inverted, inv_refusal, deeply, deep_refusa
 ghost use Rattle.nodes.specs.Nodes.{IsNode};
 ghost use Rattle.invert.specs.Nodes.{inverse, over};
 
-use bytes::copy;
 use nodes::{first_end, node_end};
 use notation::refusals::NISS;
 use parts::inner_start;
@@ -143,7 +142,7 @@ fn invert_group(node: &[u8], out: &mut [u8], deep: bool)
             return;
         }
         let m = inner_start(node);
-        copy(&node[..m], &mut out[..m]);
+        out[..m].copy_from_slice(&node[..m]);
         invert(&node[m..], &mut out[m..], true);
         return;
     }
@@ -166,7 +165,7 @@ fn inv_node(node: &[u8], out: &mut [u8])
     requires out_len { length out.old ≡ length node.now }
     ensures { out.new ≡ pack (inverted (unpack node.now)) }
 {
-    copy(node, out);
+    out.copy_from_slice(node);
     undo_record(out);
 }
 
@@ -181,8 +180,8 @@ fn exchange_lists(node: &[u8], out: &mut [u8])
     let second = fields::second(node);
     let m = first_end(node);
     let n = RECORD + (node.len() - m);
-    copy(&node[..RECORD], &mut out[..RECORD]);
-    copy(&node[m..], &mut out[RECORD..n]);
-    copy(&node[RECORD..m], &mut out[n..]);
+    out[..RECORD].copy_from_slice(&node[..RECORD]);
+    out[RECORD..n].copy_from_slice(&node[m..]);
+    out[n..].copy_from_slice(&node[RECORD..m]);
     fields::set_lists(out, second, first);
 }

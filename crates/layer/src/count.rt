@@ -7,7 +7,7 @@ use crate::range::{LayerRange, LayerRangeOption};
 use crate::signed::SignedLayer;
 use crate::unsigned::{Layer, LayerOption};
 
-#[derive(Drop)]
+#[derive(Clone, Copy)]
 pub struct AxisLayersInfo {
     // How many layers the axis has: its deepest layer.
     pub max_layer: u16,
@@ -16,7 +16,7 @@ pub struct AxisLayersInfo {
 }
 
 // An end of a range, before it is brought inside the axis.
-#[derive(Drop)]
+#[derive(Clone, Copy)]
 pub enum UnclampedLayer {
     BeyondShallowest,
     Concrete(Layer),

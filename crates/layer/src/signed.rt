@@ -6,7 +6,7 @@ use crate::unsigned::Layer;
 
 // A layer counted from the shallowest (1 on) or, negative, from the deepest (-1 on). Sign and magnitude instead of the
 // Rust's `NonZeroI16`: the prover does arithmetic on unsigned numbers by itself, on signed ones not.
-#[derive(Drop)]
+#[derive(Clone, Copy)]
 pub struct SignedLayer {
     pub negative: bool,
     pub layer: Layer,

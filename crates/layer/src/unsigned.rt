@@ -6,7 +6,7 @@ ghost use Rattle.layer.specs.Meaning as meaning;
 use notation::limits::MAX_LAYER;
 
 // A layer's number, from 1 (the shallowest) to 32,767. The functions below make no other, and ask for no other.
-#[derive(Drop)]
+#[derive(Clone, Copy)]
 pub struct Layer(pub u16);
 
 // The Rust's `Option<Layer>`.

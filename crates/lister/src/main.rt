@@ -3,14 +3,15 @@
 
 #![tactic(auto)]
 
-use libc::{STDIN_FILENO, STDOUT_FILENO};
 use listing::{MAX_LISTING, MAX_READ};
+use std::io;
+use std::io::{Print, Read};
 
 // Reads an input and writes its listing.
-fn main() {
-    let mut input = [0u8; MAX_READ];
+fn main(rt: HostRuntime) -> io::Result<()> {
+    let mut input = Vec::new(rt.alloc());
+    rt.stdin().take(MAX_READ as u64).read_to_end(&mut input)?;
     let mut out = [0u8; MAX_LISTING];
-    let n = io::read_full(STDIN_FILENO, &mut input);
-    let size = listing::list_whole(&input[..n], &mut out);
-    io::write_all(STDOUT_FILENO, &out[..size]);
+    let size = listing::list_whole(&input, &mut out);
+    rt.write_all(&out[..size])
 }

@@ -3,7 +3,7 @@ ghost use Rattle.std.specs.Prelude.{◌≡◌};
 ghost use Rattle.notation.specs.Features as rule;
 
 // Features of layer prefixes.
-#[derive(Drop)]
+#[derive(Clone, Copy)]
 pub struct LayerFeatures {
     // `~` before a layer prefix.
     pub inverted_layers: bool,
@@ -13,7 +13,7 @@ pub struct LayerFeatures {
     pub hsc1_layer_ranges: bool,
 }
 
-#[derive(Drop)]
+#[derive(Clone, Copy)]
 pub struct Features {
     pub layers: LayerFeatures,
     // Rotations written with `@`.

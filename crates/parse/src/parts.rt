@@ -28,7 +28,7 @@ pub enum LayerSetElementAnswer {
 }
 
 // What a set in braces holds.
-#[derive(Drop)]
+#[derive(Clone, Copy)]
 pub enum Element {
     Constraint,
     // With `i-j` or without.

@@ -3,7 +3,6 @@ ghost use Rattle.std.specs.Prelude.{◌≡◌, ◌++◌, ◌≤◌, length, drop
 ghost use Rattle.notation.specs.Packed.{RECORD as record_size};
 
 use crate::RECORD;
-use bytes::copy;
 
 // Copies a record to the front of out, by way of bytes of its own: since these lie apart from both, the compiler may
 // move many at a time.
@@ -13,6 +12,6 @@ pub fn copy_record(from: &[u8], out: &mut [u8])
     ensures { out.new ≡ from.now ++ drop record_size out.old }
 {
     let mut own = [0; RECORD];
-    copy(from, &mut own);
-    copy(&own, out);
+    own.copy_from_slice(from);
+    out[..RECORD].copy_from_slice(&own);
 }

@@ -2,20 +2,20 @@
 // complement.
 
 // A part of the text. Both numbers have 24 bits: whoever makes a span promises so.
-#[derive(Drop)]
+#[derive(Clone, Copy)]
 pub struct Span {
     pub offset: u32,
     pub size: u32,
 }
 
-#[derive(Drop)]
+#[derive(Clone, Copy)]
 pub enum SpanOption {
     Some(Span),
     None,
 }
 
 // The layers before a move's family.
-#[derive(Drop)]
+#[derive(Clone, Copy)]
 pub enum LayerPrefixContents {
     None,
     Single(u16),

@@ -12,7 +12,7 @@ use notation::refusals::{NISS, OVERFLOW};
 use numbers::signed::is_negative;
 use record::{fields, kinds};
 
-#[derive(Drop)]
+#[derive(Clone, Copy)]
 pub struct Refusals {
     // The first that unrolling meets, or 0.
     pub forward: u8,
