@@ -88,7 +88,7 @@ class File:
         if i == len(comps):
             return None, cur
         n, rest = norm(comps[i]), comps[i + 1:]
-        if n in ("args", "requires", "lifetimes", "ranges"):
+        if n in ("args", "requires", "lifetimes", "ranges", "well_formed"):
             if n == "args" and rest:
                 rest = [rest[0].replace("-", "_")] + rest[1:]
             if n == "requires":
@@ -222,6 +222,7 @@ class File:
             out.append(text[at])
             at += 1
         done = re.sub(r"\.branch(?![\w-])", ".branch-raw", "".join(out))
+        done = re.sub(r"\.(type-inv|well-formed|element-fits)(?![\w-])", lambda m: m.group(0).replace("-", "_"), done)
         done = re.sub(rf"not-(?:true|false) _ (c\.if-not-{NAME}\.(?:true|false))", r"\1", done)
         return re.sub(rf"(?<=\.)({NAME})", lambda m: m.group(1).replace("-", "_") if m.group(1).replace("-", "_") in self.params else m.group(1), done)
 
