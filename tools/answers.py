@@ -166,14 +166,10 @@ class File:
     def as_record(self, function, kind, text):
         """A tuple that proves several clauses, as a record by their names."""
         labels = self.labels.get(function, {}).get(kind, [])
-        if len(labels) < 2 or not all(labels):
+        if len(labels) < 2 or not all(labels) or kind == "requires" and function.split("::")[-1] in [fn for _, fn in self.cycle.values()]:
             return text
         m = re.match(r"(\s*(?:let [^\n]* in\s*)*)\((.*)\)\s*$", text, re.S)
         items = self.items(m.group(2)) if m else []
-        falls = None
-        if kind == "requires" and function.split("::")[-1] in [fn for _, fn in self.cycle.values()] and len(items) == 2:
-            last = re.fullmatch(r"\((.*)\)", items[1], re.S)
-            falls, items = items[0], self.items(last.group(1)) if last else [items[1]]
         while items and len(items) < len(labels):
             last = re.fullmatch(r"\((.*)\)", items[-1], re.S)
             more = self.items(last.group(1)) if last else []
@@ -184,7 +180,7 @@ class File:
             self.say(f"no record for {kind} of {function}: {' '.join(text.split())[:150]}")
             return text
         said = "record { " + "; ".join(f"{a} = {b}" for a, b in zip(labels, items)) + " }"
-        return m.group(1) + (f"({falls}, {said})" if falls else said)
+        return m.group(1) + said
 
     def record(self, cur, goal, home):
         if cur == home:
@@ -395,7 +391,44 @@ class File:
                 out[-1] += "\n" + l
         return out
 
+    def outline(self):
+        """A cycle whose proofs stand in the call of spec, each with its label behind it: the same as declarations."""
+        text, out = self.text, []
+        at = text.find("-spec = close")
+        if at < 0 or not re.search(r"\)+  -- [\w-]+$", text[at:], re.M):
+            return
+        body = text[at:]
+        alias, pos = None, 0
+        while pos < len(body):
+            m = re.compile(rf"({NAME})\.spec ").match(body, pos)
+            if m and m.group(1) in self.cycle:
+                alias, pos = m.group(1), m.end()
+                continue
+            m = re.compile(r"\(λ c( κs)?\.").match(body, pos)
+            if m and alias:
+                depth, end = 1, m.end()
+                while depth:
+                    depth += {"(": 1, ")": -1}.get(body[end], 0)
+                    end += 1
+                label = re.compile(r"\)*  -- ([\w-]+)").match(body, end)
+                if label:
+                    prefix = alias[:-len("lts")]
+                    need = label.group(1)[len(prefix):]
+                    need = re.sub("^loop(.*)-holds", r"loop\1-init", need)
+                    need = re.sub("^loop(\\d*)-less", r"loop\1-smaller", need)
+                    need = re.sub("^loop(\\d*)-again", r"loop\1-preserved", need)
+                    inner = body[m.end():end - 1].strip()
+                    sep = "\n    " if inner.startswith("let ") or "\n" in inner else " "
+                    out.append(f"{label.group(1)} : {alias}.Need-{need}\n{label.group(1)} c{m.group(1) or ''} ={sep}{inner}")
+                    pos = end
+                    continue
+            pos += 1
+        start = text.rfind("\n\n", 0, at)
+        self.text = text[:start] + "\n\n" + "\n\n".join(out) + "\n"
+
     def run(self):
+        if self.cycle:
+            self.outline()
         uses, answers, invariants, inv_names = [], [], [], {}
         head = []
         for block in self.parts():

@@ -53,7 +53,10 @@ invert-slice_bounds-invert_group-end t c = sym (front_long c.node_end-e.ensures)
 
 pub invert-invert_group-requires : goal.invert-invert_group-requires
 invert-invert_group-requires t c =
-    let step = c.node_end-e.ensures in (omega (arith, front_long step, step.most, c.loop-t.invariant.short, c.decreases), record { node = (_, front-node step); node_bound = front_low step c.is_leaf.ensures c.if-is_leaf.false; out_len = node-place c.loop-t.invariant step })
+    let step = c.node_end-e.ensures in (
+      omega (arith, front_long step, step.most, c.loop-t.invariant.short, c.decreases),
+      ((_, front-node step), (front_low step c.is_leaf.ensures c.if-is_leaf.false, node-place c.loop-t.invariant step)),
+    )
 
 pub invert-loop-t-preserved : goal.invert-loop-t-preserved
 invert-loop-t-preserved t c =
@@ -82,7 +85,13 @@ invert_group-invert-requires t c =
     let bs = c.args.node.now in
     let m = c.inner_start-m.result in
     let law = c.inner_start-m.ensures in
-    let out = c.copy.new.1.0 ++ drop m c.args.out.now in (list-less bs m (length bs) _ law.least (node-room c.requires.node.1) c.decreases, record { packed = law.packed; out_len = same-length-parts out bs m (length out) m (length bs) (omega arith) (omega arith) (omega (arith, c.requires.out_len, c.out-then-deep-1.given.1)) })
+    let out = c.copy.new.1.0 ++ drop m c.args.out.now in (
+      list-less bs m (length bs) _ law.least (node-room c.requires.node.1) c.decreases,
+      (
+        law.packed,
+        same-length-parts out bs m (length out) m (length bs) (omega arith) (omega arith) (omega (arith, c.requires.out_len, c.out-then-deep-1.given.1)),
+      ),
+    )
 
 pub invert_group-returns-then-deep : goal.invert_group-returns-then-deep
 invert_group-returns-then-deep t c =

@@ -21,9 +21,8 @@ list_refusal-loop-t-init t c = looked-none deep_refusal c.args.tree.now c.args.b
 pub list_refusal-node_end-e-requires : goal.list_refusal-node_end-e-requires
 list_refusal-node_end-e-requires t c = record { packed = c.loop-t.invariant.packed; list_nonzero = c.loop-t-test.true }
 
-list-refusal-slice-aggregate-node-refusal :
-    (t : ℕ) → list-refusal-lts.Need-slice-aggregate-node-refusal (list-claims t) (list-refusal-at t) list-refusal.Post list-refusal-Inv-loop list-refusal-μ-loop
-list-refusal-slice-aggregate-node-refusal t c = sym (front_long c.before.node-end.ensures)
+pub list_refusal-slice_bounds-node_refusal-end : goal.list_refusal-slice_bounds-node_refusal-end
+list_refusal-slice_bounds-node_refusal-end t c = sym (front_long c.node_end-e.ensures)
 
 pub list_refusal-node_refusal-found-requires : goal.list_refusal-node_refusal-found-requires
 list_refusal-node_refusal-found-requires t c =
