@@ -67,7 +67,7 @@ class File:
         self.path, self.entry, self.module, self.said, self.params = path, entry, module, said, params
         with open(path, encoding="utf-8") as f:
             self.text = f.read()
-        self.shared, self.alias, self.takes, self.bodies, self.copies, self.imports = [], {}, {}, {}, {}, set()
+        self.shared, self.alias, self.takes, self.bodies, self.copies, self.goals, self.imports = [], {}, {}, {}, {}, {}, set()
 
     def say(self, what):
         self.said.append(f"{self.path}: {what}")
@@ -111,8 +111,9 @@ class File:
             for field, step, at in arm[2]:
                 if norm(step) == n and [norm(x) for x in at] == [norm(x) for x in rest[:len(at)]] and at:
                     return ".".join(["c", arm[0], field] + rest[len(at):]), None
-            if rest[:1] == ["rest"] and any(field == "in_default-own" for field, _, _ in arm[2]):
-                rest = ["in_default-own"] + rest
+            own = next((field for field, step, at in arm[2] if norm(step) == n and not at and field.endswith("-own")), None)
+            if own and rest[:1] in (["given"], ["rest"], ["true"], ["false"]):
+                rest = [own] + rest
             return ".".join(["c", arm[0]] + rest), None
         if n.startswith(("shared_slice_known", "slice_known")) and rest[:1] == ["given"]:
             for var, step in e.typed.get(cur, []):
@@ -191,7 +192,7 @@ class File:
         return f"(goal.at.{goal} {'t ' if self.cycle else ''}c).{self.entry.new[cur]}"
 
     def turn(self, text, env, goal, home):
-        out, at = [], 0
+        out, at, partial = [], 0, {}
         env = dict(env)
         once = None
         while once != text:
@@ -213,6 +214,10 @@ class File:
                         t, cur = self.walk(env[root], comps, goal, home)
                         if cur is not None:
                             env[m.group(1)] = cur
+                            at = m.end()
+                            continue
+                        if comps[-1:] == ["given"]:
+                            partial[m.group(1)] = (env[root], comps)
                             at = m.end()
                             continue
                 m = re.compile(rf"let ({NAME}) = ({NAME}) ({NAME}(?:\.{NAME})*) in\s*").match(text, at)
@@ -245,6 +250,15 @@ class File:
                             self.copies.setdefault((h, home), None)
                             cur = home
                     out.append(t if cur is None else self.record(cur, goal, home))
+                    at = m.end()
+                    continue
+                if m and not m.group(2) and m.group(1) in self.goals:
+                    out.append(self.goals[m.group(1)] + (" t" if self.cycle else ""))
+                    at = m.end()
+                    continue
+                if m and m.group(1) in partial:
+                    place, prefix = partial[m.group(1)]
+                    out.append(self.walk(place, prefix + [x for x in m.group(2).split(".") if x], goal, home)[0])
                     at = m.end()
                     continue
                 if m and m.group(1) in self.alias and not m.group(2):
@@ -512,6 +526,7 @@ class File:
                         self.say(f"no goal for {m.group(1)}: {body_text[:200]}")
                     continue
                 new, at = need
+                self.goals[name] = stem + new
                 if trivial:
                     continue
                 parts = []

@@ -32,7 +32,7 @@ invert-slice_bounds-inv_leaf-end t c = sym (leaf-record (leaf-at c))
 
 pub invert-inv_leaf-requires : goal.invert-inv_leaf-requires
 invert-inv_leaf-requires t c =
-    let front = leaf-at t (goal.at.invert-inv_leaf-requires t c).After-is_leaf in
+    let front = leaf-at (goal.at.invert-inv_leaf-requires t c).Then-is_leaf in
     record { node = (_, leaf-node front); node_len = (leaf-record front, node-place c.loop-t.invariant front.first) }
 
 pub invert-slice_bounds-t-count : goal.invert-slice_bounds-t-count
@@ -43,7 +43,7 @@ invert-slice_bounds-t-start t c = (leaf-at (goal.at.invert-slice_bounds-t-start 
 
 pub invert-loop-t-preserved-then-is_leaf : goal.invert-loop-t-preserved-then-is_leaf
 invert-loop-t-preserved-then-is_leaf t c =
-    wrote-leaf c.loop-t.invariant (leaf-at t (goal.at.invert-loop-t-preserved-then-is_leaf t c).After-is_leaf) _ c.inv_leaf.auto.out c.inv_leaf.ensures
+    wrote-leaf c.loop-t.invariant (leaf-at (goal.at.invert-loop-t-preserved-then-is_leaf t c).Then-is_leaf) _ c.inv_leaf.auto.out c.inv_leaf.ensures
 
 pub invert-node_end-e-requires : goal.invert-node_end-e-requires
 invert-node_end-e-requires t c = record { packed = c.loop-t.invariant.packed; list_nonzero = c.loop-t-test.true }

@@ -95,8 +95,8 @@ flatten-loop-t-smaller t c =
 pub flatten-loop-t-preserved : goal.flatten-loop-t-preserved
 flatten-loop-t-preserved t c =
     ⊎_elim
-    (λ w. flattening-carried w.6 w.7 (flattening-goes-on c.loop-t.invariant c.node_end-end.ensures (node-written c.node_end-end.ensures.is_node w.3.ensures) w.3.kept.1.0))
-    (λ w. flattening-carried w.1 w.2 (flattening-passes c.loop-t.invariant c.node_end-end.ensures c.count.ensures w.0.left))
+    (λ w. flattening-carried w.out-is w.at-is (flattening-goes-on c.loop-t.invariant c.node_end-end.ensures (node-written c.node_end-end.ensures.is_node w.flatten_node-size.ensures) w.flatten_node-size.auto.out))
+    (λ w. flattening-carried w.out-is w.at-is (flattening-passes c.loop-t.invariant c.node_end-end.ensures c.count.ensures w.if-count-ne0.false))
     c.if-count-ne0.branch-raw
 
 pub flatten-shape_of-out : goal.flatten-shape_of-out

@@ -36,4 +36,4 @@ pub returns : goal.returns
 returns c =
     let a = c.args in
     c.numbered_layers.ensures
-    ∙ unopened a.features a.text.now a.at (⊎_elim (λ w. ap₂ ◌&&◌ w.0.taken (sym w.1.ensures ∙ w.2.left)) (λ w. rw w.left) c.else-features.branch-raw)
+    ∙ unopened a.features a.text.now a.at (⊎_elim (λ w. ap₂ ◌&&◌ w.if-features.true (sym w.has.ensures ∙ w.if-has.false)) (λ w. rw w.if-features.false) c.else-features.branch-raw)

@@ -20,7 +20,7 @@ returns-then-byte-eq46 c =
     let e =
     ap (λ (l : List ℕ). read l last (drop last a.text.now)) c.pause_fields.ensures
     ∙ is-pause a.features a.text.now a.at c.if-at-text.true c.if-byte-eq46.true in
-    (e, leaf-within a.features a.text.now a.at (answer.Took c.pause_fields.result last) c.requires.0 e)
+    record { means = e; within = leaf-within a.features a.text.now a.at (answer.Took c.pause_fields.result last) c.requires.0 e }
 
 pub rotation-requires : goal.rotation-requires
 rotation-requires c =
@@ -39,17 +39,17 @@ returns-then-byte-eq40 c =
     let inside = c.if-at-text.true in
     let q = c.admitted_sq1_move.ensures in
     let e =
-    ⊎_elim (λ w. is-parenthesis a.features a.text.now a.at inside w.taken q)
-    (λ w. is-slash a.features a.text.now a.at inside (eqb-true _ _ w.1.taken) q) c.then-byte-eq40.branch-raw in
-    (e, leaf-within a.features a.text.now a.at c.admitted_sq1_move.result c.requires.0 e)
+    ⊎_elim (λ w. is-parenthesis a.features a.text.now a.at inside w.if-byte-eq40.true q)
+    (λ w. is-slash a.features a.text.now a.at inside w.if-byte-eq47.true q) c.then-byte-eq40.branch-raw in
+    record { means = e; within = leaf-within a.features a.text.now a.at c.admitted_sq1_move.result c.requires.0 e }
 
 pub returns-then-at-text : goal.returns-then-at-text
 returns-then-at-text c =
     let a = c.args in
     let e =
     is-other a.features a.text.now a.at c.if-at-text.true c.if-byte-eq46.false
-    c.if-byte-eq64.false c.if-byte-eq40.false (eqb-false _ _ c.if-byte-eq47.false) c.scramble_or_move.ensures in
-    (e, leaf-within a.features a.text.now a.at c.scramble_or_move.result c.requires.0 e)
+    c.if-byte-eq64.false c.if-byte-eq40.false c.if-byte-eq47.false c.scramble_or_move.ensures in
+    record { means = e; within = leaf-within a.features a.text.now a.at c.scramble_or_move.result c.requires.0 e }
 
 pub returns : goal.returns
 returns c =

@@ -17,5 +17,5 @@ returns-then-is_scramble c =
 pub returns-else-features : goal.returns-else-features
 returns-else-features c =
     let a = c.args in
-    no-scramble a.features a.text.now a.at (⊎_elim (λ w. ap₂ ◌&&◌ w.0.taken (sym w.1.ensures ∙ w.2.left)) (λ w. rw w.left) c.else-features.branch-raw)
+    no-scramble a.features a.text.now a.at (⊎_elim (λ w. ap₂ ◌&&◌ w.if-features.true (sym w.is_scramble.ensures ∙ w.if-is_scramble.false)) (λ w. rw w.if-features.false) c.else-features.branch-raw)
     c.move_.ensures

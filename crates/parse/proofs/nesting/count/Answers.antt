@@ -11,12 +11,12 @@ loop-at-init c = count-start c.args.round c.args.square c.args.bytes.now
 
 pub overflow_add-n : goal.overflow_add-n
 overflow_add-n c =
-    omega (arith, c.one_of_lem.ensures.1, c.loop-at.invariant.few, c.loop-at.invariant.inside, c.requires)
+    omega (arith, c.one_of-n.ensures.1, c.loop-at.invariant.few, c.loop-at.invariant.inside, c.requires)
 
 pub loop-at-preserved : goal.loop-at-preserved
 loop-at-preserved c =
     let a = c.args in
-    count-on a.round a.square a.bytes.now c.loop-at.n c.loop-at.at c.loop-at.invariant c.loop-at-test.true _ c.one_of_lem.ensures
+    count-on a.round a.square a.bytes.now c.loop-at.n c.loop-at.at c.loop-at.invariant c.loop-at-test.true _ c.one_of-n.ensures
 
 pub returns : goal.returns
 returns c =

@@ -36,11 +36,11 @@ loop-at-preserved c =
     let same-closed = sym (add-zero c.loop-at.closed) in
     let few = c.loop-at.invariant.allowed in
     ⊎_elim
-    (λ w. on 1 0 (opening _ w.0.keys1) c.match-text-at.opened c.match-text-at.closed w.2 (w.3 ∙ same-closed) (omega arith) (omega arith) (rw (w.2, w.3) w.1.left))
+    (λ w. on 1 0 (opening _ w.in-40.is) c.match-text-at.opened c.match-text-at.closed w.opened-is (w.closed-is ∙ same-closed) (omega arith) (omega arith) (rw (w.opened-is, w.closed-is) w.if-closed-opened.false))
     (⊎_elim
-    (λ w. on 0 1 (closing _ w.0.keys2) c.match-text-at.opened c.match-text-at.closed (w.1 ∙ same-opened) w.2 (omega arith) (omega arith) (rw (w.1, w.2) (omega (arith, few))))
-    (λ w. on 0 0 (neither _ w.0.rest.0.1 w.0.rest.1) c.match-text-at.opened c.match-text-at.closed (w.1 ∙ same-opened) (w.2 ∙ same-closed) (omega arith) (omega arith)
-    (rw (w.1, w.2) few)))
+    (λ w. on 0 1 (closing _ w.in-41.is) c.match-text-at.opened c.match-text-at.closed (w.opened-is ∙ same-opened) w.closed-is (omega arith) (omega arith) (rw (w.opened-is, w.closed-is) (omega (arith, few))))
+    (λ w. on 0 0 (neither _ w.in_default.in_default-own.rest.0.1 w.in_default.in_default-own.rest.1) c.match-text-at.opened c.match-text-at.closed (w.opened-is ∙ same-opened) (w.closed-is ∙ same-closed) (omega arith) (omega arith)
+    (rw (w.opened-is, w.closed-is) few)))
     c.match-text-at.branch-raw
 
 pub returns : goal.returns

@@ -90,8 +90,7 @@ binary_group-overflow_add-a t c =
     let pre = c.requires in
     let one = c.node_list-a in
     let opens = stands-first a.text.now a.at 91 pre.1 pre.2 in
-    let kind = c.in-Is.given in
-    let signs = rw kind.1 at c.binary_group_kind.ensures in
+    let signs = rw c.in-Is.is at c.binary_group_kind.ensures in
     let sign = signed a.text.now one.result.next _ one.ensures.inside signs in
     omega (arith, sign, pre.0.short)
 
@@ -106,8 +105,7 @@ binary_group-node_list-b-requires t c =
     let pre = c.requires in
     let one = c.node_list-a in
     let opens = stands-first a.text.now a.at 91 pre.1 pre.2 in
-    let kind = c.in-Is.given in
-    let signs = rw kind.1 at c.binary_group_kind.ensures in
+    let signs = rw c.in-Is.is at c.binary_group_kind.ensures in
     let sign = signed a.text.now one.result.next _ one.ensures.inside signs in (
       omega (arith, c.decreases, sign, one.ensures.advances, pre.1),
       record {
@@ -132,9 +130,8 @@ binary_group-returns-in_default-close t c =
     let one = c.node_list-a in
     let opens = stands-first a.text.now a.at 91 pre.1 pre.2 in
     let two = c.node_list-b in
-    let kind = c.in-Is.given in
-    let signs = rw kind.1 at c.binary_group_kind.ensures in
-    open-binary a.features a.text.now a.at a.slot a.tally a.tree.now opens _ _ _ one.ensures kind.0.0 signs _ _ _ two.ensures
+    let signs = rw c.in-Is.is at c.binary_group_kind.ensures in
+    open-binary a.features a.text.now a.at a.slot a.tally a.tree.now opens _ _ _ one.ensures c.in-Is.kind signs _ _ _ two.ensures
     (rw c.in_default-close.is at c.close.ensures)
 
 pub binary_group-overflow_add-first : goal.binary_group-overflow_add-first
@@ -180,16 +177,14 @@ binary_group-returns t c =
     let one = c.node_list-a in
     let opens = stands-first a.text.now a.at 91 pre.1 pre.2 in
     let two = c.node_list-b in
-    let kind = c.in-Is.given in
-    let signs = rw kind.1 at c.binary_group_kind.ensures in
-    let took = c.in-Took.given in
+    let signs = rw c.in-Is.is at c.binary_group_kind.ensures in
     let fields = c.binary_group_fields in
     rw c.put_group.ensures
-    (closed-binary a.features a.text.now a.at a.slot a.tally a.tree.now opens _ _ _ one.ensures kind.0.0 signs _ _ _ two.ensures
-    took.0.0 took.0.1.0 (listed fields.result) fields.ensures (rw took.1 at c.close.ensures))
+    (closed-binary a.features a.text.now a.at a.slot a.tally a.tree.now opens _ _ _ one.ensures c.in-Is.kind signs _ _ _ two.ensures
+    c.in-Took.bits c.in-Took.next (listed fields.result) fields.ensures (rw c.in-Took.is at c.close.ensures))
 
 pub binary_group-shape_of-tree : goal.binary_group-shape_of-tree
-binary_group-shape_of-tree t c = (binary-group-returns-3 c).wrote.auto.long
+binary_group-shape_of-tree t c = (binary_group-returns t c).wrote.auto.long
 
 pub group-group_kind-start-requires : goal.group-group_kind-start-requires
 group-group_kind-start-requires t c = c.requires.0.inside
@@ -243,7 +238,7 @@ group-returns-in_default t c =
     let later = (within a.text.now a.at takes-kind pre.0.inside start.ensures).0 in
     let list = c.node_list-list in
     open-group a.features a.text.now a.at a.slot a.tally a.tree.now start.result.kind start.result.next start.ensures opens (omega (arith, later)) _ _ _
-    (list .ensures) (rw c.in_default.is at c.close.ensures)
+    (list.ensures) (rw c.in_default.is at c.close.ensures)
 
 pub group-overflow_add-first : goal.group-overflow_add-first
 group-overflow_add-first t c =
@@ -254,14 +249,14 @@ group-overflow_add-first t c =
 pub group-overflow_sub-first : goal.group-overflow_sub-first
 group-overflow_sub-first t c =
     let list = c.node_list-list in
-    omega (arith, list .ensures .slots)
+    omega (arith, list.ensures.slots)
 
 pub group-overflow_cast-first : goal.group-overflow_cast-first
 group-overflow_cast-first t c =
     let a = c.args in
     let pre = c.requires in
     let list = c.node_list-list in
-    omega (arith, list .ensures .slots, list .ensures .advances, list .ensures .inside, pre.0.short)
+    omega (arith, list.ensures.slots, list.ensures.advances, list.ensures.inside, pre.0.short)
 
 pub group-put_group-requires : goal.group-put_group-requires
 group-put_group-requires t c =
@@ -277,11 +272,10 @@ group-returns-in-Took t c =
     let opens = sym c.has.ensures ∙ c.if-has.true in
     let later = (within a.text.now a.at takes-kind pre.0.inside start.ensures).0 in
     let list = c.node_list-list in
-    let took = c.in-Took.given in
     let fields = c.group_fields in
     rw c.put_group.ensures
     (closed-group a.features a.text.now a.at a.slot a.tally a.tree.now start.result.kind start.result.next start.ensures opens (omega (arith, later)) _ _ _
-    (list .ensures) took.0.0 took.0.1.0 (listed fields.result) fields.ensures (rw took.1 at c.close.ensures))
+    (list.ensures) c.in-Took.bits c.in-Took.next (listed fields.result) fields.ensures (rw c.in-Took.is at c.close.ensures))
 
 pub group-returns-else-has : goal.group-returns-else-has
 group-returns-else-has t c =
@@ -340,12 +334,11 @@ node_list-returns-in_default t c =
     list-ends a.features a.text.now a.at a.slot a.tally a.tree.now loop.next loop.end loop.tree _ loop.invariant (rw c.in_default.is at c.node.ensures)
 
 pub node_list-shape_of-tree-in_default : goal.node_list-shape_of-tree-in_default
-node_list-shape_of-tree-in_default t c = (node-list-returns c).wrote.auto.long
+node_list-shape_of-tree-in_default t c = (node_list-returns-in_default t c).wrote.auto.long
 
 pub node_list-whitespace_end-next-requires-in-loop-after : goal.node_list-whitespace_end-next-requires-in-loop-after
 node_list-whitespace_end-next-requires-in-loop-after t c =
-    let took = c.in-Took.given in
-    let read = rw took.1 at c.node.ensures in
+    let read = rw c.in-Took.is at c.node.ensures in
     read.inside
 
 pub node_list-returns-then-next-after : goal.node_list-returns-then-next-after
@@ -353,20 +346,18 @@ node_list-returns-then-next-after t c =
     let a = c.args in
     let pre = c.requires in
     let loop = c.loop-after in
-    let took = c.in-Took.given in
-    let read = rw took.1 at c.node.ensures in
-    rw c.if-next-after.true (list-stops a.features a.text.now a.at a.slot a.tally a.tree.now loop.next loop.end loop.tree _ loop.invariant took.0.0 took.0.1.0 read (omega (arith, c.whitespace_end-next-in-loop-after.ensures, c.if-next-after.true)))
+    let read = rw c.in-Took.is at c.node.ensures in
+    rw c.if-next-after.true (list-stops a.features a.text.now a.at a.slot a.tally a.tree.now loop.next loop.end loop.tree _ loop.invariant c.in-Took.after c.in-Took.filled read (omega (arith, c.whitespace_end-next-in-loop-after.ensures, c.if-next-after.true)))
 
 pub node_list-shape_of-tree-then-next-after : goal.node_list-shape_of-tree-then-next-after
-node_list-shape_of-tree-then-next-after t c = (node-list-returns-2 c).wrote.auto.long
+node_list-shape_of-tree-then-next-after t c = (node_list-returns-then-next-after t c).wrote.auto.long
 
 pub node_list-loop-after-smaller : goal.node_list-loop-after-smaller
 node_list-loop-after-smaller t c =
     let a = c.args in
     let pre = c.requires in
     let loop = c.loop-after in
-    let took = c.in-Took.given in
-    let read = rw took.1 at c.node.ensures in
+    let read = rw c.in-Took.is at c.node.ensures in
     omega (arith, c.whitespace_end-next-in-loop-after.ensures, read.advances, read.inside, some-records read.node)
 
 pub node_list-loop-after-preserved : goal.node_list-loop-after-preserved
@@ -374,6 +365,5 @@ node_list-loop-after-preserved t c =
     let a = c.args in
     let pre = c.requires in
     let loop = c.loop-after in
-    let took = c.in-Took.given in
-    let read = rw took.1 at c.node.ensures in
-    going_on a.features a.text.now a.at a.slot a.tally a.tree.now loop.next loop.end loop.tree _ loop.invariant took.0.0 took.0.1.0 read c.whitespace_end-next-in-loop-after.result c.whitespace_end-next-in-loop-after.ensures c.if-next-after.false
+    let read = rw c.in-Took.is at c.node.ensures in
+    going_on a.features a.text.now a.at a.slot a.tally a.tree.now loop.next loop.end loop.tree _ loop.invariant c.in-Took.after c.in-Took.filled read c.whitespace_end-next-in-loop-after.result c.whitespace_end-next-in-loop-after.ensures c.if-next-after.false

@@ -12,8 +12,7 @@ returns-in_default c =
 pub returns : goal.returns
 returns c =
     let a = c.args in
-    let took = c.in-Took.given in
     let leaf = c.leaf in
-    let ends = rw took.1 at leaf.ensures.1 in
+    let ends = rw c.in-Took.is at leaf.ensures.within in
     rw c.put_leaf.ensures
-    (leaf-read a.features a.text.now a.at a.slot a.tree.now a.tally (listed took.0.0) took.0.1.0 (rw took.1 at leaf.ensures.0) ends.0 ends.1)
+    (leaf-read a.features a.text.now a.at a.slot a.tree.now a.tally (listed c.in-Took.f) c.in-Took.next (rw c.in-Took.is at leaf.ensures.means) ends.0 ends.1)

@@ -28,14 +28,12 @@ overflow_add-result c =
 
 pub returns-then-has-2 : goal.returns-then-has-2
 returns-then-has-2 c =
-    let d = c.in-Took-padded_number.given in
-    let u = c.in-Took.given in
     let text = c.args.text.now in
-    let last = d.0.1.0 + 1 in
+    let last = c.in-Took-padded_number.end + 1 in
     ap (λ (l : List ℕ). read l last (drop last text)) c.pair_fields.ensures
-    ∙ a_pair text c.args.at _ u.0.1.0 (rw u.1 at c.padded_number.ensures)
+    ∙ a_pair text c.args.at _ c.in-Took.comma (rw c.in-Took.is at c.padded_number.ensures)
     (sym c.has.ensures ∙ c.if-has.true)
-    _ d.0.1.0 (rw d.1 at c.padded_number-then-has.ensures) (sym c.has-then-has.ensures ∙ c.if-has-2.true)
+    _ c.in-Took-padded_number.end (rw c.in-Took-padded_number.is at c.padded_number-then-has.ensures) (sym c.has-then-has.ensures ∙ c.if-has-2.true)
 
 pub returns-then-has : goal.returns-then-has
 returns-then-has c = no-close c.args.text.now c.args.at _ c.in-Took.comma (rw c.in-Took.is at c.padded_number.ensures) (sym c.has.ensures ∙ c.if-has.true) _ c.in-Took-padded_number.end (rw c.in-Took-padded_number.is at c.padded_number-then-has.ensures) (sym c.has-then-has.ensures ∙ c.if-has-2.false)
