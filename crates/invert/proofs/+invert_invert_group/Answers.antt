@@ -5,9 +5,8 @@ use mathlib.Core.Path.{sym, ap, ap₂, ◌∙◌}
 use mathlib.Core.List.{List, ◌++◌}
 use native.Mathlib.Omega.{arith}
 use borrow.Author.Rules.{rules}
-use lib.ListN.{length, take, drop}
+use lib.ListN.{length, take, drop, length-append, length-drop}
 use lib.Seq.{length-take-le}
-use Rattle.record.proofs.Copying.{copied-whole}
 use Rattle.nodes.proofs.Nodes.{record-room, list-less, node-room, FirstLeaf, first_leaf, leaf-node, leaf-record}
 use Rattle.invert.specs.Nodes.{inverse}
 use Rattle.invert.proofs.Loops.{WroteNodes, wrote_none, wrote-leaf, wrote-more, wrote-all, node-place, front-node, front_long, front_low, inverse-reverses, told, same-length-fronts, same-length-parts, two-parts}
@@ -85,11 +84,11 @@ invert_group-invert-requires t c =
     let bs = c.args.node.now in
     let m = c.inner_start-m.result in
     let law = c.inner_start-m.ensures in
-    let out = c.copy.new.1.0 ++ drop m c.args.out.now in (
+    let out = c.copy_from_slice.new.self ++ drop m c.args.out.now in (
       list-less bs m (length bs) _ law.least (node-room c.requires.node.1) c.decreases,
       (
         law.packed,
-        same-length-parts out bs m (length out) m (length bs) (omega arith) (omega arith) (omega (arith, c.requires.out_len, c.out-then-deep-1.given.1)),
+        same-length-parts out bs m (length out) m (length bs) (omega arith) (omega arith) (omega (arith, c.requires.out_len, length-append c.copy_from_slice.new.self (drop m c.args.out.now), length-drop m c.args.out.now, ap length c.copy_from_slice.ensures.after, length-take-le m bs law.most)),
       ),
     )
 
@@ -98,8 +97,8 @@ invert_group-returns-then-deep t c =
     let bs = c.args.node.now in
     let m = c.inner_start-m.result in
     let law = c.inner_start-m.ensures in
-    let front = copied-whole (take m bs) (take m c.args.out.now) (same-length-fronts c.args.out.now bs m (omega (arith, law.most, c.requires.out_len)) law.most) c.copy.ensures.1 in
-    two-parts c.args.out.now c.copy.new.1.0 c.invert.new.out m (ap length front ∙ length-take-le m bs law.most)
+    let front = c.copy_from_slice.ensures.after in
+    two-parts c.args.out.now c.copy_from_slice.new.self c.invert.new.out m (ap length front ∙ length-take-le m bs law.most)
     ∙ ap₂ (λ (x y : List ℕ). x ++ y) front c.invert.ensures
     ∙ law.deep
     ∙ told c.if-deep.true bs

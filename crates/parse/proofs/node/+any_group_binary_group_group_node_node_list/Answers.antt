@@ -184,7 +184,7 @@ binary_group-returns t c =
     c.in-Took.bits c.in-Took.next (listed fields.result) fields.ensures (rw c.in-Took.is at c.close.ensures))
 
 pub binary_group-shape_of-tree : goal.binary_group-shape_of-tree
-binary_group-shape_of-tree t c = (binary_group-returns t c).wrote.auto.long
+binary_group-shape_of-tree t c = (binary_group-returns t c).wrote.kept.long
 
 pub group-group_kind-start-requires : goal.group-group_kind-start-requires
 group-group_kind-start-requires t c = c.requires.0.inside
@@ -334,7 +334,7 @@ node_list-returns-in_default t c =
     list-ends a.features a.text.now a.at a.slot a.tally a.tree.now loop.next loop.end loop.tree _ loop.invariant (rw c.in_default.is at c.node.ensures)
 
 pub node_list-shape_of-tree-in_default : goal.node_list-shape_of-tree-in_default
-node_list-shape_of-tree-in_default t c = (node_list-returns-in_default t c).wrote.auto.long
+node_list-shape_of-tree-in_default t c = (node_list-returns-in_default t c).wrote.kept.long
 
 pub node_list-whitespace_end-next-requires-in-loop-after : goal.node_list-whitespace_end-next-requires-in-loop-after
 node_list-whitespace_end-next-requires-in-loop-after t c =
@@ -350,7 +350,7 @@ node_list-returns-then-next-after t c =
     rw c.if-next-after.true (list-stops a.features a.text.now a.at a.slot a.tally a.tree.now loop.next loop.end loop.tree _ loop.invariant c.in-Took.after c.in-Took.filled read (omega (arith, c.whitespace_end-next-in-loop-after.ensures, c.if-next-after.true)))
 
 pub node_list-shape_of-tree-then-next-after : goal.node_list-shape_of-tree-then-next-after
-node_list-shape_of-tree-then-next-after t c = (node_list-returns-then-next-after t c).wrote.auto.long
+node_list-shape_of-tree-then-next-after t c = (node_list-returns-then-next-after t c).wrote.kept.long
 
 pub node_list-loop-after-smaller : goal.node_list-loop-after-smaller
 node_list-loop-after-smaller t c =
