@@ -119,6 +119,8 @@ class File:
             for var, step in e.typed.get(cur, []):
                 if norm(step) == n:
                     return ".".join(["c", "type_inv", var] + rest[1:]), None
+        if cur.startswith("Joined") and rest and re.fullmatch(r"if\d+", rest[0]):
+            rest = ["value"] + rest[1:]
         callee = e.places[cur][3]
         if callee and len(rest) > 1 and rest[0] in ("auto", "new") and rest[1] in ("0", "1"):
             k = 1
@@ -216,7 +218,7 @@ class File:
                             env[m.group(1)] = cur
                             at = m.end()
                             continue
-                        if comps[-1:] == ["given"]:
+                        if comps[-1] in ("given", "ensures", "requires", "auto", "new") or norm(comps[-1]) in self.above(home or env[root]):
                             partial[m.group(1)] = (env[root], comps)
                             at = m.end()
                             continue
@@ -305,7 +307,7 @@ class File:
             turned = []
             for i, s in enumerate(segs):
                 if i == first:
-                    turned.append(f"({nm} : {self.place_new(home)})" if nm else self.place_new(home))
+                    turned.append(f"(c : {self.place_new(home)})" if nm else self.place_new(home))
                 else:
                     turned.append(self.turn(s, {nm: home} if nm else {}, None, home))
             if self.cycle and self.in_cycle:
@@ -313,7 +315,11 @@ class File:
             parts = []
             for clause in self.clauses(name, rest):
                 lhs, rhs = clause.split(" =", 1)
-                parts.append(f"{new}{lhs[len(name):]} =" + self.turn(rhs, {"c": home}, None, home))
+                if self.cycle and self.in_cycle:
+                    new_lhs = new + " {t = t}"
+                else:
+                    new_lhs = new
+                parts.append(f"{new_lhs}{lhs[len(name):]} =" + self.turn(rhs, {"c": home}, None, home))
             at = len(answers)
             text = "\n".join([f"{mods}{new} : {' → '.join(turned)}"] + unf + parts)
             self.copy_helpers(answers)
@@ -488,7 +494,7 @@ class File:
                     one = re.sub(rf"(?<![^\s(]){re.escape(alias)}\.({NAME})((?: \((?:[^()]|\([^()]*\))*\)| {NAME}(?:\.{NAME})*)*)", r"tie.\1", one)
                     one = re.sub(r"^\(t : ℕ\) (?:→ )?", "", one)
                     rest = "\n".join(rest).replace(f"{name} t c", f"{name} c")
-                    rest = re.sub(rf"(?<![^\s(])({'|'.join(map(re.escape, self.cycle_names)) or '!'}) t (?=[(c])", r"\1 ", rest).split("\n")
+                    rest = re.sub(rf"(?<![^\s(])({'|'.join(map(re.escape, self.cycle_names)) or '!'}) t (?=[(\w])", r"\1 ", rest).split("\n")
                     self.cycle_names.append(name)
                 self.in_cycle = alias is not None
             stem = self.entry.stem if self.cycle else ""
@@ -578,7 +584,7 @@ class File:
                     nm, pl = places[i]
                     if home is None:
                         home = pl
-                    turned.append(f"({nm} : {self.place_new(pl)})" if nm else self.place_new(pl))
+                    turned.append(f"(c : {self.place_new(pl)})" if nm else self.place_new(pl))
                     if nm:
                         env_sig[nm] = pl
                 else:
@@ -600,7 +606,9 @@ class File:
                     if i < len(pars):
                         env[pars[i]] = pl
                         if pars[i] != "c":
-                            self.say(f"helper {name}: its record is called {pars[i]}")
+                            lhs = re.sub(rf"(?<= ){re.escape(pars[i])}(?= |$)", "c", lhs)
+                if self.cycle and self.in_cycle:
+                    lhs = lhs.replace(name, name + " {t = t}", 1)
                 parts.append(f"{lhs} =" + self.turn(rhs, env, None, home))
             if self.cycle and self.in_cycle:
                 turned[0] = "{t : ℕ} " + turned[0]

@@ -9,7 +9,7 @@ use lib.ListN.{length, take, drop, length-append, length-drop}
 use lib.Seq.{length-take-le}
 use Rattle.nodes.proofs.Nodes.{record-room, list-less, node-room, FirstLeaf, first_leaf, leaf-node, leaf-record}
 use Rattle.invert.specs.Nodes.{inverse}
-use Rattle.invert.proofs.Loops.{WroteNodes, wrote_none, wrote-leaf, wrote-more, wrote-all, node-place, front-node, front_long, front_low, inverse-reverses, told, same-length-fronts, same-length-parts, two-parts}
+use Rattle.invert.proofs.Loops.{WroteNodes, wrote_none, wrote-leaf, wrote-more, wrote-all, node-place, front-node, front_long, front_low, inverse-reverses, told, same-length-parts, two-parts}
 use Rattle.invert.proofs.+invert_invert_group.Goals as goal
 use Rattle.invert.proofs.+invert_invert_group.Goals.{invert-Then-is_leaf}
 
