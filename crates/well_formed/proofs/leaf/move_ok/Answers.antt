@@ -6,23 +6,18 @@ use borrow.Author.Rules.{rules}
 use Rattle.notation.specs.WellFormed.{family_ok, constraints_ok, layers_ok, leaf_ok}
 use Rattle.record.specs.Meaning.{span, span_option, layers}
 use Rattle.well_formed.proofs.leaf.move_ok.Goals as goal
-use Rattle.well_formed.proofs.leaf.move_ok.Goals.{Joined-family_ok, Joined-layers_ok}
+use Rattle.well_formed.proofs.leaf.move_ok.Goals.{Joined-family_ok}
 
 -- the layers and the family, then the constraints
-first_two : (c : Joined-layers_ok) → let a = c.args in c.if-layers_ok.value ≡ (layers_ok a.text.now (layers a.x.layers) && family_ok a.text.now 1 (span a.x.family))
+first_two : (c : Joined-family_ok) → let a = c.args in c.if-layers_ok.value ≡ (layers_ok a.text.now (layers a.x.layers) && family_ok a.text.now 1 (span a.x.family))
 first_two c =
     let e = sym c.layers_ok.ensures in
-    ⊎_elim (λ w. w.2 ∙ rw (e ∙ w.0.taken) w.1.ensures) (λ w. w.1 ∙ rw (e ∙ w.0.left) w.0.left) c.if-layers_ok.branch-raw
-
-first_two-at-Joined-family_ok : (c : Joined-family_ok) → let a = c.args in c.if-layers_ok.value ≡ (layers_ok a.text.now (layers a.x.layers) && family_ok a.text.now 1 (span a.x.family))
-first_two-at-Joined-family_ok c =
-    let e = sym c.layers_ok.ensures in
-    ⊎_elim (λ w. w.2 ∙ rw (e ∙ w.0.taken) w.1.ensures) (λ w. w.1 ∙ rw (e ∙ w.0.left) w.0.left) c.if-layers_ok.branch-raw
+    ⊎_elim (λ w. w.value-is ∙ rw (e ∙ w.if-layers_ok.true) w.family_ok.ensures) (λ w. w.value-is ∙ rw (e ∙ w.if-layers_ok.false) w.if-layers_ok.false) c.if-layers_ok.branch-raw
 
 first_three : (c : Joined-family_ok) → let a = c.args in c.if-family_ok.value ≡ (layers_ok a.text.now (layers a.x.layers) && family_ok a.text.now 1 (span a.x.family) && constraints_ok a.text.now (span_option a.x.constraints))
 first_three c =
-    let e = sym (first_two-at-Joined-family_ok c) in
-    ⊎_elim (λ w. w.2 ∙ rw (e ∙ w.0.taken) w.1.ensures) (λ w. w.1 ∙ rw (e ∙ w.0.left) w.0.left) c.if-family_ok.branch-raw
+    let e = sym (first_two c) in
+    ⊎_elim (λ w. w.value-is ∙ rw (e ∙ w.if-family_ok.true) w.constraints_ok.ensures) (λ w. w.value-is ∙ rw (e ∙ w.if-family_ok.false) w.if-family_ok.false) c.if-family_ok.branch-raw
 
 pub returns-then-constraints_ok : goal.returns-then-constraints_ok
 unfolding leaf_ok

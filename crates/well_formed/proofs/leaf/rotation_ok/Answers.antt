@@ -12,7 +12,7 @@ use Rattle.well_formed.proofs.leaf.rotation_ok.Goals.{Joined-family_ok}
 first_two : (c : Joined-family_ok) → let a = c.args in c.if-family_ok.value ≡ (family_ok a.text.now 0 (span a.x.family) && constraints_ok a.text.now (span_option a.x.constraints))
 first_two c =
     let e = sym c.family_ok.ensures in
-    ⊎_elim (λ w. w.2 ∙ rw (e ∙ w.0.taken) w.1.ensures) (λ w. w.1 ∙ rw (e ∙ w.0.left) w.0.left) c.if-family_ok.branch-raw
+    ⊎_elim (λ w. w.value-is ∙ rw (e ∙ w.if-family_ok.true) w.constraints_ok.ensures) (λ w. w.value-is ∙ rw (e ∙ w.if-family_ok.false) w.if-family_ok.false) c.if-family_ok.branch-raw
 
 pub returns-then-constraints_ok : goal.returns-then-constraints_ok
 unfolding leaf_ok

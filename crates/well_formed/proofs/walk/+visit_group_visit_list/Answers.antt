@@ -18,7 +18,7 @@ use Rattle.well_formed.proofs.Turns.{
 use Rattle.record.specs.Meaning.{kind_at}
 use Rattle.record.proofs.KindTests.{group-low, no-group-high}
 use Rattle.well_formed.proofs.walk.+visit_group_visit_list.Goals as goal
-use Rattle.well_formed.proofs.walk.+visit_group_visit_list.Goals.{visit_group-After-shared_slice_known-2-1, visit_group-After-visit_list, visit_group-After-visit_list-then-group_record_ok, visit_group-In-Steps-2}
+use Rattle.well_formed.proofs.walk.+visit_group_visit_list.Goals.{visit_group-After-shared_slice_known-2-1, visit_group-After-visit_list, visit_group-After-visit_list-then-group_record_ok, visit_group-In-Steps}
 
 -- what a group's record says
 told : {t : ℕ} (c : visit_group-After-shared_slice_known-2-1 t) → GroupTold c.args.t.now
@@ -43,16 +43,16 @@ one {t = t} c =
       answer = c.visit_list.ensures.result_value;
     }
 
-told-at-In-Steps-2 : {t : ℕ} (c : visit_group-In-Steps-2 t) → GroupTold c.args.t.now
-told-at-In-Steps-2 {t = t} c =
+told-at-In-Steps : {t : ℕ} (c : visit_group-In-Steps t) → GroupTold c.args.t.now
+told-at-In-Steps {t = t} c =
     let bs = c.args.t.now in
     group-told bs (slice-below bs c.type_inv.t) c.requires.t_in_bounds c.requires.t_bound
 
-one-at-In-Steps-2 : {t : ℕ} (c : visit_group-In-Steps-2 t) → let a = c.args in FirstRead a.text.now a.depth a.t.now c.first-first.result (answer c.visit_list.result)
-one-at-In-Steps-2 {t = t} c =
+one-at-In-Steps : {t : ℕ} (c : visit_group-In-Steps t) → let a = c.args in FirstRead a.text.now a.depth a.t.now c.first-first.result (answer c.visit_list.result)
+one-at-In-Steps {t = t} c =
     let deep = c.if-depth-eq0.false in
     record {
-      told = told-at-In-Steps-2 c;
+      told = told-at-In-Steps c;
       level = omega arith;
       passed = sym c.group_record_ok.ensures ∙ c.if-group_record_ok.true;
       size = c.first-first.ensures;
@@ -60,8 +60,8 @@ one-at-In-Steps-2 {t = t} c =
     }
 
 -- the first list has so many steps
-one-is : {t : ℕ} (c : visit_group-In-Steps-2 t) → let a = (?After-visit_list) .before .before .before .before .before .before .before .before .before .before .args in FirstRead a.text.now a.depth a.t.now ((?After-visit_list) .before .before .first .result) (some c.in-Steps.a)
-one-is {t = t} c = subst (FirstRead _ _ _ _) (ap answer c.in-Steps.is) (one-at-In-Steps-2 c)
+one-is : {t : ℕ} (c : visit_group-In-Steps t) → let a = c.args in FirstRead a.text.now a.depth a.t.now (c.first-first.result) (some c.in-Steps.a)
+one-is {t = t} c = subst (FirstRead _ _ _ _) (ap answer c.in-Steps.is) (one-at-In-Steps c)
 
 told-at-After-visit_list-then-group_record_ok : {t : ℕ} (c : visit_group-After-visit_list-then-group_record_ok t) → GroupTold c.args.t.now
 told-at-After-visit_list-then-group_record_ok {t = t} c =
@@ -79,7 +79,7 @@ one-at-After-visit_list-then-group_record_ok {t = t} c =
       answer = c.visit_list.ensures.result_value;
     }
 
-one-is-at-After-visit_list-then-group_record_ok : {t : ℕ} (c : visit_group-After-visit_list-then-group_record_ok t) → let a = (?After-second-second) .before .before .before .before .before .before .before .before .before .before .args in FirstRead a.text.now a.depth a.t.now ((?After-second-second) .before .before .first .result) (some c.in-Steps.a)
+one-is-at-After-visit_list-then-group_record_ok : {t : ℕ} (c : visit_group-After-visit_list-then-group_record_ok t) → let a = c.args in FirstRead a.text.now a.depth a.t.now (c.first-first.result) (some c.in-Steps.a)
 one-is-at-After-visit_list-then-group_record_ok {t = t} c = subst (FirstRead _ _ _ _) (ap answer c.in-Steps.is) (one-at-After-visit_list-then-group_record_ok c)
 
 two : {t : ℕ} (c : visit_group-After-visit_list-then-group_record_ok t) → let a = c.args in SecondRead a.text.now a.depth a.t.now c.in-Steps.a (answer c.visit_list-then-group_record_ok.result)
@@ -104,22 +104,21 @@ visit_group-returns-in_default t c =
 
 pub visit_group-of_group-requires : goal.visit_group-of_group-requires
 visit_group-of_group-requires t c =
-    let most = first-capped (one-is (goal.at.visit_group-of_group-requires t c).In-Steps-2) _ refl in
+    let most = first-capped (one-is (goal.at.visit_group-of_group-requires t c).In-Steps) _ refl in
     (omega arith, omega arith)
 
 pub visit_group-returns-then-kind-lt-COMMUTATOR : goal.visit_group-returns-then-kind-lt-COMMUTATOR
 visit_group-returns-then-kind-lt-COMMUTATOR t c =
-    let kind = (goal.at.visit_group-returns-then-kind-lt-COMMUTATOR t c).After-visit_list .before .before .before .before .kind in
-    let number = (goal.at.visit_group-returns-then-kind-lt-COMMUTATOR t c).After-visit_list .before .before .before .number in
-    let a = (goal.at.visit_group-returns-then-kind-lt-COMMUTATOR t c).After-visit_list .before .before .before .before .before .before .before .before .before .before .args in
-    let one = one-is (goal.at.visit_group-returns-then-kind-lt-COMMUTATOR t c).In-Steps-2 in
-    let low = subst (λ (k : ℕ). k < 4) kind.ensures c.if-kind-lt-COMMUTATOR.true in
+    let a = c.args in
+    let one = one-is (goal.at.visit_group-returns-then-kind-lt-COMMUTATOR t c).In-Steps in
+    let low = subst (λ (k : ℕ). k < 4) c.kind-kind.ensures c.if-kind-lt-COMMUTATOR.true in
     let in-a = c.in-Steps.in_a in
-    let met = first-met one ((goal.at.visit_group-returns-then-kind-lt-COMMUTATOR t c).After-visit_list .visit-list .result) in-a c.in-Steps.is ((goal.at.visit_group-returns-then-kind-lt-COMMUTATOR t c).After-visit_list .visit-list .ensures .1) in
-    group-found (no_second one low) 0 refl kind.ensures number.ensures c.count.ensures c.of_group.ensures
-    c.compared.result c.of_group-then-kind-lt-COMMUTATOR.result
-    (group-meets a.text.now a.depth a.t.now one.told c.of_group-then-kind-lt-COMMUTATOR.result in-a none-met kind.ensures refl met (none-second one low) c.of_group-then-kind-lt-COMMUTATOR.ensures)
-    c.compared.ensures
+    let met = first-met one (c.visit_list.result) in-a c.in-Steps.is (c.visit_list.ensures.meets) in
+    let found = group-found (no_second one low) 0 refl c.kind-kind.ensures c.number-number.ensures c.count.ensures c.of_group.ensures
+        c.compared.result c.of_group-then-kind-lt-COMMUTATOR.result
+        (group-meets a.text.now a.depth a.t.now one.told c.of_group-then-kind-lt-COMMUTATOR.result in-a none-met c.kind-kind.ensures refl met (none-second one low) c.of_group-then-kind-lt-COMMUTATOR.ensures)
+        c.compared.ensures in
+    record { result_value = found.0; meets_node = found.1 }
 
 pub visit_group-returns-in_default-visit_list : goal.visit_group-returns-in_default-visit_list
 visit_group-returns-in_default-visit_list t c =
@@ -139,18 +138,17 @@ visit_group-of_group-requires-then-group_record_ok-2 t c = (two (goal.at.visit_g
 pub visit_group-returns-in-Steps-visit_list : goal.visit_group-returns-in-Steps-visit_list
 unfolding two
 visit_group-returns-in-Steps-visit_list t c =
-    let kind = (goal.at.visit_group-returns-in-Steps-visit_list t c).After-visit_list .before .before .before .before .kind in
-    let number = (goal.at.visit_group-returns-in-Steps-visit_list t c).After-visit_list .before .before .before .number in
-    let a = (goal.at.visit_group-returns-in-Steps-visit_list t c).After-visit_list .before .before .before .before .before .before .before .before .before .before .args in
+    let a = c.args in
     let both = two (goal.at.visit_group-returns-in-Steps-visit_list t c).After-visit_list-then-group_record_ok in
     let in-a = c.in-Steps.in_a in
     let in_b = c.in-Steps-visit_list.in_b in
-    let met = first-met both.one ((goal.at.visit_group-returns-in-Steps-visit_list t c).After-visit_list .visit-list .result) in-a c.in-Steps.is ((goal.at.visit_group-returns-in-Steps-visit_list t c).After-visit_list .visit-list .ensures .1) in
+    let met = first-met both.one (c.visit_list.result) in-a c.in-Steps.is (c.visit_list.ensures.meets) in
     let met' = second-met both c.visit_list-then-group_record_ok.result in_b c.in-Steps-visit_list.is c.visit_list-then-group_record_ok.ensures.meets in
-    group-found both c.in-Steps-visit_list.b (ap answer c.in-Steps-visit_list.is) kind.ensures number.ensures c.count-then-group_record_ok.ensures c.of_group-then-group_record_ok.ensures
-    c.compared-then-group_record_ok.result c.of_group-then-group_record_ok-2.result
-    (group-meets a.text.now a.depth a.t.now both.one.told c.of_group-then-group_record_ok-2.result in-a in_b kind.ensures refl met met' c.of_group-then-group_record_ok-2.ensures)
-    c.compared-then-group_record_ok.ensures
+    let found = group-found both c.in-Steps-visit_list.b (ap answer c.in-Steps-visit_list.is) c.kind-kind.ensures c.number-number.ensures c.count-then-group_record_ok.ensures c.of_group-then-group_record_ok.ensures
+        c.compared-then-group_record_ok.result c.of_group-then-group_record_ok-2.result
+        (group-meets a.text.now a.depth a.t.now both.one.told c.of_group-then-group_record_ok-2.result in-a in_b c.kind-kind.ensures refl met met' c.of_group-then-group_record_ok-2.ensures)
+        c.compared-then-group_record_ok.ensures in
+    record { result_value = found.0; meets_node = found.1 }
 
 pub visit_group-returns-else-group_record_ok : goal.visit_group-returns-else-group_record_ok
 visit_group-returns-else-group_record_ok t c =
