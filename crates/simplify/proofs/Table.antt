@@ -120,8 +120,9 @@ ranges-marked i (suc j) high (e ∷ s) h p = go (eqb e 0) (ranges-marked (suc i)
         let there : i + suc j ≡ suc i + j = omega arith in
         rw there f
     go false f =
-        let there : i + suc j ≡ suc i + j = omega arith in
-        rw (le-ltb (i + suc j) i (omega arith), ne_eqb (i + suc j) i (λ z. omega arith), there, f)
+        let there : suc i + j ≡ i + suc j = omega arith in
+        rw (le-ltb (i + suc j) i (omega arith), ne_eqb (i + suc j) i (λ z. omega arith))
+        (ap (◌∷◌ (range_from i e)) (f ∙ ap (λ (k : ℕ). place (range_from k high) (ranges (suc i) s)) there))
 
 -- all of a list, from its end
 unfoldable placed : List Range → List Range

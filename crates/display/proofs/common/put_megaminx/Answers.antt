@@ -8,6 +8,6 @@ use Rattle.display.proofs.common.put_megaminx.Goals as goal
 pub returns : goal.returns
 returns c =
     scrambled
-    (letter-is c.args.kind c.if-kind-lt-D_PLUS.letter (⊎_elim (λ w. inl (w.0.taken, w.1)) (λ w. inr (w.0.left, w.1)) c.if-kind-lt-D_PLUS.branch-raw))
-    (sign-is c.args.kind c.if-kind-eq1.sign (⊎_elim (λ w. inl (w.0.taken, w.1)) (λ w. inr (w.0.left, w.1)) c.if-kind-eq1.branch-raw))
+    (letter-is c.args.kind c.if-kind-lt-D_PLUS.letter (⊎_elim (λ w. inl (w.if-kind-lt-D_PLUS.true, w.letter-is)) (λ w. inr (w.if-kind-lt-D_PLUS.false, w.letter-is)) c.if-kind-lt-D_PLUS.branch-raw))
+    (sign-is c.args.kind c.if-kind-eq1.sign (⊎_elim (λ w. inl (w.if-kind-eq1.true, w.sign-is)) (λ w. inr (w.if-kind-eq1.false, w.sign-is)) c.if-kind-eq1.branch-raw))
     (wrote_then c.put-next.ensures (wrote_then c.put-last.ensures c.put.ensures))

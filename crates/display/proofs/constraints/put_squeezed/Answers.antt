@@ -9,7 +9,7 @@ use Rattle.display.proofs.constraints.put_squeezed.Goals as goal
 
 pub loop-i-init : goal.loop-i-init
 loop-i-init c =
-    all-remains _ c.args.out.now c.requires.0
+    all-remains _ c.args.out.now c.requires.at_le_most
 
 pub loop-i-preserved-then-width-eq0 : goal.loop-i-preserved-then-width-eq0
 loop-i-preserved-then-width-eq0 c =

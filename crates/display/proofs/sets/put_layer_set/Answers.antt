@@ -20,7 +20,7 @@ use Rattle.display.proofs.sets.put_layer_set.Goals.{After-whitespace_end-first, 
 first-in : (c : After-whitespace_end-first) → c.whitespace_end-first.result ≤ length c.args.part.now
 first-in c =
     let part = c.args.part.now in
-    omega (arith, c.whitespace_end-first.ensures, end-length white_space part 1 (set_long part c.requires.1))
+    omega (arith, c.whitespace_end-first.ensures, end-length white_space part 1 (set_long part c.requires.part_value))
 
 put_first : (c : In-Put) → PutItem c.args.part.now c.whitespace_end-first.result c.in-Put.end c.put-open.new.out c.put_element.new.out c.put-open.result c.in-Put.next
 put_first c =
@@ -29,10 +29,10 @@ put_first c =
 
 first-and-rest : (c : In-Put) → (l : List LayerSetElement) × (or_empty (layer_set_in c.args.part.now) ≡ (put_first c).value ∷ l) × Following (layer_set_element true) c.args.part.now c.in-Put.end l
 first-and-rest c =
-    set_first c.args.part.now c.requires.1 c.whitespace_end-first.result c.whitespace_end-first.ensures (put_first c)
+    set_first c.args.part.now c.requires.part_value c.whitespace_end-first.result c.whitespace_end-first.ensures (put_first c)
 
 pub whitespace_end-first-requires : goal.whitespace_end-first-requires
-whitespace_end-first-requires c = set_long c.args.part.now c.requires.1
+whitespace_end-first-requires c = set_long c.args.part.now c.requires.part_value
 
 pub put_element-requires : goal.put_element-requires
 put_element-requires c = record { at_le_most = omega (arith, c.put-open.ensures.counts); from_in_bounds = first-in (goal.at.put_element-requires c).After-whitespace_end-first }
@@ -41,15 +41,17 @@ pub returns-in_default : goal.returns-in_default
 returns-in_default c =
     let a = c.args in
     let n = not-put a.part.now c.whitespace_end-first.result c.put-open.result c.in_default.is c.put_element.ensures in
-    rw (set-empty a.part.now c.requires.1 c.whitespace_end-first.result c.whitespace_end-first.ensures n.0)
+    rw (set-empty a.part.now c.requires.part_value c.whitespace_end-first.result c.whitespace_end-first.ensures n.0)
     (wrote_then c.put-open.ensures (rw n.1 at c.put.ensures))
 
 pub put_more-close-requires : goal.put_more-close-requires
 put_more-close-requires c =
-    let w = (goal.at.put_more-close-requires c).After-whitespace_end-first in (
-      omega (arith, (put_first (goal.at.put_more-close-requires c).In-Put).wrote.counts),
-      (item-end w.before.before.before.args.part.now w.whitespace-end.result c.in-Put.end (first-in w) (put_first (goal.at.put_more-close-requires c).In-Put).reads).1,
-    )
+    let w = (goal.at.put_more-close-requires c).After-whitespace_end-first in
+    let x = put_first (goal.at.put_more-close-requires c).In-Put in
+    record {
+      at_le_most = omega (arith, x.wrote.counts);
+      from_in_bounds = (item-end c.args.part.now c.whitespace_end-first.result c.in-Put.end (first-in w) x.reads).1;
+    }
 
 pub put-requires-2 : goal.put-requires-2
 put-requires-2 c =

@@ -22,7 +22,7 @@ use Rattle.display.proofs.sets.put_more.Goals.{After-whitespace_end-first, Then-
 pub loop-first-init : goal.loop-first-init
 loop-first-init c =
     let a = c.args in
-    (c.requires.1, c.requires.at_le_most, refl, λ l f. sofar-none a.out.now a.at f)
+    (c.requires.from_in_bounds, c.requires.at_le_most, refl, λ l f. sofar-none a.out.now a.at f)
 
 -- the comma that was seen lies within the part
 comma-is : (c : Then-is_comma) → eqb (byte_at c.args.part.now c.whitespace_end-comma.result) 44 ≡ true

@@ -21,7 +21,7 @@ use Rattle.display.proofs.sets.put_more.Given as goal
 abbrev pub invariant-loop-first : goal.invariant-loop-first
 invariant-loop-first l =
     (l.end ≤ length l.part) × (l.next ≤ MOST) × (length l.out ≡ length l.initial.out)
-    × ((l : List LayerSetElement) → Following (layer_set_element true) l.part l.from l → Sofar l.part l.end l.initial.out l.out l.at l.next l)
+    × ((rest : List LayerSetElement) → Following (layer_set_element true) l.part l.from rest → Sofar l.part l.end l.initial.out l.out l.at l.next rest)
 
 abbrev pub decreases-loop-first : goal.decreases-loop-first
 decreases-loop-first l = length l.part - l.end

@@ -38,8 +38,7 @@ one {t = t} c = one-group c.requires.good_node c.kind-kind.ensures c.number-mult
 
 two : {t : ℕ} (c : group-After-first_end-middle t) → TwoGroup c.args.text.now c.args.bytes.now c.kind-kind.result c.number-multiplier.result c.first_end-middle.result
 two {t = t} c =
-    let pre = c.requires.1 in
-    two-group pre.0 c.kind-kind.ensures c.number-multiplier.ensures c.first_end-middle.ensures c.if-kind-lt-COMMUTATOR.false pre.1
+    two-group c.requires.good_node c.kind-kind.ensures c.number-multiplier.ensures c.first_end-middle.ensures c.if-kind-lt-COMMUTATOR.false c.requires.bytes_bound
 
 pub group-number-multiplier-requires : goal.group-number-multiplier-requires
 group-number-multiplier-requires t c = node-room c.requires.good_node.is_node
@@ -63,7 +62,7 @@ group-node_list-close-requires t c =
 pub group-returns-then-kind-lt-COMMUTATOR : goal.group-returns-then-kind-lt-COMMUTATOR
 group-returns-then-kind-lt-COMMUTATOR t c =
     let g = one (goal.at.group-returns-then-kind-lt-COMMUTATOR t c).Then-kind-lt-COMMUTATOR in
-    wrote_as (goal.at.group-returns-then-kind-lt-COMMUTATOR t c).Start g.inside.prints (wrote_then (c.put_opening-open.ensures g.group g.number) (wrote_then c.node_list-close.ensures c.put_closing.ensures))
+    wrote_as (put_nodes (unspanned c.args.text.now (unpack c.args.bytes.now))) g.inside.prints (wrote_then (c.put_opening-open.ensures g.group g.number) (wrote_then c.node_list-close.ensures c.put_closing.ensures))
 
 pub group-first_end-middle-requires : goal.group-first_end-middle-requires
 group-first_end-middle-requires t c = let g = c.requires.good_node in (g.node, g.is_node)
@@ -97,7 +96,7 @@ group-node_list-close-requires-2 t c =
 pub group-returns : goal.group-returns
 group-returns t c =
     let g = two (goal.at.group-returns t c).After-first_end-middle in
-    wrote_as (goal.at.group-returns t c).Start g.inside.prints
+    wrote_as (put_nodes (unspanned c.args.text.now (unpack c.args.bytes.now))) g.inside.prints
     (wrote_then c.put-open.ensures (wrote_then c.node_list-separator.ensures (wrote_then (c.put_separator-second.ensures g.group g.number) (wrote_then c.node_list-close-2.ensures c.put_closing-2.ensures))))
 
 pub node_list-loop-t-init : goal.node_list-loop-t-init
@@ -132,9 +131,9 @@ others : {t : ℕ} (c : node_list-Joined-is_leaf t) → Listing put_others c.arg
 others {t = t} c =
     ⊎_elim
     (λ w.
-    let f = first_leaf c.loop-t.invariant.packed_left c.loop-t-test.true c.is_leaf.ensures w.0.taken in
-    rw (w.6, ap (λ x. x.now) w.7, w.8) (leaf-listed c.loop-t.invariant f (w.2.ensures f.step (leaf-head f))))
-    (λ w. rw (w.8, ap (λ x. x.now) w.9, w.10) (group-listed c.loop-t.invariant w.1.ensures w.4.ensures))
+    let f = first_leaf c.loop-t.invariant.packed_left c.loop-t-test.true c.is_leaf.ensures w.if-is_leaf.true in
+    rw (w.out-is, ap (λ x. x.now) w.t-is, w.next-is) (leaf-listed c.loop-t.invariant f (w.leaf-next.ensures f.step (leaf-head f))))
+    (λ w. rw (w.out-is, ap (λ x. x.now) w.t-is, w.next-is) (group-listed c.loop-t.invariant w.node_end-end.ensures w.group-next.ensures))
     c.if-is_leaf.branch-raw
 
 pub node_list-put-next-requires : goal.node_list-put-next-requires

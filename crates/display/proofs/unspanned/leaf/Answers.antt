@@ -6,12 +6,13 @@ use mathlib.Core.Logic.{⊎_elim, inl, inr}
 use Rattle.notation.specs.Tree.{pause, slash}
 use Rattle.record.proofs.Packed.{head_at-kind}
 use Rattle.display.proofs.Leaves.{leaf-put, pair_put, megaminx-put, sixth-or-seventh, transform-good, transform-put}
+use native.Mathlib.Omega.{arith}
 use borrow.Author.Rules.{rules}
 use Rattle.display.proofs.unspanned.leaf.Goals as goal
 
 pub put_transform-requires : goal.put_transform-requires
 put_transform-requires c =
-    record { at_le_most = c.requires.at_le_most; good_transform = transform-good c.args.text.now c.args.t.now c.kind.ensures c.requires.good_leaf (sixth-or-seventh c.kind.result c.if-this-lt6.false c.in-6.if-this-lt8-own.true) }
+    record { at_le_most = c.requires.at_le_most; good_transform = transform-good c.args.text.now c.args.t.now c.kind.ensures c.requires.good_leaf (sixth-or-seventh c.kind.result (omega arith) (omega arith)) }
 
 pub returns-in-8 : goal.returns-in-8
 unfolding put_step step_of
@@ -33,10 +34,10 @@ returns-in-10 c =
 pub returns-in-6 : goal.returns-in-6
 returns-in-6 c =
     let a = c.args in
-    λ x h. transform-put a.text.now a.t.now c.kind.ensures c.put_transform.ensures x h (sixth-or-seventh c.kind.result c.if-this-lt6.false c.in-6.if-this-lt8-own.true)
+    λ x h. transform-put a.text.now a.t.now c.kind.ensures c.put_transform.ensures x h (sixth-or-seventh c.kind.result (omega arith) (omega arith))
 
 pub returns-in_default : goal.returns-in_default
 returns-in_default c =
     let a = c.args in
-    megaminx-put a.text.now a.t.now c.kind.ensures c.requires.good_leaf c.in_default-1.rest
-    (⊎_elim (λ w. inl w.taken) (λ w. inr w.1.left) c.in_default-2.branch-raw) c.put_megaminx.ensures
+    megaminx-put a.text.now a.t.now c.kind.ensures c.requires.good_leaf (search rules)
+    (⊎_elim (λ w. inl w.if-this-lt6-1.true) (λ w. inr w.if-this-lt8-1.false) c.in_default-2.branch-raw) c.put_megaminx.ensures

@@ -10,7 +10,7 @@ slice_bounds-put_layer_set-end c =
 
 pub put_layer_set-requires : goal.put_layer_set-requires
 put_layer_set-requires c =
-    (c.requires.at_le_most, layers-set c.args.text.now c.args.layers _ c.in-Set.is c.requires.layers_value)
+    record { at_le_most = c.requires.at_le_most; part_value = layers-set c.args.text.now c.args.layers _ c.in-Set.is c.requires.layers_value }
 
 pub returns-in-None : goal.returns-in-None
 returns-in-None c =

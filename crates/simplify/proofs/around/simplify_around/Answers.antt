@@ -20,7 +20,7 @@ use Rattle.simplify.proofs.around.simplify_around.Goals.{Joined-low-max_layer}
 ends : (c : Joined-low-max_layer) → c.if-low-max_layer.before ≡ pick (leb c.args.low c.args.max_layer) (c.args.low - 1) c.args.max_layer
 ends c =
     let a = c.args in
-    ⊎_elim (λ w. rw (le-leb a.low a.max_layer w.0.taken) w.1) (λ w. rw (lt-leb a.low a.max_layer w.0.left) w.1) c.if-low-max_layer.branch-raw
+    ⊎_elim (λ w. rw (le-leb a.low a.max_layer w.if-low-max_layer.true) w.before-is) (λ w. rw (lt-leb a.low a.max_layer w.if-low-max_layer.false) w.before-is) c.if-low-max_layer.branch-raw
 
 pub overflow_add-ranges : goal.overflow_add-ranges
 overflow_add-ranges c = omega (arith, c.count_some.ensures, c.count_some-2.ensures, few-some 1 c.if-low-max_layer.before, few-some (c.args.high + 1) c.args.max_layer)

@@ -27,11 +27,11 @@ pub loop-i-preserved : goal.loop-i-preserved
 loop-i-preserved c =
     let grown : c.if-far-high.far ≡ max c.loop-i.far (get_or c.loop-i.reach c.loop-i.i 0) = ⊎_elim (λ w. omega (arith, w)) (λ w. omega (arith, w)) c.if-far-high.branch-raw in
     let turned : c.if-far-i.reach ≡ pick (leb c.loop-i.i (max c.loop-i.far (get_or c.loop-i.reach c.loop-i.i 0))) 0 c.loop-i.i =
-    ⊎_elim (λ w. rw (lt-leb c.loop-i.i (max c.loop-i.far (get_or c.loop-i.reach c.loop-i.i 0)) (omega (arith, grown, w.0.taken))) w.1)
-    (λ w. rw (le-leb c.loop-i.i (max c.loop-i.far (get_or c.loop-i.reach c.loop-i.i 0)) (omega (arith, grown, w.0.left))) w.1) c.if-far-i.branch-raw in (
+    ⊎_elim (λ w. rw (lt-leb c.loop-i.i (max c.loop-i.far (get_or c.loop-i.reach c.loop-i.i 0)) (omega (arith, grown, w.if-far-i.true))) w.reach-is)
+    (λ w. rw (le-leb c.loop-i.i (max c.loop-i.far (get_or c.loop-i.reach c.loop-i.i 0)) (omega (arith, grown, w.if-far-i.false))) w.reach-is) c.if-far-i.branch-raw in (
       simp length-set c.loop-i.invariant.0,
       simp length-set (omega arith),
-      omega (arith, grown, c.type_inv.reach c.loop-i.i),
+      omega (arith, grown),
       rw (grown, turned, add-one c.loop-i.i) (next-over c.loop-i.far c.loop-i.i c.loop-i.reach c.loop-i.i (omega arith) ∙ c.loop-i.invariant.3),
     )
 
