@@ -172,7 +172,7 @@ fn inv_node(node: &[u8], out: &mut [u8])
 // Writes the deep inverse of a commutator: its lists exchanged.
 fn exchange_lists(node: &[u8], out: &mut [u8])
     requires node { (n : Node Leaf) × IsNode node.now n }
-    requires node_value { kind_at node.now ≡ 4 }
+    requires commutator { kind_at node.now ≡ 4 }
     requires out_len { length out.old ≡ length node.now }
     ensures { out.new ≡ pack (deeply (unpack node.now)) }
 {
