@@ -33,6 +33,7 @@ class Entry:
         self.new = dict(zip((norm(p[0]) for p in e["places"]), e["places_by_name"]))
         self.arms = {norm(p[0]): a for p, a in zip(e["places"], e["arms"])}
         self.typed = {norm(p[0]): t for p, t in zip(e["places"], e["typed"])}
+        self.params = list(e["params"])
         self.needs = {norm(a): (b, norm(at[0])) for (a, b), at in zip(e["needs"], e["asked_at"])}
         self.need_list = [(norm(a), b, norm(at[0])) for (a, b), at in zip(e["needs"], e["asked_at"])]
         self.settled = e["settled"]
@@ -58,53 +59,102 @@ class Entry:
 
 
 class File:
-    def __init__(self, path, entry, module, said, params):
+    def __init__(self, path, entry, module, said, params, labels, own):
+        self.labels, self.own = labels, own
         self.path, self.entry, self.module, self.said, self.params = path, entry, module, said, params
         with open(path, encoding="utf-8") as f:
             self.text = f.read()
-        self.shared, self.alias, self.imports = [], {}, set()
+        self.shared, self.alias, self.takes, self.imports = [], {}, {}, set()
 
     def say(self, what):
         self.said.append(f"{self.path}: {what}")
 
     # paths -----------------------------------------------------------------
+    def above(self, home):
+        """The places on the way to a place, by the old name of the step that leads to each."""
+        found, cur = {}, home
+        while cur is not None:
+            step = norm(self.entry.places[cur][2][0])
+            found.setdefault(step, cur)
+            cur = self.entry.parent(cur)
+        return found
+
     def walk(self, place, comps, goal, home):
-        """The text for a path from a record at a place. Returns (text, place): the place where the path ends at a record, else None."""
+        """The text for a path from a record at a place. Returns (text, place): the place where the path ends at a record, else None. A step is found by its
+        name, whatever the number of `before`s: there are not as many places as there were."""
         e, cur, i = self.entry, place, 0
-        while i < len(comps):
-            comp = comps[i]
-            n = norm(comp)
-            if n == "before":
-                up = e.parent(cur)
-                if up is None:
-                    self.say(f"no place before {cur}: {'.'.join(comps)}")
-                    return None, None
-                cur, i = up, i + 1
-                continue
-            old, new = e.places[cur][2]
-            rest = comps[i + 1:]
-            if norm(old) == n and old:
-                arm = e.arms.get(cur)
-                if arm:
-                    for field, step, at in arm[2]:
-                        if norm(step) == n and [norm(x) for x in at] == [norm(x) for x in rest[:len(at)]] and at:
-                            return ".".join(["c", arm[0], field] + rest[len(at):]), None
-                    if rest[:1] == ["rest"] and any(field == "in_default-own" for field, _, _ in arm[2]):
-                        rest = ["in_default-own"] + rest
-                    return ".".join(["c", arm[0]] + rest), None
-                if n.startswith("shared_slice_known") and rest[:1] == ["given"]:
-                    for var, step in e.typed.get(cur, []):
-                        if norm(step) == n:
-                            return ".".join(["c", "type_inv", var] + rest[1:]), None
-                return ".".join(["c", new] + rest), None
-            if cur == "Start" or n in ("args", "requires", "lifetimes", "ranges"):
-                if n == "args" and i + 1 < len(comps):
-                    comps = comps[:i + 1] + [comps[i + 1].replace("-", "_")] + comps[i + 2:]
-                return ".".join(["c"] + comps[i:]), None
-            # a flat field of the place
-            self.say(f"at {cur}: {'.'.join(comps)}")
+        while i < len(comps) and norm(comps[i]) == "before":
+            cur, i = e.parent(cur) or "Start", i + 1
+        if i == len(comps):
+            return None, cur
+        n, rest = norm(comps[i]), comps[i + 1:]
+        if n in ("args", "requires", "lifetimes", "ranges", "well_formed"):
+            if n == "args" and rest:
+                rest = [rest[0].replace("-", "_")] + rest[1:]
+            if n == "requires":
+                rest = self.labelled(self.own, ["requires"] + rest)[1:]
+            return ".".join(["c", n] + rest), None
+        cur = self.above(home).get(n)
+        if cur is None:
+            self.say(f"no step {comps[i]} above {home}: {'.'.join(comps)}")
             return ".".join(["c"] + comps[i:]), None
-        return None, cur
+        old, new = e.places[cur][2]
+        arm = e.arms.get(cur)
+        if arm:
+            for field, step, at in arm[2]:
+                if norm(step) == n and [norm(x) for x in at] == [norm(x) for x in rest[:len(at)]] and at:
+                    return ".".join(["c", arm[0], field] + rest[len(at):]), None
+            if rest[:1] == ["rest"] and any(field == "in_default-own" for field, _, _ in arm[2]):
+                rest = ["in_default-own"] + rest
+            return ".".join(["c", arm[0]] + rest), None
+        if n.startswith(("shared_slice_known", "slice_known")) and rest[:1] == ["given"]:
+            for var, step in e.typed.get(cur, []):
+                if norm(step) == n:
+                    return ".".join(["c", "type_inv", var] + rest[1:]), None
+        callee = e.places[cur][3]
+        if callee and rest and rest[0] in ("ensures", "requires"):
+            rest = self.labelled(callee, rest)
+        return ".".join(["c", new] + rest), None
+
+    def labelled(self, function, rest):
+        """A path into clauses that had no names: their names where there are several."""
+        labels = self.labels.get(function, {}).get(rest[0], [])
+        if len(labels) < 2 or not all(labels):
+            return rest
+        k, at = 0, 1
+        while at < len(rest) and rest[at] == "1" and k < len(labels) - 1:
+            k, at = k + 1, at + 1
+        if k < len(labels) - 1:
+            if at >= len(rest) or rest[at] != "0":
+                return rest
+            at += 1
+        return [rest[0], labels[k]] + rest[at:]
+
+    def as_record(self, function, kind, text):
+        """A tuple that proves several clauses, as a record by their names."""
+        labels = self.labels.get(function, {}).get(kind, [])
+        if len(labels) < 2 or not all(labels):
+            return text
+        m = re.match(r"(\s*(?:let [^\n]* in\s*)*)\((.*)\)\s*$", text, re.S)
+        items, depth, cur = [], 0, ""
+        for ch in m.group(2) if m else "":
+            if ch in "([{":
+                depth += 1
+            if ch in ")]}":
+                depth -= 1
+            if depth < 0:
+                break
+            if ch == "," and depth == 0:
+                items.append(cur.strip())
+                cur = ""
+            else:
+                cur += ch
+        if cur.strip():
+            items.append(cur.strip())
+        if not m or depth or len(items) != len(labels):
+            self.say(f"no record for {kind} of {function}: {' '.join(text.split())[:150]}")
+            return text
+        return m.group(1) + "record { " + "; ".join(f"{a} = {b}" for a, b in zip(labels, items)) + " }"
 
     def record(self, cur, goal, home):
         if cur == home:
@@ -117,7 +167,7 @@ class File:
     def turn(self, text, env, goal, home):
         out, at = [], 0
         env = dict(env)
-        let = re.compile(rf"let ({NAME}) = ((?:{NAME})(?:\.{NAME})*) in\s*")
+        let = re.compile(rf"let ({NAME})(?: : tie\.[^=]*?)? = ((?:{NAME})(?:\.{NAME})*) in\s*")
         fn = re.compile(rf"\(({NAME}) ({NAME}(?:\.{NAME})*)\)((?:\.{NAME})*)")
         bare = re.compile(rf"({NAME}) ({NAME}(?:\.{NAME})*)(?![^\s)\],;])")
         while at < len(text):
@@ -150,9 +200,12 @@ class File:
                         at = m.end()
                         continue
                 m = PATH.match(text, at)
-                if m and m.group(1) in env:
+                if m and m.group(1) in env and not (not m.group(2) and re.match(r"\s*=(?!=)", text[m.end():])):
                     comps = [x for x in m.group(2).split(".") if x]
                     t, cur = self.walk(env[m.group(1)], comps, goal, home)
+                    before = re.search(rf"({NAME})\s+$", "".join(out))
+                    if cur is not None and before and before.group(1) in self.takes:
+                        cur = self.takes[before.group(1)]
                     out.append(t if cur is None else self.record(cur, goal, home))
                     at = m.end()
                     continue
@@ -169,6 +222,8 @@ class File:
             out.append(text[at])
             at += 1
         done = re.sub(r"\.branch(?![\w-])", ".branch-raw", "".join(out))
+        done = re.sub(r"\.(type-inv|well-formed|element-fits)(?![\w-])", lambda m: m.group(0).replace("-", "_"), done)
+        done = re.sub(rf"not-(?:true|false) _ (c\.if-not-{NAME}\.(?:true|false))", r"\1", done)
         return re.sub(rf"(?<=\.)({NAME})", lambda m: m.group(1).replace("-", "_") if m.group(1).replace("-", "_") in self.params else m.group(1), done)
 
     # declarations -------------------------------------------------------------
@@ -329,7 +384,18 @@ class File:
                     if pars[:1] != ["c"]:
                         self.say(f"{name}: parameters {pars}")
                     pars = [p for p in pars if p != "κs"]
-                    parts.append(f"{new} {' '.join(pars)} =" + self.turn(rhs, {"c": at}, new, at))
+                    said = self.turn(rhs, {"c": at}, new, at)
+                    if new.startswith("returns"):
+                        said = self.as_record(self.own, "ensures", said)
+                    elif re.search(r"-requires(-|$)", new):
+                        callee = re.sub(r"-requires.*", "", new)
+                        fits = [f for f in self.entry.params if callee == f.split("::")[-1] or callee.startswith(f.split("::")[-1] + "-")]
+                        if len(fits) == 1:
+                            said = self.as_record(fits[0], "requires", said)
+                        elif fits:
+                            fits.sort(key=len)
+                            said = self.as_record(fits[-1], "requires", said)
+                    parts.append(f"{new} {' '.join(pars)} =" + said)
                 answers.append("\n".join(comments + [f"pub {new} : goal.{new}"] + unf + parts))
                 continue
             # a helper, perhaps over places
@@ -363,6 +429,9 @@ class File:
                         env_sig[nm] = pl
                 else:
                     turned.append(self.turn(s, env_sig, None, home) if env_sig else s)
+            explicit = [i for i, s in enumerate(segs) if not s.startswith("{")]
+            if explicit[0] in places:
+                self.takes[name] = places[explicit[0]][1]
             if len(places) > 1:
                 self.say(f"helper {name} over {len(places)} places")
             parts = []
@@ -429,13 +498,45 @@ def parameters(crate):
     return found
 
 
+CLAUSE = re.compile(r"^\s+(requires|ensures)(\*?)(?: (\w+))? \{", re.M)
+
+
+def clause_labels(root):
+    """The names of the clauses of each function of the crates, by its path: {"requires": [..], "ensures": [..]}."""
+    found = {}
+    for crate in sorted(os.listdir(root)):
+        for folder, _, files in os.walk(os.path.join(root, crate, "src")):
+            for f in files:
+                if not f.endswith(".rt"):
+                    continue
+                rel = os.path.relpath(os.path.join(folder, f), os.path.join(root, crate, "src"))[:-3].split(os.sep)
+                mod = [crate] + [m for m in rel if m not in ("lib", "main")]
+                with open(os.path.join(folder, f), encoding="utf-8") as g:
+                    text = g.read()
+                owner = None
+                for part in re.split(r"(?m)^(?=\s*(?:#\[|pub |const |unsafe |extern |fn |impl ))", text):
+                    m = re.match(r"\s*impl(?:<[^>]*>)? (\w+)", part)
+                    if m:
+                        owner = m.group(1)
+                        continue
+                    m = re.match(r"(\s*)(?:pub(?:\([a-z]+\))? |const |unsafe |extern \"C\" )*fn (\w+)", part)
+                    if not m:
+                        continue
+                    path = mod + ([owner] if m.group(1) and owner else []) + [m.group(2)]
+                    labels = {"requires": [], "ensures": []}
+                    for kind, star, label in CLAUSE.findall(part):
+                        labels[kind].append(label)
+                    found["::".join(path)] = labels
+    return found
+
+
 def main():
     with open(sys.argv[1], encoding="utf-8") as f:
         names = json.load(f)
     crate = sys.argv[2].rstrip("/")
     only = sys.argv[3:]
     cname = os.path.basename(crate)
-    said, params = [], parameters(crate)
+    said, params, labels = [], parameters(crate), clause_labels(os.path.dirname(crate))
     n = 0
     for folder, dirs, files in os.walk(os.path.join(crate, "proofs")):
         if "Proof.antt" not in files:
@@ -452,7 +553,7 @@ def main():
         if e is None:
             said.append(f"{path}: names.json has no entry")
             continue
-        File(path, Entry(e), f"Rattle.{cname}.proofs.{rel}", said, params).write()
+        File(path, Entry(e), f"Rattle.{cname}.proofs.{rel}", said, params, labels, f"{cname}::" + rel.replace(".", "::")).write()
         n += 1
     print("\n".join(said))
     print(f"{n} turned, {len(said)} remarks")

@@ -265,6 +265,10 @@ def files(root):
 def main():
     root = sys.argv[1] if len(sys.argv) > 1 else "."
     own, port = table(OWN), table(PORT)
+    antt = [p for p in files(root) if p.endswith(".antt")]
+    if not any(name in own for p in antt for line in open(p, encoding="utf-8") for name in TOKEN.findall(line)):
+        print("nothing to do: no definition has an old name")
+        return
     for path in files(root):
         name = os.path.relpath(path, root)
         special = {k: v for start, names in SPECIAL.items() if name.startswith(start) for k, v in names.items()}

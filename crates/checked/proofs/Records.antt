@@ -6,7 +6,7 @@ use mathlib.Core.List.{List}
 use lib.ListN.{length, drop}
 use Rattle.notation.specs.Refusals.{result}
 use Rattle.notation.specs.Tree.{Span, Layers, rotation, move, pause, pair, slash, megaminx}
-use Rattle.notation.specs.Packed.{RECORD, Head, leaf_head, group_head, binary_head, head_at_lem, unpack}
+use Rattle.notation.specs.Packed.{RECORD, Head, leaf_head, group_head, binary_head, head_at, unpack}
 use Rattle.notation.specs.WellFormed.{leaf_ok, layers_ok}
 use Rattle.notation.specs.Entries.{prefix_of}
 use Rattle.laws.proofs.Bools.{no-refusal, and_left}
@@ -30,5 +30,5 @@ prefix-ok text (group_head k n m c) t l ok e = no-refusal e
 prefix-ok text (binary_head k n n' m c) t l ok e = no-refusal e
 
 -- the record at a number of an accepted tree
-pub record-ok : (text tree : List ℕ) → Accepted text tree → (k : ℕ) → k < length tree / RECORD → HeadOk text (head_at_lem (drop (RECORD * k) tree))
+pub record-ok : (text tree : List ℕ) → Accepted text tree → (k : ℕ) → k < length tree / RECORD → HeadOk text (head_at (drop (RECORD * k) tree))
 record-ok text tree s k h = all-at k (heads-ok text (unpack tree) s.ok) (head_at_lem s.packed k h)

@@ -33,7 +33,7 @@ use Rattle.notation.specs.Clauses.{
   has_family,
   has_constraints,
   has_set,
-  kind_ok_lem,
+  kind_ok,
   parts_inside,
   layers_in_range,
   multiplier_in_range,
@@ -64,7 +64,7 @@ abbrev pub asks : List ℕ → ℕ → Fields → Bool
 asks text k r = ask_layers text k r && ask_family text k r && ask_constraints text k r && ask_multiplier k r
 
 -- at a depth of 1 a group's level is no question
-pub asked : (text bs : List ℕ) → kind_ok_lem (fields_at bs) ≡ true → head_ok text 1 (head_at bs) ≡ asks text (kind (fields_at bs)) (fields_at bs)
+pub asked : (text bs : List ℕ) → kind_ok (fields_at bs) ≡ true → head_ok text 1 (head_at bs) ≡ asks text (kind (fields_at bs)) (fields_at bs)
 unfolding leaf_ok
 asked text bs =
     by-kind (λ (k : ℕ) (h : Head). leb k 14 ≡ true → head_ok text 1 h ≡ asks text k (fields_at bs)) bs (kind (fields_at bs)) refl (

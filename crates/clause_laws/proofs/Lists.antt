@@ -25,7 +25,7 @@ use Rattle.notation.specs.Clauses.{
   number,
   count,
   is_group,
-  kind_ok_lem,
+  kind_ok,
   unused_ok,
   lists_end,
   groups_deep,
@@ -51,7 +51,7 @@ use Rattle.clause_laws.proofs.Asked.{asked, InBounds, single-layer, bounds-asked
 
 -- The clauses of one record.
 pub record RecordOk (text : List ℕ) (r : Fields) : Type 0 where
-  pub kind_ok_lem : kind_ok_lem r ≡ true
+  pub kind_ok_lem : kind_ok r ≡ true
   pub unused-ok : unused_ok r ≡ true
   pub bounds : InBounds text r
 
@@ -104,7 +104,7 @@ module _ (text bs : List ℕ) (below : Below 256 bs) (long : RECORD ≤ length b
   number_fits : number (fields_at bs) < 4294967296
   number_fits = field_lt bs below 3 (lit< tt)
 
-  level-said : kind_ok_lem (fields_at bs) ≡ true → pick (is_group (fields_at bs)) 1 0 ≡ level (head_at bs)
+  level-said : kind_ok (fields_at bs) ≡ true → pick (is_group (fields_at bs)) 1 0 ≡ level (head_at bs)
   level-said =
       by-kind (λ (k : ℕ) (h : Head). leb k 14 ≡ true → pick (leb k 5) 1 0 ≡ level h) bs (kind (fields_at bs)) refl (
         λ e. refl,
@@ -133,7 +133,7 @@ module _ (text bs : List ℕ) (below : Below 256 bs) (long : RECORD ≤ length b
       )
       (λ j l e. absurd (omega (arith, leb-true j 14 e)))
 
-  says_of : kind_ok_lem (fields_at bs) ≡ true → same_list (head_record (head_at bs)) (take RECORD bs) ≡ true → head_ok text 1 (head_at bs) ≡ true → Says text bs
+  says_of : kind_ok (fields_at bs) ≡ true → same_list (head_record (head_at bs)) (take RECORD bs) ≡ true → head_ok text 1 (head_at bs) ≡ true → Says text bs
   says_of k e h =
       record {
         exact = same-eq (head_record (head_at bs)) (take RECORD bs) e;
@@ -152,7 +152,7 @@ module _ (text bs : List ℕ) (below : Below 256 bs) (long : RECORD ≤ length b
       (sym by-fields ∙ subst (λ (l : List ℕ). same_list (head_fields (head_at bs)) l ≡ true) e (same_refl (head_fields (head_at bs))))
       (asked text bs o.kind_ok_lem ∙ bounds-asked text r c o.bounds number_fits)
 
-  kind-written : head_fields (head_at bs) ≡ fields_at bs → kind_ok_lem (fields_at bs) ≡ true
+  kind-written : head_fields (head_at bs) ≡ fields_at bs → kind_ok (fields_at bs) ≡ true
   kind-written =
       by-kind (λ (k : ℕ) (h : Head). k ≡ kind (fields_at bs) → head_fields h ≡ fields_at bs → leb k 14 ≡ true) bs (kind (fields_at bs)) refl (
         λ e z. refl,
@@ -189,7 +189,7 @@ module _ (text bs : List ℕ) (below : Below 256 bs) (long : RECORD ≤ length b
       subst (λ (l : List ℕ). same_list (head_record (head_at bs)) l ≡ true) x (same_refl (head_record (head_at bs)))
       in
       let e : head_fields (head_at bs) ≡ r = same-eq (head_fields (head_at bs)) r (by-fields ∙ s) in
-      let k : kind_ok_lem r ≡ true = kind-written e in
+      let k : kind_ok r ≡ true = kind-written e in
       let c : Clean r = same-clean r (sym (written bs below k) ∙ e ∙ sym (listed_same bs)) in (
         record { kind_ok_lem = k; unused-ok = clean-unused r c; bounds = asked-bounds text r c (sym (asked text bs k) ∙ h) number_fits },
         says_of k s h,

@@ -14,7 +14,7 @@ use Rattle.notation.specs.WellFormed.{MAX-NESTING, well_formed}
 use Rattle.notation.specs.Clauses.{
   Fields,
   fields_of,
-  kind_ok_lem,
+  kind_ok,
   unused_ok,
   parts_inside,
   groups_deep,
@@ -46,7 +46,7 @@ below-bytes (b ∷ bs) h = lt-ltb b 256 (h.at 0) and below-bytes bs (below-tail 
 
 -- The seven clauses that ask something of each record.
 record Each (text : List ℕ) (rs : List Fields) : Type 0 where
-  kinds : every kind_ok_lem rs ≡ true
+  kinds : every kind_ok rs ≡ true
   unused : every unused_ok rs ≡ true
   inside : every (parts_inside text) rs ≡ true
   layers : every layers_in_range rs ≡ true
@@ -66,7 +66,7 @@ each_all : (text : List ℕ) (rs : List Fields) → Each text rs → AllOk text 
 each_all text [] e = tt
 each_all text (r ∷ rs) e = (
   record {
-    kind_ok_lem = first_of kind_ok_lem r rs e.kinds;
+    kind_ok_lem = first_of kind_ok r rs e.kinds;
     unused-ok = first_of unused_ok r rs e.unused;
     bounds = record {
       inside-ok = first_of (parts_inside text) r rs e.inside;
@@ -77,7 +77,7 @@ each_all text (r ∷ rs) e = (
     };
   },
   each_all text rs (record {
-    kinds = others-of kind_ok_lem r rs e.kinds;
+    kinds = others-of kind_ok r rs e.kinds;
     unused = others-of unused_ok r rs e.unused;
     inside = others-of (parts_inside text) r rs e.inside;
     layers = others-of layers_in_range r rs e.layers;
@@ -133,7 +133,7 @@ from-packing text tree h =
     let each : (p : Fields → Bool) → ((r : Fields) → RecordOk text r → p r ≡ true) → every p rs ≡ true = λ p q. all-every text p q rs a in
     below-bytes tree b
     and (eq-eqb (length tree % RECORD) 0 (omega arith)
-    and (each kind_ok_lem (λ r q. q.kind_ok_lem)
+    and (each kind_ok (λ r q. q.kind_ok_lem)
     and (each unused_ok (λ r q. q.unused-ok)
     and (each (parts_inside text) (λ r q. q.bounds.inside-ok)
     and (o.ends

@@ -11,7 +11,7 @@ use Rattle.notation.specs.Refusals.{NISS, OVERFLOW}
 use Rattle.notation.specs.Tree.{Leaf, Node, leaf, block, Body, group, binary_group, nil, cons, Tree, map_node, map_nodes}
 use Rattle.notation.specs.Packed.{leaf_record, pack_node, pack, unpack}
 use Rattle.notation.specs.Meaning.{step_of, unspanned}
-use Rattle.notation.specs.WellFormed.{multiplier_ok, leaf_ok, node_ok_lem, body_ok_lem, tree_ok}
+use Rattle.notation.specs.WellFormed.{multiplier_ok, leaf_ok, node_ok, body_ok, tree_ok}
 use Rattle.notation.specs.Invert.{undo, overflows}
 use Rattle.notation.specs.Unroll.{copies, turned, is_niss}
 use Rattle.notation.specs.Print.{put_step, put_node, put_nodes, put_others}
@@ -81,15 +81,15 @@ module _ (text : List ℕ) where
       go false h = refl
 
   mutual
-    unfolding flat_node flat_body flat refusal_node refusal_body first_refusal node_ok_lem body_ok_lem tree_ok FitsNode FitsBody FitsTree
+    unfolding flat_node flat_body flat refusal_node refusal_body first_refusal node_ok body_ok tree_ok FitsNode FitsBody FitsTree
 
-    pub node-good : (n : Node Leaf) (d : Bool) → node_ok_lem text n ≡ true → FitsNode n → refusal_node d n ≡ none → All (Good text) (flat_node undo d n)
+    pub node-good : (n : Node Leaf) (d : Bool) → node_ok text n ≡ true → FitsNode n → refusal_node d n ≡ none → All (Good text) (flat_node undo d n)
     node-good (leaf x) d h f r = one (leaf-good x d (record { ok = h; fits = f }) r) empty
     node-good (block b m) d h f r =
         all-played (is_niss b) (nat_abs m) (refusal_body (turned m d) b) r
         (λ q. body-good b (turned m d) (and_right (multiplier_ok m) _ h) f.1 q)
 
-    pub body-good : (b : Body Leaf) (d : Bool) → body_ok_lem text b ≡ true → FitsBody b → refusal_body d b ≡ none → All (Good text) (flat_body undo d b)
+    pub body-good : (b : Body Leaf) (d : Bool) → body_ok text b ≡ true → FitsBody b → refusal_body d b ≡ none → All (Good text) (flat_body undo d b)
     body-good (group k a) d h f r = tree-good a d h f r
     body-good (binary_group k a b) d h f r =
         all-binary k d (λ e. first_refusal e a) (λ e. first_refusal e b) (λ e. flat undo e a) (λ e. flat undo e b) r
@@ -99,7 +99,7 @@ module _ (text : List ℕ) where
     tree-good nil d h f r = empty
     tree-good (cons n l) d h f r =
         all-order d (refusal_node d n) (first_refusal d l) r
-        (λ q. node-good n d (and_left _ _ h) f.0 q) (λ q. tree-good l d (and_right (node_ok_lem text n) _ h) f.1 q)
+        (λ q. node-good n d (and_left _ _ h) f.0 q) (λ q. tree-good l d (and_right (node_ok text n) _ h) f.1 q)
 
 -- The step at a place.
 pub record There (text : List ℕ) (l : List Leaf) (k : ℕ) : Type 0 where
@@ -121,7 +121,7 @@ unfolding pack pack_node
 alone x = append-nil (leaf_record x)
 
 pub shown : (text : List ℕ) (x : Leaf) → Good text x → Shown text x (leaf_record x)
-unfolding FitsTree FitsNode tree_ok node_ok_lem put_node put_nodes put_others map_node map_nodes
+unfolding FitsTree FitsNode tree_ok node_ok put_node put_nodes put_others map_node map_nodes
 shown text x g =
     let unpacks : unpack (leaf_record x) ≡ cons (leaf x) nil = ap unpack (sym (alone x)) ∙ unpack-pack (cons (leaf x) nil) (g.fits, tt) in
     record {

@@ -17,7 +17,7 @@ use Rattle.notation.specs.Packed.{
   group_head,
   binary_head,
   head_record,
-  head_at_lem,
+  head_at,
   node_size,
   body_size,
   size,
@@ -27,7 +27,7 @@ use Rattle.notation.specs.Packed.{
   pack,
   unpack,
 }
-use Rattle.notation.specs.WellFormed.{multiplier_ok, leaf_ok, node_ok_lem, body_ok_lem, tree_ok}
+use Rattle.notation.specs.WellFormed.{multiplier_ok, leaf_ok, node_ok, body_ok, tree_ok}
 use Rattle.record.specs.Range.{FitsHead}
 use Rattle.record.proofs.RoundTrip.{length-head_record, head_at-head_record}
 use Rattle.laws.proofs.Bools.{and_left, and_right}
@@ -86,7 +86,7 @@ pub heads-long : (t : Tree) → length (heads t []) ≡ size t
 heads-long t = omega (arith, list-long t [])
 
 -- the record at a number is the head at that place
-run_at : {hs : List Head} {bs : List ℕ} → Run hs bs → (k : ℕ) → k < length hs → get_elem? hs k ≡ some (head_at_lem (drop (RECORD * k) bs))
+run_at : {hs : List Head} {bs : List ℕ} → Run hs bs → (k : ℕ) → k < length hs → get_elem? hs k ≡ some (head_at (drop (RECORD * k) bs))
 run_at ended k l = absurd (omega arith)
 run_at (record-then {h} {hs} {bs} f r) zero l = ap some (sym (head_at-head_record h bs f))
 run_at (record-then {h} {hs} {bs} f r) (suc k) l =
@@ -95,9 +95,9 @@ run_at (record-then {h} {hs} {bs} f r) (suc k) l =
     ap (λ (i : ℕ). drop i (head_record h ++ bs)) z
     ∙ sym (drop-drop (RECORD * k) RECORD (head_record h ++ bs))
     ∙ ap (drop (RECORD * k)) (drop_at (head_record h) bs RECORD (length-head_record h)) in
-    run_at r k (omega arith) ∙ ap (λ (s : List ℕ). some (head_at_lem s)) (sym past)
+    run_at r k (omega arith) ∙ ap (λ (s : List ℕ). some (head_at s)) (sym past)
 
-pub head_at_lem : {tree : List ℕ} → Packed tree → (k : ℕ) → k < length tree / RECORD → get_elem? (heads (unpack tree) []) k ≡ some (head_at_lem (drop (RECORD * k) tree))
+pub head_at_lem : {tree : List ℕ} → Packed tree → (k : ℕ) → k < length tree / RECORD → get_elem? (heads (unpack tree) []) k ≡ some (head_at (drop (RECORD * k) tree))
 head_at_lem {tree} p k h =
     let long : length tree ≡ RECORD * size (unpack tree) = sym (ap length p.whole) ∙ length-pack (unpack tree) in
     run_at (tree-run p) k (omega (arith, heads-long (unpack tree)))
@@ -113,19 +113,19 @@ group-ok text (group k a) m = tt
 group-ok text (binary_group k a b) m = tt
 
 mutual
-  unfolding node_heads body_heads heads node_ok_lem body_ok_lem tree_ok
+  unfolding node_heads body_heads heads node_ok body_ok tree_ok
 
-  node_ok_lem : (n : Node Leaf) (text : List ℕ) {hs : List Head} → node_ok_lem text n ≡ true → All (HeadOk text) hs → All (HeadOk text) (node_heads n hs)
+  node_ok_lem : (n : Node Leaf) (text : List ℕ) {hs : List Head} → node_ok text n ≡ true → All (HeadOk text) hs → All (HeadOk text) (node_heads n hs)
   node_ok_lem (leaf x) text o p = one o p
   node_ok_lem (block b m) text o p = one (group-ok text b m) (body_ok_lem b text (and_right (multiplier_ok m) _ o) p)
 
-  body_ok_lem : (b : Body Leaf) (text : List ℕ) {hs : List Head} → body_ok_lem text b ≡ true → All (HeadOk text) hs → All (HeadOk text) (body_heads b hs)
+  body_ok_lem : (b : Body Leaf) (text : List ℕ) {hs : List Head} → body_ok text b ≡ true → All (HeadOk text) hs → All (HeadOk text) (body_heads b hs)
   body_ok_lem (group k a) text o p = list-ok a text o p
   body_ok_lem (binary_group k a b) text o p = list-ok a text (and_left _ _ o) (list-ok b text (and_right (tree_ok text a) _ o) p)
 
   list-ok : (l : Tree) (text : List ℕ) {hs : List Head} → tree_ok text l ≡ true → All (HeadOk text) hs → All (HeadOk text) (heads l hs)
   list-ok nil text o p = p
-  list-ok (cons n l) text o p = node_ok_lem n text (and_left _ _ o) (list-ok l text (and_right (node_ok_lem text n) _ o) p)
+  list-ok (cons n l) text o p = node_ok_lem n text (and_left _ _ o) (list-ok l text (and_right (node_ok text n) _ o) p)
 
 pub heads-ok : (text : List ℕ) (t : Tree) → tree_ok text t ≡ true → All (HeadOk text) (heads t [])
 heads-ok text t o = list-ok t text o empty

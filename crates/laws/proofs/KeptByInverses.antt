@@ -34,7 +34,7 @@ use Rattle.notation.specs.Tree.{
 }
 use Rattle.notation.specs.Meaning.{step_of, unspanned}
 use Rattle.notation.specs.Packed.{body_head}
-use Rattle.notation.specs.WellFormed.{multiplier_ok, leaf_ok, node_ok_lem, body_ok_lem, tree_ok}
+use Rattle.notation.specs.WellFormed.{multiplier_ok, leaf_ok, node_ok, body_ok, tree_ok}
 use Rattle.notation.specs.Invert.{undo, is_min, overflows}
 use Rattle.notation.specs.Unroll.{is_niss}
 use Rattle.notation.specs.declared.features.Features.{Features}
@@ -127,8 +127,8 @@ negated-head : (b : Body Leaf) (m : ℤ) → multiplier_ok m ≡ true → FitsHe
 negated-head (group k a) m h f = (f.0, negated_fits m h, omega arith)
 negated-head (binary_group k a b) m h f = (f.0, f.1, negated_fits m h, omega arith)
 
-node-records : (text : List ℕ) (n : Node Leaf) → node_ok_lem text n ≡ true → inv_refusal_node n ≡ none → FitsNode n → FitsNode (inverted_node n)
-unfolding FitsNode node_ok_lem
+node-records : (text : List ℕ) (n : Node Leaf) → node_ok text n ≡ true → inv_refusal_node n ≡ none → FitsNode n → FitsNode (inverted_node n)
+unfolding FitsNode node_ok
 node-records text (leaf x) h r f = leaf-records text x h r f
 node-records text (block b m) h r f = (negated-head b m (and_left _ _ h) f.0, f.1)
 
@@ -136,7 +136,7 @@ pub inverted-fits : (text : List ℕ) (t : Tree) → tree_ok text t ≡ true →
 unfolding inverted inv_refusal FitsTree tree_ok
 inverted-fits text nil h r f = tt
 inverted-fits text (cons n l) h r f =
-    last_fits (inverted l) (inverted_node n) (inverted-fits text l (and_right (node_ok_lem text n) _ h) (first-left _ _ r) f.1)
+    last_fits (inverted l) (inverted_node n) (inverted-fits text l (and_right (node_ok text n) _ h) (first-left _ _ r) f.1)
     (node-records text n (and_left _ _ h) (first-right (inv_refusal l) _ r) f.0)
 
 -- a group whose contents are inverted has no refusal in them
@@ -154,13 +154,13 @@ deep-head (binary_group Commutator a b) m f = (f.1, f.0, f.2, omega arith)
 deep-head (binary_group Conjugate a b) m f = (f.0, omega (arith, deeply-size b, f.1), f.2, omega arith)
 
 mutual
-  unfolding deeply_node deeply_body deeply deep_refusal_node deep_refusal_body deep_refusal node_ok_lem body_ok_lem tree_ok FitsNode FitsBody FitsTree
+  unfolding deeply_node deeply_body deeply deep_refusal_node deep_refusal_body deep_refusal node_ok body_ok tree_ok FitsNode FitsBody FitsTree
 
-  deeply_node-fits : (n : Node Leaf) (text : List ℕ) → node_ok_lem text n ≡ true → deep_refusal_node n ≡ none → FitsNode n → FitsNode (deeply_node n)
+  deeply_node-fits : (n : Node Leaf) (text : List ℕ) → node_ok text n ≡ true → deep_refusal_node n ≡ none → FitsNode n → FitsNode (deeply_node n)
   deeply_node-fits (leaf x) text h r f = leaf-records text x h r f
   deeply_node-fits (block b m) text h r f = (deep-head b m f.0, deeply_body-fits b text (and_right (multiplier_ok m) _ h) r f.1)
 
-  deeply_body-fits : (b : Body Leaf) (text : List ℕ) → body_ok_lem text b ≡ true → deep_refusal_body b ≡ none → FitsBody b → FitsBody (deeply_body b)
+  deeply_body-fits : (b : Body Leaf) (text : List ℕ) → body_ok text b ≡ true → deep_refusal_body b ≡ none → FitsBody b → FitsBody (deeply_body b)
   deeply_body-fits (group k a) text h r f = deeply-fits a text h (unrefused-group k (deep_refusal a) r) f
   deeply_body-fits (binary_group Commutator a b) text h r f = (f.1, f.0)
   deeply_body-fits (binary_group Conjugate a b) text h r f = (f.0, deeply-fits b text (and_right (tree_ok text a) _ h) r f.1)
@@ -168,7 +168,7 @@ mutual
   pub deeply-fits : (t : Tree) (text : List ℕ) → tree_ok text t ≡ true → deep_refusal t ≡ none → FitsTree t → FitsTree (deeply t)
   deeply-fits nil text h r f = tt
   deeply-fits (cons n l) text h r f =
-      last_fits (deeply l) (deeply_node n) (deeply-fits l text (and_right (node_ok_lem text n) _ h) (first-left _ _ r) f.1)
+      last_fits (deeply l) (deeply_node n) (deeply-fits l text (and_right (node_ok text n) _ h) (first-left _ _ r) f.1)
       (deeply_node-fits n text (and_left _ _ h) (first-right (deep_refusal l) _ r) f.0)
 
 -- The setting's range, which is one of unspanned trees.

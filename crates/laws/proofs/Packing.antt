@@ -44,8 +44,8 @@ use Rattle.notation.specs.WellFormed.{
   layers_ok,
   multiplier_ok,
   leaf_ok,
-  node_ok_lem,
-  body_ok_lem,
+  node_ok,
+  body_ok,
   tree_ok,
   depth,
   well_formed,
@@ -65,7 +65,7 @@ use Rattle.notation.specs.Packed.{
   pack_node,
   pack_body,
   pack,
-  head_at_lem,
+  head_at,
   open_head,
   unpack_from,
   unpack,
@@ -116,7 +116,7 @@ unpacked_by k bs h =
     (λ n n'. unpack_from k (take (RECORD * n') (drop (RECORD + RECORD * n) bs)))
     (λ n. unpack_from k (drop (RECORD + RECORD * n) bs))
 
-pub unpack-step : (k : ℕ) (bs : List ℕ) → 0 < length bs → unpack_from (suc k) bs ≡ unpacked_by k bs (head_at_lem bs)
+pub unpack-step : (k : ℕ) (bs : List ℕ) → 0 < length bs → unpack_from (suc k) bs ≡ unpacked_by k bs (head_at bs)
 unfolding unpack_from
 unpack-step k [] h = absurd (omega arith)
 unpack-step k (b ∷ bs) h = refl
@@ -260,9 +260,9 @@ module _ (text : List ℕ) (short : length text ≤ MAX-TEXT) where
   leaf-fits (megaminx k) h e = tt
 
   mutual
-    unfolding FitsTree FitsNode FitsBody node_ok_lem body_ok_lem tree_ok node_fits body_fits tree_fits node_size body_size size
+    unfolding FitsTree FitsNode FitsBody node_ok body_ok tree_ok node_fits body_fits tree_fits node_size body_size size
 
-    node-fits : (n : Node Leaf) → node_ok_lem text n ≡ true → node_fits n ≡ true → node_size n ≤ MAX-TEXT → FitsNode n
+    node-fits : (n : Node Leaf) → node_ok text n ≡ true → node_fits n ≡ true → node_size n ≤ MAX-TEXT → FitsNode n
     node-fits (leaf x) h e z = leaf-fits x h e
     node-fits (block b m) h e z =
         (body-head b m (and_left _ _ h) (omega arith), body-fits b (and_right (multiplier_ok m) _ h) e (omega arith))
@@ -271,7 +271,7 @@ module _ (text : List ℕ) (short : length text ≤ MAX-TEXT) where
     body-head (group k a) m h z = (omega arith, number_fits m h, omega arith)
     body-head (binary_group k a b) m h z = (omega arith, omega arith, number_fits m h, omega arith)
 
-    body-fits : (b : Body Leaf) → body_ok_lem text b ≡ true → body_fits b ≡ true → body_size b ≤ MAX-TEXT → FitsBody b
+    body-fits : (b : Body Leaf) → body_ok text b ≡ true → body_fits b ≡ true → body_size b ≤ MAX-TEXT → FitsBody b
     body-fits (group k a) h e z = tree-fits a h e z
     body-fits (binary_group k a b) h e z = (
       tree-fits a (and_left _ _ h) (and_left _ _ e) (omega arith),
@@ -282,7 +282,7 @@ module _ (text : List ℕ) (short : length text ≤ MAX-TEXT) where
     tree-fits nil h e z = tt
     tree-fits (cons n l) h e z = (
       node-fits n (and_left _ _ h) (and_left _ _ e) (omega arith),
-      tree-fits l (and_right (node_ok_lem text n) _ h) (and_right (node_fits n) _ e) (omega arith),
+      tree-fits l (and_right (node_ok text n) _ h) (and_right (node_fits n) _ e) (omega arith),
     )
 
 -- What fits its record has the numbers of what was read or unpacked.

@@ -104,8 +104,8 @@ digit_ok {o} {s} d l h =
 
 show_from-ok : {o : ℕ} {s : List ℕ} (k n : ℕ) → Ok o s → Ok o (show_from k n s)
 unfolding show_from
-show_from-ok zero n h = h
-show_from-ok {o} {s} (suc k) n h = go (ltb n 10) refl (show_from-ok k (n / 10) (digit_ok (n % 10) (omega arith) h))
+show_from-ok {o} {s = s} zero n h = h
+show_from-ok {o} {s} (suc k) n h = go (ltb n 10) refl (show_from-ok {s = (48 + n % 10) ∷ s} k (n / 10) (digit_ok (n % 10) (omega arith) h))
   where
     go : (t : Bool) → ltb n 10 ≡ t → Ok o (show_from k (n / 10) ((48 + n % 10) ∷ s)) →
         Ok o (pick t ((48 + n) ∷ s) (show_from k (n / 10) ((48 + n % 10) ∷ s)))

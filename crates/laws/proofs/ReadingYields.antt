@@ -95,8 +95,8 @@ use Rattle.notation.specs.WellFormed.{
   layers_ok,
   multiplier_ok,
   leaf_ok,
-  node_ok_lem,
-  body_ok_lem,
+  node_ok,
+  body_ok,
   tree_ok,
 }
 use Rattle.notation.specs.declared.features.Features.{Features}
@@ -417,7 +417,7 @@ module _ (f : Features) (text : List ℕ) where
 -- Nodes and lists, read from n bytes.
 record NodeGood (f : Features) (text : List ℕ) (x : Node Leaf) (n : ℕ) : Type 0 where
   ranged : node_in_range f (map_node (step_of text) x) ≡ true
-  ok : node_ok_lem text x ≡ true
+  ok : node_ok text x ≡ true
   fits : node_fits x ≡ true
   small : node_size x ≤ n
 
@@ -430,12 +430,12 @@ pub record TreeGood (f : Features) (text : List ℕ) (t : Tree) (n : ℕ) : Type
 module _ (f : Features) (text : List ℕ) where
   leaf-good : {x : Leaf} {n : ℕ} → step_in_range f (step_of text x) ≡ true → leaf_ok text x ≡ true → leaf_fits x ≡ true → 1 ≤ n →
       NodeGood f text (leaf x) n
-  unfolding node_in_range map_node node_ok_lem node_fits node_size
+  unfolding node_in_range map_node node_ok node_fits node_size
   leaf-good r o w s = record { ranged = r; ok = o; fits = w; small = s }
 
   group-good : (k : GroupKind) (a : Tree) (m : ℤ) {i n : ℕ} → TreeGood f text a i → multiplier_ok m ≡ true → suc i ≤ n →
       NodeGood f text (block (group k a) m) n
-  unfolding node_in_range body_in_range map_node map_body node_ok_lem body_ok_lem node_fits body_fits node_size body_size
+  unfolding node_in_range body_in_range map_node map_body node_ok body_ok node_fits body_fits node_size body_size
   group-good k a m g e h = record {
     ranged = and_both (multiplier_ok m) _ e g.ranged;
     ok = and_both (multiplier_ok m) _ e g.ok;
@@ -445,7 +445,7 @@ module _ (f : Features) (text : List ℕ) where
 
   binary-good : (k : BinaryGroupKind) (a b : Tree) (m : ℤ) {i j n : ℕ} → TreeGood f text a i → TreeGood f text b j → multiplier_ok m ≡ true →
       suc (i + j) ≤ n → NodeGood f text (block (binary_group k a b) m) n
-  unfolding node_in_range body_in_range map_node map_body node_ok_lem body_ok_lem node_fits body_fits node_size body_size
+  unfolding node_in_range body_in_range map_node map_body node_ok body_ok node_fits body_fits node_size body_size
   binary-good k a b m g g' e h = record {
     ranged = and_both (multiplier_ok m) _ e (and_both (in_range f (unspanned text a)) _ g.ranged g'.ranged);
     ok = and_both (multiplier_ok m) _ e (and_both (tree_ok text a) _ g.ok g'.ok);
@@ -461,7 +461,7 @@ module _ (f : Features) (text : List ℕ) where
   unfolding in_range map_nodes tree_ok tree_fits size
   cons-good x l n m g g' = record {
     ranged = and_both (node_in_range f (map_node (step_of text) x)) _ g.ranged g'.ranged;
-    ok = and_both (node_ok_lem text x) _ g.ok g'.ok;
+    ok = and_both (node_ok text x) _ g.ok g'.ok;
     fits = and_both (node_fits x) _ g.fits g'.fits;
     small = omega (arith, g.small, g'.small);
   }

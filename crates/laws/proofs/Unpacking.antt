@@ -12,7 +12,7 @@ use lib.ListN.{length, take, drop, get_or, length-take, length-drop}
 use Rattle.notation.specs.Basics.{pick}
 use Rattle.notation.specs.Numbers.{from_bits, fits_bits}
 use Rattle.notation.specs.Tree.{Span, span, Layers, no_layers, single_layer, layer_range, layer_set, pause}
-use Rattle.notation.specs.Packed.{RECORD, widths, cut, family_at, nowhere, Head, leaf_head, group_head, binary_head, node_size, body_size, size, head_at_lem, unpack_from, unpack}
+use Rattle.notation.specs.Packed.{RECORD, widths, cut, family_at, nowhere, Head, leaf_head, group_head, binary_head, node_size, body_size, size, head_at, unpack_from, unpack}
 use Rattle.notation.specs.WellFormed.{tree_ok, depth, MAX-NESTING, well_formed}
 use Rattle.numbers.proofs.Positional.{Below, below-take, below-drop}
 use Rattle.record.specs.Meaning.{field, place_width, span_at, constraints_at, layers_at, kind_at, form_at, present_at, NUMBER, OTHER, FAMILY, FAMILY-SIZE, CONSTRAINTS, LAYER-SET}
@@ -68,7 +68,7 @@ module _ (bs : List ℕ) (h : Below 256 bs) where
       let forms : List (Layers Span) = no_layers ∷ single_layer (field OTHER bs / 65536) ∷ layer_range (field OTHER bs / 65536) (field OTHER bs % 65536) ∷ layer_set (span_at LAYER-SET bs) ∷ [] in
       every-at FitsLayers forms no_layers (tt, (low, ((low, high), (span_fits 9 (lit< tt) refl refl, tt)))) tt (form_at bs)
 
-  pub head-fits : FitsHead (head_at_lem bs)
+  pub head-fits : FitsHead (head_at bs)
   head-fits =
       let n = field_lt bs h 1 (lit< tt) in
       let n' = field_lt bs h 2 (lit< tt) in
@@ -119,7 +119,7 @@ few : (k : ℕ) → Few k
 unfolding unpack_from size
 few zero bs = omega arith
 few (suc k) [] = omega arith
-few (suc k) (b ∷ bs) = unpacked-few k (few k) (b ∷ bs) (omega arith) (head_at_lem (b ∷ bs))
+few (suc k) (b ∷ bs) = unpacked-few k (few k) (b ∷ bs) (omega arith) (head_at (b ∷ bs))
 
 pub size-most : (k n : ℕ) (bs : List ℕ) → size (unpack_from k (take (RECORD * n) bs)) ≤ n
 size-most k n bs =
@@ -154,7 +154,7 @@ all_fit : (k : ℕ) → AllFit k
 unfolding unpack_from FitsTree
 all_fit zero bs b = tt
 all_fit (suc k) [] b = tt
-all_fit (suc k) (x ∷ bs) b = unpacked-fits k (all_fit k) (x ∷ bs) b (head_at_lem (x ∷ bs)) (head-fits (x ∷ bs) b)
+all_fit (suc k) (x ∷ bs) b = unpacked-fits k (all_fit k) (x ∷ bs) b (head_at (x ∷ bs)) (head-fits (x ∷ bs) b)
 
 pub unpack-fits : (bs : List ℕ) → Below 256 bs → FitsTree (unpack bs)
 unpack-fits bs b = all_fit (length bs) bs b

@@ -26,7 +26,7 @@ use Rattle.notation.specs.Packed.{
   pack_node,
   pack_body,
   pack,
-  head_at_lem,
+  head_at,
   unpack,
 }
 use Rattle.notation.specs.Counts.{count_node, stored}
@@ -101,7 +101,7 @@ node_end bs = RECORD * (1 + (field FIRST bs + field SECOND bs))
 -- What stands at the front of a packed list.
 pub record Step (bs : List ℕ) (node : Node Leaf) (rest : Tree) (e : ℕ) : Type 0 where
   pub unpacks : unpack bs ≡ cons node rest
-  pub head : head_at_lem bs ≡ node_head node
+  pub head : head_at bs ≡ node_head node
   pub fields : (i : ℕ) → field i bs ≡ get_or (head_fields (node_head node)) i 0
   pub ends : node_end bs ≡ e
   pub least : RECORD ≤ e
@@ -119,7 +119,7 @@ unfolding FitsTree pack
 step_of n l bs f e =
     record {
       unpacks = unpacks;
-      head = ap head_at_lem shape ∙ head_at-head_record (node_head n) (inside n ++ pack l) (node-head-fits n f.0);
+      head = ap head_at shape ∙ head_at-head_record (node_head n) (inside n ++ pack l) (node-head-fits n f.0);
       fields = fields;
       ends = ap (λ (k : ℕ). RECORD * k) (ap₂ (λ (x y : ℕ). 1 + (x + y)) (fields 1) (fields 2) ∙ node_counts n);
       least = omega (arith, positive n);

@@ -11,7 +11,7 @@ use lib.IntN.{ℤ, pos, negsuc, neg_ℤ, nat_abs}
 use Rattle.notation.specs.Basics.{pick}
 use Rattle.notation.specs.Tree.{Leaf, rotation, move, pause, pair, slash, megaminx, Node, leaf, block, Body, group, binary_group, nil, cons, append, Tree}
 use Rattle.notation.specs.Packed.{node_size, body_size, size}
-use Rattle.notation.specs.WellFormed.{family_ok, constraints_ok, layers_ok, multiplier_ok, leaf_ok, node_ok_lem, body_ok_lem, tree_ok, node_depth, body_depth, depth}
+use Rattle.notation.specs.WellFormed.{family_ok, constraints_ok, layers_ok, multiplier_ok, leaf_ok, node_ok, body_ok, tree_ok, node_depth, body_depth, depth}
 use Rattle.notation.specs.Invert.{undo, is_min, overflows}
 use Rattle.notation.specs.Unroll.{is_niss}
 use Rattle.notation.specs.Counts.{count_node, count_body, count}
@@ -64,7 +64,7 @@ undone-fits text (megaminx k) h o f = tt
 pub ok-append : (text : List ℕ) (a b : Tree) → tree_ok text a ≡ true → tree_ok text b ≡ true → tree_ok text (append a b) ≡ true
 unfolding append tree_ok
 ok-append text nil b p q = q
-ok-append text (cons n a) b p q = and_both (node_ok_lem text n) _ (and_left _ _ p) (ok-append text a b (and_right (node_ok_lem text n) _ p) q)
+ok-append text (cons n a) b p q = and_both (node_ok text n) _ (and_left _ _ p) (ok-append text a b (and_right (node_ok text n) _ p) q)
 
 pub size-append : (a b : Tree) → size (append a b) ≡ size a + size b
 unfolding append size
@@ -76,9 +76,9 @@ unfolding append depth
 depth-append nil b = omega arith
 depth-append (cons n a) b = omega (arith, depth-append a b)
 
-ok-last : (text : List ℕ) (n : Node Leaf) → node_ok_lem text n ≡ true → tree_ok text (cons n nil) ≡ true
+ok-last : (text : List ℕ) (n : Node Leaf) → node_ok text n ≡ true → tree_ok text (cons n nil) ≡ true
 unfolding tree_ok
-ok-last text n p = and_both (node_ok_lem text n) true p refl
+ok-last text n p = and_both (node_ok text n) true p refl
 
 size-last : (n : Node Leaf) → size (cons n nil) ≡ node_size n
 unfolding size
@@ -89,8 +89,8 @@ unfolding depth
 depth-last n = omega arith
 
 -- Shallow.
-node_ok_lem : (text : List ℕ) (n : Node Leaf) → node_ok_lem text n ≡ true → node_ok_lem text (inverted_node n) ≡ true
-unfolding node_ok_lem
+node_ok_lem : (text : List ℕ) (n : Node Leaf) → node_ok text n ≡ true → node_ok text (inverted_node n) ≡ true
+unfolding node_ok
 node_ok_lem text (leaf x) p = undo-ok text x ∙ p
 node_ok_lem text (block b m) p = and_both (multiplier_ok (neg_ℤ m)) _ (multiplier-neg m ∙ and_left _ _ p) (and_right (multiplier_ok m) _ p)
 
@@ -108,7 +108,7 @@ pub inverted-ok : (text : List ℕ) (t : Tree) → tree_ok text t ≡ true → t
 unfolding inverted tree_ok
 inverted-ok text nil p = refl
 inverted-ok text (cons n l) p =
-    ok-append text (inverted l) (cons (inverted_node n) nil) (inverted-ok text l (and_right (node_ok_lem text n) _ p))
+    ok-append text (inverted l) (cons (inverted_node n) nil) (inverted-ok text l (and_right (node_ok text n) _ p))
     (ok-last text (inverted_node n) (node_ok_lem text n (and_left _ _ p)))
 
 pub inverted-size : (t : Tree) → size (inverted t) ≡ size t
@@ -127,13 +127,13 @@ inverted-depth (cons n l) =
 
 -- Deep.
 mutual
-  unfolding deeply_node deeply_body deeply node_ok_lem body_ok_lem tree_ok
+  unfolding deeply_node deeply_body deeply node_ok body_ok tree_ok
 
-  deeply_node-ok : (n : Node Leaf) (text : List ℕ) → node_ok_lem text n ≡ true → node_ok_lem text (deeply_node n) ≡ true
+  deeply_node-ok : (n : Node Leaf) (text : List ℕ) → node_ok text n ≡ true → node_ok text (deeply_node n) ≡ true
   deeply_node-ok (leaf x) text p = undo-ok text x ∙ p
   deeply_node-ok (block b m) text p = and_both (multiplier_ok m) _ (and_left _ _ p) (deeply_body-ok b text (and_right (multiplier_ok m) _ p))
 
-  deeply_body-ok : (b : Body Leaf) (text : List ℕ) → body_ok_lem text b ≡ true → body_ok_lem text (deeply_body b) ≡ true
+  deeply_body-ok : (b : Body Leaf) (text : List ℕ) → body_ok text b ≡ true → body_ok text (deeply_body b) ≡ true
   deeply_body-ok (group k a) text p = deeply-ok a text p
   deeply_body-ok (binary_group Commutator a b) text p = and_both (tree_ok text b) _ (and_right (tree_ok text a) _ p) (and_left _ _ p)
   deeply_body-ok (binary_group Conjugate a b) text p =
@@ -142,7 +142,7 @@ mutual
   pub deeply-ok : (t : Tree) (text : List ℕ) → tree_ok text t ≡ true → tree_ok text (deeply t) ≡ true
   deeply-ok nil text p = refl
   deeply-ok (cons n l) text p =
-      ok-append text (deeply l) (cons (deeply_node n) nil) (deeply-ok l text (and_right (node_ok_lem text n) _ p))
+      ok-append text (deeply l) (cons (deeply_node n) nil) (deeply-ok l text (and_right (node_ok text n) _ p))
       (ok-last text (deeply_node n) (deeply_node-ok n text (and_left _ _ p)))
 
 mutual

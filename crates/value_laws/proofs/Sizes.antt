@@ -94,7 +94,7 @@ to-print text tree l e =
 pub suffices : Suffices
 suffices =
     record {
-      to_read_lem = to_read_lem;
+      to_read = to_read_lem;
       to_invert = to-invert inv inv-size;
       to_invert_deep = to-invert inv_deep inv_deep-size;
       to_unroll = to-unroll;

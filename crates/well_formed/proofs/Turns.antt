@@ -24,7 +24,7 @@ use Rattle.record.specs.Meaning.{field, uncounted, listed, kind_at, FIRST, SECON
 use Rattle.record.specs.declared.encode.Fields.{Fields}
 use Rattle.record.proofs.Same.{same_refl, same-eq, refuted}
 use Rattle.counts.specs.Groups.{group_count}
-use Rattle.well_formed.specs.Formed.{formed, formed_count, head_ok, first, second, both, first_bytes, second_bytes, rest_bytes, count_ok, first_ok, node_of, first_node, first_count_lem}
+use Rattle.well_formed.specs.Formed.{formed, formed_count, head_ok, first, second, both, first_bytes, second_bytes, rest_bytes, count_ok, first_ok, node_of, first_node, first_count}
 use Rattle.well_formed.specs.Meaning.{step_count, Meets, MeetsNode}
 use Rattle.well_formed.specs.declared.walk.Visited.{Visited}
 use Rattle.well_formed.specs.declared.walk.Visited.TheVariants.{Steps, Nothing}
@@ -212,15 +212,15 @@ list-passed true k n e = (refl, cc)
 list-passed false k n e = (cc, cc)
 
 -- what the visit of a group tells
-pub group-passed : (text : List ℕ) (d : ℕ) (bs : List ℕ) {v : Visited} {c : ℕ} {inside : Refusals} → v ≡ Steps c inside → step_count v ≡ first_count_lem text d bs →
+pub group-passed : (text : List ℕ) (d : ℕ) (bs : List ℕ) {v : Visited} {c : ℕ} {inside : Refusals} → v ≡ Steps c inside → step_count v ≡ first_count text d bs →
     (first_ok text d bs ≡ true) × (c ≡ stored (first_node bs))
 group-passed text d bs {v} {c} e n = list-passed (first_ok text d bs) (stored (first_node bs)) c (ap step_count (sym e) ∙ n)
 
-pub group-not : (text : List ℕ) (d : ℕ) (bs : List ℕ) {v : Visited} → v ≡ Nothing → step_count v ≡ first_count_lem text d bs → false ≡ first_ok text d bs
+pub group-not : (text : List ℕ) (d : ℕ) (bs : List ℕ) {v : Visited} → v ≡ Nothing → step_count v ≡ first_count text d bs → false ≡ first_ok text d bs
 group-not text d bs e n = sym (list-refused (first_ok text d bs) (stored (first_node bs)) (ap step_count (sym e) ∙ n))
 
 -- so that the sum has room
-pub group-capped : (text : List ℕ) (d : ℕ) (bs : List ℕ) {v : Visited} {c : ℕ} {inside : Refusals} → v ≡ Steps c inside → step_count v ≡ first_count_lem text d bs → c ≤ CAP
+pub group-capped : (text : List ℕ) (d : ℕ) (bs : List ℕ) {v : Visited} {c : ℕ} {inside : Refusals} → v ≡ Steps c inside → step_count v ≡ first_count text d bs → c ≤ CAP
 group-capped text d bs e n = let z = (group-passed text d bs e n).1 in omega arith
 
 pub sum_room : (n bytes all c : ℕ) → n + bytes ≤ CAP + all → all * 1 < 2 ^ 63 → c ≤ CAP → n + c < 2 ^ 64
@@ -228,7 +228,7 @@ sum_room n bytes all c few short most = omega arith
 
 pub past-group : (text : List ℕ) (d : ℕ) (list bs : List ℕ) (n : ℕ) (met : Refusals) → Left text d list bs n met →
     (end : ℕ) → end ≡ RECORD + RECORD * (field FIRST bs + field SECOND bs) → end ≤ length bs →
-    (v : Visited) (c : ℕ) (inside : Refusals) → v ≡ Steps c inside → step_count v ≡ first_count_lem text d bs → MeetsNode v (first_node bs) →
+    (v : Visited) (c : ℕ) (inside : Refusals) → v ≡ Steps c inside → step_count v ≡ first_count text d bs → MeetsNode v (first_node bs) →
     (n' : ℕ) (next : Refusals) → n' ≡ cap (n + c) → refuses next ≡ after (refuses met) (refuses inside) →
     Left text d list (take (length bs - end) (drop end bs)) n' next
 past-group text d list bs n met left end z l v c inside e k m n' next s j =
@@ -348,7 +348,7 @@ pub multiplier-refused : (bs : List ℕ) (m : Bool) → m ≡ multiplier bs → 
 multiplier-refused bs m e f = f ∙ and-false (same bs) (multiplier bs) (sym e ∙ f)
 
 -- A group and its lists.
-pub no-group : (text : List ℕ) (d : ℕ) (bs : List ℕ) → false ≡ first_ok text d bs → none ≡ first_count_lem text d bs
+pub no-group : (text : List ℕ) (d : ℕ) (bs : List ℕ) → false ≡ first_ok text d bs → none ≡ first_count text d bs
 no-group text d bs e = ap (λ (b : Bool). pick b (some (stored (first_node bs))) none) e
 
 record-passed : (s l m b : Bool) → l ≡ true → (s && m) ≡ true → b ≡ (s && ((l && m) && b))
@@ -528,13 +528,13 @@ module _ {text : List ℕ} {d : ℕ} {bs : List ℕ} {k : ℕ} {b : Option ℕ} 
   pub group-found : (k' : ℕ) → b ≡ some k' → {kind number stored' whole : ℕ} → kind ≡ kind_at bs → number ≡ field NUMBER bs →
       stored' ≡ field COUNT bs → whole ≡ group_count kind (from_bits 32 number) k k' →
       (v : Visited) (met : Refusals) → refuses met ≡ of_node (first_node bs) → v ≡ pick (eqb stored' whole) (Steps whole met) Nothing →
-      (step_count v ≡ first_count_lem text d bs) × MeetsNode v (first_node bs)
+      (step_count v ≡ first_count text d bs) × MeetsNode v (first_node bs)
   group-found k' e {stored' = stored'} {whole = whole} zk zn zs zw v met m z = go (eqb stored' whole) refl
     where
       ok : eqb stored' whole ≡ first_ok text d bs
       ok = count-compared k' e zk zn zs zw
 
-      go : (t : Bool) → eqb stored' whole ≡ t → (step_count v ≡ first_count_lem text d bs) × MeetsNode v (first_node bs)
+      go : (t : Bool) → eqb stored' whole ≡ t → (step_count v ≡ first_count text d bs) × MeetsNode v (first_node bs)
       go true h =
           let is : v ≡ Steps whole met = z ∙ ap (λ (t : Bool). pick t (Steps whole met) Nothing) h in
           let g = two.one.told in

@@ -1,0 +1,13 @@
+use borrow.Author.Rules.{rules}
+use native.Mathlib.Omega.{arith}
+use Rattle.numbers.proofs.TwosComplement.{to_bits-from_bits}
+use Rattle.record.proofs.Packed.{group_number-lt}
+use Rattle.record.proofs.encode.group_fields.Goals as goal
+
+pub without_parts-requires : goal.without_parts-requires
+without_parts-requires c = omega (arith, c.group_number.ensures, group_number-lt c.args.kind)
+
+pub returns : goal.returns
+returns c =
+    let a = c.args in
+    rw (to_bits-from_bits 32 a.multiplier (omega arith), ← c.group_number.ensures) c.without_parts.ensures

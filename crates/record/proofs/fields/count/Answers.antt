@@ -1,0 +1,9 @@
+use borrow.Author.Rules.{rules}
+use mathlib.Core.Path.{sym, ◌∙◌}
+use lib.Dec.{lit<}
+use Rattle.record.specs.Meaning.{COUNT}
+use Rattle.record.proofs.Packed.{field_at}
+use Rattle.record.proofs.fields.count.Goals as goal
+
+pub returns : goal.returns
+returns c = c.read_u40.ensures ∙ sym (field_at c.args.t.now COUNT (lit< tt))

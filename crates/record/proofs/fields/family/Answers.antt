@@ -1,0 +1,9 @@
+use borrow.Author.Rules.{rules}
+use mathlib.Core.Path.{◌∙◌}
+use lib.Dec.{lit<}
+use Rattle.record.specs.Meaning.{FAMILY, FAMILY-SIZE}
+use Rattle.record.proofs.Packed.{field_at}
+use Rattle.record.proofs.fields.family.Goals as goal
+
+pub returns : goal.returns
+returns c = record { result_value = c.span_at.ensures.result_value ∙ rw (field_at c.args.t.now FAMILY (lit< tt), field_at c.args.t.now FAMILY-SIZE (lit< tt)); fits_span = c.span_at.ensures.fits_span }

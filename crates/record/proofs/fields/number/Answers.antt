@@ -1,0 +1,9 @@
+use borrow.Author.Rules.{rules}
+use mathlib.Core.Path.{sym, ◌∙◌}
+use lib.Dec.{lit<}
+use Rattle.record.specs.Meaning.{NUMBER}
+use Rattle.record.proofs.Packed.{field_at}
+use Rattle.record.proofs.fields.number.Goals as goal
+
+pub returns : goal.returns
+returns c = c.read_u32.ensures ∙ sym (field_at c.args.t.now NUMBER (lit< tt))

@@ -1,0 +1,5 @@
+use borrow.Author.Rules.{rules}
+use Rattle.record.proofs.fields.set_span.Goals as goal
+
+pub returns : goal.returns
+returns c = rw (c.write_u24-2.ensures, c.write_u24.ensures)

@@ -1,0 +1,15 @@
+use borrow.Author.Rules.{rules}
+use mathlib.Core.Path.{ap₂}
+use native.Mathlib.Omega.{arith}
+use Rattle.notation.specs.Tree.{span}
+use Rattle.numbers.proofs.BigEndian.{slice-below}
+use Rattle.record.proofs.Packed.{first-of-two, second-of-two}
+use Rattle.record.proofs.fields.span_at.Goals as goal
+
+pub returns : goal.returns
+returns c =
+    let a = c.args in
+    let s = a.t.now in
+    let below = slice-below s c.type_inv.t in
+    let room = c.requires in record { result_value = ap₂ span (first-of-two s a.at below room c.read_u32-head.result c.read_u16-tail.result c.read_u32-head.ensures c.read_u16-tail.ensures)
+          (second-of-two s a.at below room c.read_u32-head.result c.read_u16-tail.result c.read_u32-head.ensures c.read_u16-tail.ensures); fits_span = record { offset = omega arith; size = omega arith } }

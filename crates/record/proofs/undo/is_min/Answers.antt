@@ -1,0 +1,16 @@
+-- `record::undo::is_min` meets its contract: the first byte tells, or all four do. Assumes nothing.
+use borrow.Author.Rules.{rules}
+use mathlib.Core.Path.{ap}
+use lib.Dec.{eqb}
+use Prim.Native.Nat.{ℕ}
+use Rattle.notation.specs.Numbers.{MIN-BITS}
+use Rattle.numbers.proofs.BigEndian.{slice-below}
+use Rattle.record.proofs.Overflows.{min-by-first}
+use Rattle.record.proofs.undo.is_min.Goals as goal
+
+pub returns-then-read_u8 : goal.returns-then-read_u8
+returns-then-read_u8 c = ap (λ (n : ℕ). eqb n MIN-BITS) c.read_u32.ensures
+
+pub returns-else-read_u8 : goal.returns-else-read_u8
+returns-else-read_u8 c =
+    min-by-first c.args.r.now (slice-below _ c.type_inv.r) c.args.at c.requires c.read_u8.ensures c.if-read_u8.false
