@@ -34,6 +34,8 @@ class Entry:
         self.arms = {norm(p[0]): a for p, a in zip(e["places"], e["arms"])}
         self.typed = {norm(p[0]): t for p, t in zip(e["places"], e["typed"])}
         self.params = list(e["params"])
+        self.pars = e["params"]
+        self.stem = e["stem"]
         self.needs = {norm(a): (b, norm(at[0])) for (a, b), at in zip(e["needs"], e["asked_at"])}
         self.need_list = [(norm(a), b, norm(at[0])) for (a, b), at in zip(e["needs"], e["asked_at"])]
         self.settled = e["settled"]
@@ -61,10 +63,11 @@ class Entry:
 class File:
     def __init__(self, path, entry, module, said, params, labels, own):
         self.labels, self.own = labels, own
+        self.cycle, self.cycle_names, self.cycle_pars, self.in_cycle, self.owner = {}, [], {}, False, own.rsplit("::", 1)[0] + "::"
         self.path, self.entry, self.module, self.said, self.params = path, entry, module, said, params
         with open(path, encoding="utf-8") as f:
             self.text = f.read()
-        self.shared, self.alias, self.takes, self.imports = [], {}, {}, set()
+        self.shared, self.alias, self.takes, self.bodies, self.copies, self.goals, self.imports = [], {}, {}, {}, {}, {}, set()
 
     def say(self, what):
         self.said.append(f"{self.path}: {what}")
@@ -91,6 +94,10 @@ class File:
         if n in ("args", "requires", "lifetimes", "ranges", "well_formed"):
             if n == "args" and rest:
                 rest = [rest[0].replace("-", "_")] + rest[1:]
+            if n == "requires" and self.cycle and rest:
+                if rest[0] == "0":
+                    return "c.decreases", None
+                rest = rest[1:]
             if n == "requires":
                 rest = self.labelled(self.own, ["requires"] + rest)[1:]
             return ".".join(["c", n] + rest), None
@@ -104,14 +111,24 @@ class File:
             for field, step, at in arm[2]:
                 if norm(step) == n and [norm(x) for x in at] == [norm(x) for x in rest[:len(at)]] and at:
                     return ".".join(["c", arm[0], field] + rest[len(at):]), None
-            if rest[:1] == ["rest"] and any(field == "in_default-own" for field, _, _ in arm[2]):
-                rest = ["in_default-own"] + rest
+            own = next((field for field, step, at in arm[2] if norm(step) == n and not at and field.endswith("-own")), None)
+            if own and rest[:1] in (["given"], ["rest"], ["true"], ["false"]):
+                rest = [own] + rest
             return ".".join(["c", arm[0]] + rest), None
         if n.startswith(("shared_slice_known", "slice_known")) and rest[:1] == ["given"]:
             for var, step in e.typed.get(cur, []):
                 if norm(step) == n:
                     return ".".join(["c", "type_inv", var] + rest[1:]), None
+        if cur.startswith("Joined") and rest and re.fullmatch(r"if\d+", rest[0]):
+            rest = ["value"] + rest[1:]
         callee = e.places[cur][3]
+        if callee and len(rest) > 1 and rest[0] in ("auto", "new") and rest[1] in ("0", "1"):
+            k = 1
+            while k < len(rest) and rest[k] == "1":
+                k += 1
+            pars = e.pars.get(callee, [])
+            if k < len(rest) and rest[k] == "0" and k - 1 < len(pars):
+                rest = [rest[0], pars[k - 1]] + rest[k + 1:]
         if callee and rest and rest[0] in ("ensures", "requires"):
             rest = self.labelled(callee, rest)
         return ".".join(["c", new] + rest), None
@@ -130,20 +147,16 @@ class File:
             at += 1
         return [rest[0], labels[k]] + rest[at:]
 
-    def as_record(self, function, kind, text):
-        """A tuple that proves several clauses, as a record by their names."""
-        labels = self.labels.get(function, {}).get(kind, [])
-        if len(labels) < 2 or not all(labels):
-            return text
-        m = re.match(r"(\s*(?:let [^\n]* in\s*)*)\((.*)\)\s*$", text, re.S)
+    def items(self, text):
+        """The parts of a tuple, or none where it is not one."""
         items, depth, cur = [], 0, ""
-        for ch in m.group(2) if m else "":
+        for ch in text:
             if ch in "([{":
                 depth += 1
             if ch in ")]}":
                 depth -= 1
             if depth < 0:
-                break
+                return []
             if ch == "," and depth == 0:
                 items.append(cur.strip())
                 cur = ""
@@ -151,10 +164,26 @@ class File:
                 cur += ch
         if cur.strip():
             items.append(cur.strip())
-        if not m or depth or len(items) != len(labels):
+        return [] if depth else items
+
+    def as_record(self, function, kind, text):
+        """A tuple that proves several clauses, as a record by their names."""
+        labels = self.labels.get(function, {}).get(kind, [])
+        if len(labels) < 2 or not all(labels) or kind == "requires" and function.split("::")[-1] in [fn for _, fn in self.cycle.values()]:
+            return text
+        m = re.match(r"(\s*(?:let [^\n]* in\s*)*)\((.*)\)\s*$", text, re.S)
+        items = self.items(m.group(2)) if m else []
+        while items and len(items) < len(labels):
+            last = re.fullmatch(r"\((.*)\)", items[-1], re.S)
+            more = self.items(last.group(1)) if last else []
+            if len(more) < 2:
+                break
+            items[-1:] = more
+        if not m or len(items) != len(labels):
             self.say(f"no record for {kind} of {function}: {' '.join(text.split())[:150]}")
             return text
-        return m.group(1) + "record { " + "; ".join(f"{a} = {b}" for a, b in zip(labels, items)) + " }"
+        said = "record { " + "; ".join(f"{a} = {b}" for a, b in zip(labels, items)) + " }"
+        return m.group(1) + said
 
     def record(self, cur, goal, home):
         if cur == home:
@@ -162,11 +191,17 @@ class File:
         if goal is None:
             self.say(f"a helper hands on the place {cur}")
             return f"(?{self.entry.new[cur]})"
-        return f"(goal.at.{goal} c).{self.entry.new[cur]}"
+        return f"(goal.at.{goal} {'t ' if self.cycle else ''}c).{self.entry.new[cur]}"
 
     def turn(self, text, env, goal, home):
-        out, at = [], 0
+        out, at, partial = [], 0, {}
         env = dict(env)
+        once = None
+        while once != text:
+            once = text
+            for name in self.alias:
+                text = re.sub(rf"\(({re.escape(name)}) (c(?:\.before)*)\)", "c", text)
+                text = re.sub(rf"(let {NAME} = ){re.escape(name)} (c(?:\.before)*) in", r"\1c in", text)
         let = re.compile(rf"let ({NAME})(?: : tie\.[^=]*?)? = ((?:{NAME})(?:\.{NAME})*) in\s*")
         fn = re.compile(rf"\(({NAME}) ({NAME}(?:\.{NAME})*)\)((?:\.{NAME})*)")
         bare = re.compile(rf"({NAME}) ({NAME}(?:\.{NAME})*)(?![^\s)\],;])")
@@ -181,6 +216,10 @@ class File:
                         t, cur = self.walk(env[root], comps, goal, home)
                         if cur is not None:
                             env[m.group(1)] = cur
+                            at = m.end()
+                            continue
+                        if comps[-1] in ("given", "ensures", "requires", "auto", "new") or norm(comps[-1]) in self.above(home or env[root]):
+                            partial[m.group(1)] = (env[root], comps)
                             at = m.end()
                             continue
                 m = re.compile(rf"let ({NAME}) = ({NAME}) ({NAME}(?:\.{NAME})*) in\s*").match(text, at)
@@ -206,7 +245,22 @@ class File:
                     before = re.search(rf"({NAME})\s+$", "".join(out))
                     if cur is not None and before and before.group(1) in self.takes:
                         cur = self.takes[before.group(1)]
+                        if goal is None and cur != home and home is not None:
+                            h = before.group(1)
+                            said = "".join(out)
+                            out = [said[:before.start()] + f"{h}-at-{self.entry.new[home]}" + said[before.start() + len(h):]]
+                            self.copies.setdefault((h, home), None)
+                            cur = home
                     out.append(t if cur is None else self.record(cur, goal, home))
+                    at = m.end()
+                    continue
+                if m and not m.group(2) and m.group(1) in self.goals:
+                    out.append(self.goals[m.group(1)] + (" t" if self.cycle else ""))
+                    at = m.end()
+                    continue
+                if m and m.group(1) in partial:
+                    place, prefix = partial[m.group(1)]
+                    out.append(self.walk(place, prefix + [x for x in m.group(2).split(".") if x], goal, home)[0])
                     at = m.end()
                     continue
                 if m and m.group(1) in self.alias and not m.group(2):
@@ -240,6 +294,40 @@ class File:
         if cur:
             blocks.append(cur)
         return blocks
+
+    def copy_helpers(self, answers):
+        """Helpers that a later helper uses at its own place: the same text over the record of that place."""
+        while any(v is None for v in self.copies.values()):
+            name, home = next(k for k, v in self.copies.items() if v is None)
+            self.copies[name, home] = True
+            mods, segs, places, unf, rest = self.bodies[name]
+            first = min(places)
+            new = f"{name}-at-{self.entry.new[home]}"
+            nm = places[first][0]
+            turned = []
+            for i, s in enumerate(segs):
+                if i == first:
+                    turned.append(f"(c : {self.place_new(home)})" if nm else self.place_new(home))
+                else:
+                    turned.append(self.turn(s, {nm: home} if nm else {}, None, home))
+            if self.cycle and self.in_cycle:
+                turned[0] = "{t : ℕ} " + turned[0]
+            parts = []
+            for clause in self.clauses(name, rest):
+                lhs, rhs = clause.split(" =", 1)
+                if self.cycle and self.in_cycle:
+                    new_lhs = new + " {t = t}"
+                else:
+                    new_lhs = new
+                parts.append(f"{new_lhs}{lhs[len(name):]} =" + self.turn(rhs, {"c": home}, None, home))
+            at = len(answers)
+            text = "\n".join([f"{mods}{new} : {' → '.join(turned)}"] + unf + parts)
+            self.copy_helpers(answers)
+            answers.append(text)
+
+    def cycle_measure(self, name):
+        fn = norm(re.sub("^μ-", "", name))
+        return fn
 
     def place_type(self, t):
         t = t.strip()
@@ -286,6 +374,9 @@ class File:
         return flat
 
     def place_new(self, place):
+        if self.cycle:
+            self.imports.add(self.entry.stem + self.entry.new[place])
+            return self.entry.stem + self.entry.new[place] + " t"
         self.imports.add(self.entry.new[place])
         return self.entry.new[place]
 
@@ -320,7 +411,44 @@ class File:
                 out[-1] += "\n" + l
         return out
 
+    def outline(self):
+        """A cycle whose proofs stand in the call of spec, each with its label behind it: the same as declarations."""
+        text, out = self.text, []
+        at = text.find("-spec = close")
+        if at < 0 or not re.search(r"\)+  -- [\w-]+$", text[at:], re.M):
+            return
+        body = text[at:]
+        alias, pos = None, 0
+        while pos < len(body):
+            m = re.compile(rf"({NAME})\.spec ").match(body, pos)
+            if m and m.group(1) in self.cycle:
+                alias, pos = m.group(1), m.end()
+                continue
+            m = re.compile(r"\(λ c( κs)?\.").match(body, pos)
+            if m and alias:
+                depth, end = 1, m.end()
+                while depth:
+                    depth += {"(": 1, ")": -1}.get(body[end], 0)
+                    end += 1
+                label = re.compile(r"\)*  -- ([\w-]+)").match(body, end)
+                if label:
+                    prefix = alias[:-len("lts")]
+                    need = label.group(1)[len(prefix):]
+                    need = re.sub("^loop(.*)-holds", r"loop\1-init", need)
+                    need = re.sub("^loop(\\d*)-less", r"loop\1-smaller", need)
+                    need = re.sub("^loop(\\d*)-again", r"loop\1-preserved", need)
+                    inner = body[m.end():end - 1].strip()
+                    sep = "\n    " if inner.startswith("let ") or "\n" in inner else " "
+                    out.append(f"{label.group(1)} : {alias}.Need-{need}\n{label.group(1)} c{m.group(1) or ''} ={sep}{inner}")
+                    pos = end
+                    continue
+            pos += 1
+        start = text.rfind("\n\n", 0, at)
+        self.text = text[:start] + "\n\n" + "\n\n".join(out) + "\n"
+
     def run(self):
+        if self.cycle:
+            self.outline()
         uses, answers, invariants, inv_names = [], [], [], {}
         head = []
         for block in self.parts():
@@ -340,6 +468,36 @@ class File:
                 continue
             comments, mods, name, sig, unf, rest = what
             one = " ".join(sig.split())
+            if self.cycle:
+                found = re.search(rf"(?<![^\s(])({NAME})\.(?=Need-|invariant-|decreases-|[A-Z])", one)
+                alias = next((a for a in self.cycle if re.search(rf"(?<![^\s(]){re.escape(a)}\.(Need-|invariant-|decreases-|After|At|In|Then|Else|Joined|Start)", one)), None)
+                if re.search(r"(?<![\w-])(Measures) ", one):
+                    fn = self.cycle_measure(name)
+                    clause = self.clauses(name, rest)[0].split(" =", 1)[1]
+                    pars = self.cycle_pars.get(fn, [])
+
+                    def arg(m):
+                        k = 0
+                        rest_ = m.group(1)[1:].split(".")
+                        while k < len(rest_) and rest_[k] == "1":
+                            k += 1
+                        return "l." + ".".join([pars[k]] + rest_[k + 1:]) if k < len(pars) else m.group(0)
+
+                    clause = re.sub(rf"(?<![^\s(])a((?:\.{NAME})+)", arg, clause)
+                    invariants.append("\n".join(comments + [f"abbrev pub decreases-{fn} : goal.decreases-{fn}"] + unf + [f"decreases-{fn} l ={clause}"]))
+                    continue
+                if alias is None and (re.search(r"(?<![\w-])In \d", one) or ".Claims" in one or "statement M" in one or "Reads" in one):
+                    continue
+                if alias is not None:
+                    self.entry, fn = self.cycle[alias]
+                    self.own = self.owner + fn
+                    one = re.sub(rf"(?<![^\s(]){re.escape(alias)}\.({NAME})((?: \((?:[^()]|\([^()]*\))*\)| {NAME}(?:\.{NAME})*)*)", r"tie.\1", one)
+                    one = re.sub(r"^\(t : ℕ\) (?:→ )?", "", one)
+                    rest = "\n".join(rest).replace(f"{name} t c", f"{name} c")
+                    rest = re.sub(rf"(?<![^\s(])({'|'.join(map(re.escape, self.cycle_names)) or '!'}) t (?=[(\w])", r"\1 ", rest).split("\n")
+                    self.cycle_names.append(name)
+                self.in_cycle = alias is not None
+            stem = self.entry.stem if self.cycle else ""
             if one.endswith("→ statement M") or " statement M" in one and "tie." not in one:
                 continue
             m = re.fullmatch(r"tie\.(invariant|decreases)-(\S+)", one)
@@ -355,14 +513,13 @@ class File:
                     self.say(f"{name}: {len(clause)} clauses")
                 lhs, rhs = clause[0].split(" =", 1)
                 pars = lhs.split()[1:]
-                same = [v for v, c in zip(vars_, changed) if not c]
                 diff = [v for v, c in zip(vars_, changed) if c]
-                news = [f"l.{v}" for v in same] + [f"l.initial.{v}" for v in diff] + [f"l.{v}" for v in diff]
+                news = [f"l.initial.{v}" if c else f"l.{v}" for v, c in zip(vars_, changed)] + [f"l.{v}" for v in diff]
                 if len(pars) != len(news):
                     self.say(f"{name}: parameters {pars} for {news}")
                 table = dict(zip(pars, news))
                 rhs = PATH.sub(lambda t: table.get(t.group(1), t.group(1)) + t.group(2), rhs)
-                word = f"{m.group(1)}-{new}"
+                word = f"{m.group(1)}-{stem}{new}"
                 invariants.append("\n".join(comments + [f"abbrev pub {word} : goal.{word}"] + unf + [f"{word} l ={rhs}"]))
                 continue
             m = re.match(rf"tie\.Need-({NAME})((?: {NAME})*)$", one)
@@ -375,6 +532,7 @@ class File:
                         self.say(f"no goal for {m.group(1)}: {body_text[:200]}")
                     continue
                 new, at = need
+                self.goals[name] = stem + new
                 if trivial:
                     continue
                 parts = []
@@ -384,7 +542,7 @@ class File:
                     if pars[:1] != ["c"]:
                         self.say(f"{name}: parameters {pars}")
                     pars = [p for p in pars if p != "κs"]
-                    said = self.turn(rhs, {"c": at}, new, at)
+                    said = self.turn(rhs, {"c": at}, stem + new, at)
                     if new.startswith("returns"):
                         said = self.as_record(self.own, "ensures", said)
                     elif re.search(r"-requires(-|$)", new):
@@ -395,8 +553,10 @@ class File:
                         elif fits:
                             fits.sort(key=len)
                             said = self.as_record(fits[-1], "requires", said)
-                    parts.append(f"{new} {' '.join(pars)} =" + said)
-                answers.append("\n".join(comments + [f"pub {new} : goal.{new}"] + unf + parts))
+                    if self.cycle:
+                        pars = ["t"] + pars
+                    parts.append(f"{stem}{new} {' '.join(pars)} =" + said)
+                answers.append("\n".join(comments + [f"pub {stem}{new} : goal.{stem}{new}"] + unf + parts))
                 continue
             # a helper, perhaps over places
             segs = self.segments(one)
@@ -424,7 +584,7 @@ class File:
                     nm, pl = places[i]
                     if home is None:
                         home = pl
-                    turned.append(f"({nm} : {self.place_new(pl)})" if nm else self.place_new(pl))
+                    turned.append(f"(c : {self.place_new(pl)})" if nm else self.place_new(pl))
                     if nm:
                         env_sig[nm] = pl
                 else:
@@ -432,6 +592,7 @@ class File:
             explicit = [i for i, s in enumerate(segs) if not s.startswith("{")]
             if explicit[0] in places:
                 self.takes[name] = places[explicit[0]][1]
+                self.bodies[name] = (mods, segs, places, unf, rest)
             if len(places) > 1:
                 self.say(f"helper {name} over {len(places)} places")
             parts = []
@@ -445,11 +606,16 @@ class File:
                     if i < len(pars):
                         env[pars[i]] = pl
                         if pars[i] != "c":
-                            self.say(f"helper {name}: its record is called {pars[i]}")
+                            lhs = re.sub(rf"(?<= ){re.escape(pars[i])}(?= |$)", "c", lhs)
+                if self.cycle and self.in_cycle:
+                    lhs = lhs.replace(name, name + " {t = t}", 1)
                 parts.append(f"{lhs} =" + self.turn(rhs, env, None, home))
+            if self.cycle and self.in_cycle:
+                turned[0] = "{t : ℕ} " + turned[0]
+            self.copy_helpers(answers)
             answers.append("\n".join(comments + [f"{mods}{name} : {' → '.join(turned)}"] + unf + parts))
         uses = [u for u in "\n".join(uses).split("\n")]
-        keep = [u for u in uses if not re.match(r"use Rattle\.\S+\.(Statement\.\{statement\}|Tie as tie)$", u)]
+        keep = [u for u in uses if not re.match(r"use Rattle\.\S+\.(Statement\.\{statement\}|Tie as tie|Tie\.\{close\}|\{statement\}|Lts-\S+ as \S+|Reads as \S+|Kinds as \S+)$", u) and not re.match(r"use borrow\.Fn\.", u)]
         if invariants:
             shared, text = [], "\n".join(invariants)
             again = True
@@ -546,9 +712,27 @@ def main():
         if only and rel.split(".")[-1] not in only:
             continue
         with open(path, encoding="utf-8") as f:
-            if "Tie as tie" not in f.read():
-                said.append(f"{path}: not over Tie")
-                continue
+            text = f.read()
+        if rel.split(".")[-1].startswith("+"):
+            start = f"Rattle-{cname}-proofs.{rel}.Lts-"
+            aliases = re.findall(rf"use Rattle\.\S+\.Lts-(\S+) as (\S+)", text)
+            base = f"{cname}::" + "".join(x + "::" for x in rel.split(".")[:-1])
+            f = File(path, None, f"Rattle.{cname}.proofs.{rel}", said, params, labels, base + "x")
+            for fn, alias in aliases:
+                if start + fn not in names:
+                    said.append(f"{path}: no entry {fn}")
+                    continue
+                f.cycle[alias] = (Entry(names[start + fn]), fn)
+            for key in names:
+                for callee, pars in (names[key].get("params", {}) if isinstance(names[key], dict) else {}).items():
+                    f.cycle_pars.setdefault(callee.split("::")[-1], pars)
+            f.entry = next(iter(f.cycle.values()))[0]
+            f.write()
+            n += 1
+            continue
+        if "Tie as tie" not in text:
+            said.append(f"{path}: not over Tie")
+            continue
         e = names.get(f"Rattle-{cname}-proofs.{rel}.Lts")
         if e is None:
             said.append(f"{path}: names.json has no entry")

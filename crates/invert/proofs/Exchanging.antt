@@ -3,21 +3,20 @@ use Prim.Native.Nat.{ℕ, ◌+◌, ◌-◌, ◌/◌, ◌≤◌}
 use mathlib.Core.Path.{◌≡◌, sym, ap, ap₂, ◌∙◌}
 use mathlib.Core.List.{List, ◌++◌, append-nil, append_assoc}
 use native.Mathlib.Omega.{arith}
-use lib.ListN.{length, take, drop, length-append, length-drop}
+use lib.ListN.{length, take, drop, length-append}
 use lib.Seq.{take_at, length-take-le}
 use Rattle.notation.specs.Tree.{Leaf, Node, leaf, block, group, binary_group, append, Tree}
 use Rattle.notation.specs.Packed.{RECORD, binary_head, head_record, size, body_head, pack_node, pack_body, pack, unpack}
 use Rattle.notation.specs.Counts.{cap, stored}
 use Rattle.notation.specs.declared.common.BinaryGroupKind.TheVariants.{Commutator, Conjugate}
 use Rattle.record.specs.Meaning.{field, with_lists, kind_at, FIRST, SECOND}
-use Rattle.record.proofs.Copying.{copied-whole}
 use Rattle.record.proofs.Storing.{lists-set}
 use Rattle.laws.specs.Inverted.{deeply, deeply_node, deeply_body}
 use Rattle.laws.proofs.WellFormedInverses.{deeply_node-count}
 use Rattle.nodes.specs.Nodes.{IsNode, part, Lists}
 use Rattle.nodes.proofs.Nodes.{length_part, node-room, fields-of, alone, kind-of, leaf-kind, group-kind}
 use Rattle.invert.proofs.Nodes.{record_is, list-is}
-use Rattle.invert.proofs.Loops.{put_part, length-put_part, put_last, same-length-fronts, same-length-parts}
+use Rattle.invert.proofs.Loops.{put_part, put_last, same-length-fronts}
 
 -- a list written in three parts, the first p long, the second from p to k
 three-parts : (out a b c : List ℕ) (p k : ℕ) → p ≤ k → length a ≡ p → length b ≡ k - p → (out₂ : List ℕ) → out₂ ≡ put_part p k (a ++ drop p out) b
@@ -48,45 +47,19 @@ exchanged (block (binary_group Commutator a b) m) {bs} s kind l c c' ec ec' =
     ∙ sym (ap (λ (t : Tree). pack (deeply t)) (alone s)))
 
 -- The three copies and the two sizes, as the code makes them: each part is as long as its place.
-module _ {bs : List ℕ} {n : Node Leaf} {m : ℕ} (s : IsNode bs n) (kind : kind_at bs ≡ 4) (l : Lists bs m) (out : List ℕ) (long : length out ≡ length bs) where
+module _ {bs : List ℕ} {n : Node Leaf} {m : ℕ} (s : IsNode bs n) (kind : kind_at bs ≡ 4) (l : Lists bs m) (out : List ℕ) where
   abbrev k : ℕ
   k = RECORD + (length bs - m)
 
-  pub first-place : length (take RECORD out) ≡ length (take RECORD bs)
-  first-place = same-length-fronts out bs RECORD (omega (arith, long, node-room s)) (node-room s)
+  pub first-place : length out ≡ length bs → length (take RECORD out) ≡ length (take RECORD bs)
+  first-place long = same-length-fronts out bs RECORD (omega (arith, long, node-room s)) (node-room s)
 
-  module _ (l₁ : List ℕ) (h₁ : length l₁ ≡ length (take RECORD out)) where
-    abbrev out₁ : List ℕ
-    out₁ = l₁ ++ drop RECORD out
-
-    long₁ : length l₁ ≡ RECORD
-    long₁ = h₁ ∙ first-place ∙ length-take-le RECORD bs (node-room s)
-
-    whole₁ : length out₁ ≡ length bs
-    whole₁ = length-append l₁ (drop RECORD out) ∙ omega (arith, long₁, length-drop RECORD out, long, node-room s)
-
-    second-place : length (part RECORD k out₁) ≡ length (part m (length bs) bs)
-    second-place = same-length-parts out₁ bs RECORD k m (length bs) (omega (arith, whole₁, l.least, l.most)) (omega arith) (omega arith)
-
-    module _ (l₂ : List ℕ) (h₂ : length l₂ ≡ length (part RECORD k out₁)) (out₂ : List ℕ) (e : out₂ ≡ put_part RECORD k out₁ l₂) where
-      long₂ : length l₂ ≡ k - RECORD
-      long₂ = h₂ ∙ length_part RECORD k out₁ (omega (arith, whole₁, l.least, l.most))
-
-      whole₂ : length out₂ ≡ length bs
-      whole₂ = ap length e ∙ length-put_part RECORD k out₁ l₂ (omega arith) (omega (arith, whole₁, l.least, l.most)) long₂ ∙ whole₁
-
-      third-place : length (part k (length out₂) out₂) ≡ length (part RECORD m bs)
-      third-place = same-length-parts out₂ bs k (length out₂) RECORD m (omega arith) l.most (omega (arith, whole₂, l.least, l.most))
-
-      pub exchanged-lists : (c c' : ℕ) → c ≡ field FIRST bs → c' ≡ field SECOND bs → (l₃ : List ℕ)
-          → (let f = take RECORD bs in l₁ ≡ take (length f) f ++ drop (length f) (take RECORD out))
-          → (let f = part m (length bs) bs in l₂ ≡ take (length f) f ++ drop (length f) (part RECORD k out₁))
-          → (let f = part RECORD m bs in l₃ ≡ take (length f) f ++ drop (length f) (part k (length out₂) out₂))
-          → with_lists c' c (put_part k (length out₂) out₂ l₃) ≡ pack (deeply (unpack bs))
-      exchanged-lists c c' ec ec' l₃ c₁ c₂ c₃ =
-          let e₁ : l₁ ≡ take RECORD bs = copied-whole (take RECORD bs) (take RECORD out) first-place c₁ in
-          let e₂ : l₂ ≡ part m (length bs) bs = copied-whole (part m (length bs) bs) (part RECORD k out₁) second-place c₂ in
-          let e₃ : l₃ ≡ part RECORD m bs = copied-whole (part RECORD m bs) (part k (length out₂) out₂) third-place c₃ in
-          ap (with_lists c' c)
-          (three-parts out l₁ l₂ l₃ RECORD k (omega arith) long₁ long₂ out₂ e ∙ ap₂ (λ (x y : List ℕ). x ++ y) e₁ (ap₂ (λ (x y : List ℕ). x ++ y) e₂ e₃))
-          ∙ exchanged n s kind l c c' ec ec'
+  pub exchanged-lists : (c c' : ℕ) → c ≡ field FIRST bs → c' ≡ field SECOND bs → (l₁ l₂ l₃ : List ℕ)
+      → l₁ ≡ take RECORD bs → l₂ ≡ part m (length bs) bs → l₃ ≡ part RECORD m bs → (out₂ : List ℕ) → out₂ ≡ put_part RECORD k (l₁ ++ drop RECORD out) l₂
+      → with_lists c' c (put_part k (length out₂) out₂ l₃) ≡ pack (deeply (unpack bs))
+  exchanged-lists c c' ec ec' l₁ l₂ l₃ e₁ e₂ e₃ out₂ e =
+      let long₁ : length l₁ ≡ RECORD = ap length e₁ ∙ length-take-le RECORD bs (node-room s) in
+      let long₂ : length l₂ ≡ k - RECORD = ap length e₂ ∙ length_part m (length bs) bs (omega arith) ∙ omega arith in
+      ap (with_lists c' c)
+      (three-parts out l₁ l₂ l₃ RECORD k (omega arith) long₁ long₂ out₂ e ∙ ap₂ (λ (x y : List ℕ). x ++ y) e₁ (ap₂ (λ (x y : List ℕ). x ++ y) e₂ e₃))
+      ∙ exchanged n s kind l c c' ec ec'

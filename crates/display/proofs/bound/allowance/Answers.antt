@@ -1,0 +1,23 @@
+-- `bound::allowance` meets its contract: each term is one of the rule's. Assumes nothing.
+use Prim.Native.Nat.{ℕ}
+use mathlib.Core.Path.{ap}
+use Rattle.notation.specs.Tree.{Span}
+use borrow.Author.Rules.{rules}
+use Rattle.display.proofs.bound.allowance.Goals as goal
+
+pub returns : goal.returns
+returns c =
+    let size : Span → ℕ = λ p. p.size in
+    rw (
+      c.extra.ensures.value,
+      c.extra-2.ensures.value,
+      c.extra-3.ensures.value,
+      c.extra-4.ensures.value,
+      c.is_group.ensures,
+      c.kind.ensures,
+      c.magnitude-n.ensures,
+      c.number.ensures,
+      ap size c.family.ensures.result_value,
+      ap size c.constraints.ensures.result_value,
+      c.layer_form.ensures,
+    )

@@ -1,0 +1,8 @@
+-- One after the other. Assumes nothing.
+use Rattle.display.proofs.Writing.{wrote_then}
+use borrow.Author.Rules.{rules}
+use Rattle.display.proofs.common.put_closing.Goals as goal
+
+pub returns : goal.returns
+returns c =
+    wrote_then c.put-next.ensures c.put_multiplier.ensures

@@ -1,0 +1,8 @@
+-- One after the other. Assumes nothing.
+use borrow.Author.Rules.{rules}
+use Rattle.display.proofs.Writing.{wrote_then}
+use Rattle.display.proofs.common.put_two.Goals as goal
+
+pub returns : goal.returns
+returns c =
+    wrote_then c.put-next.ensures c.put.ensures

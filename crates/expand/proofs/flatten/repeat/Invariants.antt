@@ -1,0 +1,11 @@
+-- `flatten::repeat` meets its contract. Assumes nothing.
+use Prim.Native.Nat.{◌-◌}
+use native.Mathlib.Omega.{arith}
+use Rattle.expand.proofs.Repeating.{Repeating, repeating-starts, repeating-goes-on, repeated}
+use Rattle.expand.proofs.flatten.repeat.Given as goal
+
+abbrev pub invariant-loop-i : goal.invariant-loop-i
+invariant-loop-i l = Repeating l.initial.out l.size l.total l.out l.i
+
+abbrev pub decreases-loop-i : goal.decreases-loop-i
+decreases-loop-i l = l.total - l.i

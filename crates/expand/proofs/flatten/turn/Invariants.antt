@@ -1,0 +1,11 @@
+-- `flatten::turn` meets its contract. Assumes nothing.
+use Prim.Native.Nat.{◌-◌}
+use borrow.Author.Rules.{rules}
+use Rattle.expand.proofs.Turning.{Turning, turning-starts, two-long, ends-start, turning-goes-on, only-starts, turned-odd, turned-even}
+use Rattle.expand.proofs.flatten.turn.Given as goal
+
+abbrev pub invariant-loop-from : goal.invariant-loop-from
+invariant-loop-from l = Turning l.initial.steps l.steps l.from l.to
+
+abbrev pub decreases-loop-from : goal.decreases-loop-from
+decreases-loop-from l = l.to - l.from

@@ -1,0 +1,13 @@
+-- `flatten::turn_if` meets its contract. Assumes nothing.
+use borrow.Author.Rules.{rules}
+use Rattle.expand.proofs.Completing.{contents-as_steps, turned-written, kept-written}
+use Rattle.expand.proofs.flatten.turn_if.Goals as goal
+
+pub turn-requires : goal.turn-requires
+turn-requires c = contents-as_steps c.requires
+
+pub returns-then-inverted : goal.returns-then-inverted
+returns-then-inverted c = turned-written c.requires c.if-inverted.true c.turn.ensures
+
+pub returns-else-inverted : goal.returns-else-inverted
+returns-else-inverted c = kept-written c.requires c.if-inverted.false

@@ -1,0 +1,38 @@
+-- `constraints` meets its contract. Assumes nothing.
+use mathlib.Core.Path.{sym, ap, ap₂, ◌∙◌}
+use mathlib.Core.Bool.{◌&&◌}
+use mathlib.Core.Logic.{⊎_elim}
+use mathlib.Core.Option.{some}
+use native.Mathlib.Omega.{arith}
+use lib.ListN.{drop}
+use Rattle.notation.specs.Tree.{Span}
+use Rattle.notation.specs.Grammar.{read}
+use Rattle.parse.proofs.Past.{within}
+use Rattle.parse.proofs.Rules.{takes-forget, takes-constraint_set}
+use Rattle.parse.proofs.LeafReaders.{unopened, no-constraints, some-constraints}
+use borrow.Author.Rules.{rules}
+use Rattle.parse.proofs.leaves.constraints.Goals as goal
+
+pub returns-in_default : goal.returns-in_default
+returns-in_default c =
+    let a = c.args in
+    no-constraints a.features a.text.now a.at c.if-features.true (rw c.in_default.is at c.constraint_set.ensures)
+
+pub span_between-part-requires : goal.span_between-part-requires
+span_between-part-requires c =
+    let ends = within c.args.text.now c.args.at (takes-forget takes-constraint_set) c.requires.0 (rw c.in-To.is at c.constraint_set.ensures) in
+    (omega (arith, ends.0), omega (arith, ends.1, c.requires.1))
+
+pub returns-then-has : goal.returns-then-has
+returns-then-has c =
+    let a = c.args in
+    let text = a.text.now in
+    let next = c.in-To.next in
+    ap (λ (p : Span). read (some p) next (drop next text)) c.span_between-part.ensures.result_value
+    ∙ some-constraints a.features a.at (drop a.at text) next (drop next text) c.if-features.true
+    (rw c.in-To.is at c.constraint_set.ensures)
+
+pub returns : goal.returns
+returns c =
+    let a = c.args in
+    unopened a.features a.text.now a.at (⊎_elim (λ w. ap₂ ◌&&◌ w.if-features.true (sym w.has.ensures ∙ w.if-has.false)) (λ w. rw w.if-features.false) c.else-features.branch-raw)

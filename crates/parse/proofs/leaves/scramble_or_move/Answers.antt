@@ -1,0 +1,21 @@
+-- `scramble_or_move` meets its contract. Assumes nothing.
+use mathlib.Core.Path.{sym, ap₂, ◌∙◌}
+use mathlib.Core.Bool.{◌&&◌}
+use mathlib.Core.Logic.{⊎_elim}
+use Rattle.parse.proofs.LeafReaders.{a-scramble, no-scramble}
+use borrow.Author.Rules.{rules}
+use Rattle.parse.proofs.leaves.scramble_or_move.Goals as goal
+
+pub megaminx_scramble_move-requires : goal.megaminx_scramble_move-requires
+megaminx_scramble_move-requires c = (c.requires.0, sym c.is_scramble.ensures ∙ c.if-is_scramble.true)
+
+pub returns-then-is_scramble : goal.returns-then-is_scramble
+returns-then-is_scramble c =
+    let a = c.args in
+    a-scramble a.features a.text.now a.at c.if-features.true (sym c.is_scramble.ensures ∙ c.if-is_scramble.true) c.megaminx_scramble_move.ensures
+
+pub returns-else-features : goal.returns-else-features
+returns-else-features c =
+    let a = c.args in
+    no-scramble a.features a.text.now a.at (⊎_elim (λ w. ap₂ ◌&&◌ w.if-features.true (sym w.is_scramble.ensures ∙ w.if-is_scramble.false)) (λ w. rw w.if-features.false) c.else-features.branch-raw)
+    c.move_.ensures

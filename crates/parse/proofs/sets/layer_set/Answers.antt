@@ -1,0 +1,9 @@
+-- `layer_set` meets its contract: of the elements only the ends are told. Assumes nothing.
+use mathlib.Core.Path.{◌∙◌}
+use lib.ListN.{drop}
+use Rattle.parse.proofs.InBraces.{layer-set-ends}
+use borrow.Author.Rules.{rules}
+use Rattle.parse.proofs.sets.layer_set.Goals as goal
+
+pub returns : goal.returns
+returns c = c.braces.ensures ∙ layer-set-ends c.args.hsc1 c.args.at (drop c.args.at c.args.text.now)

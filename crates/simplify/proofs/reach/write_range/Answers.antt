@@ -1,0 +1,10 @@
+-- `write_range` meets its contract: two fields, one after the other. Assumes nothing.
+use borrow.Author.Rules.{rules}
+use Rattle.simplify.proofs.Sweep.{two_fields}
+use Rattle.simplify.proofs.reach.write_range.Goals as goal
+
+pub returns : goal.returns
+returns c =
+    let a = c.args in
+    two_fields a.out.now c.write_u16.new.out c.write_u16-2.new.out a.at a.low a.high
+    c.write_u16.ensures c.write_u16-2.ensures

@@ -1,0 +1,13 @@
+-- `fill_counts` meets its contract. Assumes nothing.
+use Prim.Native.Nat.{◌-◌}
+use mathlib.Core.Path.{refl}
+use native.Mathlib.Omega.{arith}
+use Rattle.notation.specs.Packed.{RECORD}
+use Rattle.tally.proofs.Filling.{Filling, filling-starts, filling-on, filling-ends, record-before, own_open, sums-capped}
+use Rattle.tally.proofs.fill_counts.Given as goal
+
+abbrev pub invariant-loop-at : goal.invariant-loop-at
+invariant-loop-at l = Filling l.initial.tree l.tree l.sums l.at
+
+abbrev pub decreases-loop-at : goal.decreases-loop-at
+decreases-loop-at l = l.at

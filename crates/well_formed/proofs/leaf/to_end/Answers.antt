@@ -1,0 +1,7 @@
+-- `to_end` meets its contract: nothing is left after an end at or past the part's. Assumes nothing.
+use borrow.Author.Rules.{rules}
+use Rattle.well_formed.proofs.Tests as tests
+use Rattle.well_formed.proofs.leaf.to_end.Goals as goal
+
+pub returns-in-To : goal.returns-in-To
+returns-in-To c = rw c.in-To.is (tests.to-end-test c.args.part.now c.in-To.end)
