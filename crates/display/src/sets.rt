@@ -79,7 +79,7 @@ fn put_more(out: &mut [u8], at: usize, part: &[u8], from: usize) -> usize
 // A set, with its braces.
 pub(crate) fn put_layer_set(out: &mut [u8], at: usize, part: &[u8]) -> usize
     requires at_le_most { at ≤ most }
-    requires is_set { is_some (layer_set_in part.now) ≡ true }
+    requires part_value { is_some (layer_set_in part.now) ≡ true }
     ensures { Wrote out.old out.new at result
         (print.put_braces print.put_element (or_empty (layer_set_in part.now))) }
 {

@@ -23,7 +23,7 @@ use record::{RECORD, fields, kinds};
 // Prints a part of the text as it stands there.
 fn put_part(out: &mut [u8], at: usize, text: &[u8], p: Span) -> usize
     requires at_le_most { at ≤ most }
-    requires part_inside { well_formed.inside text.now (means.span p) ≡ true }
+    requires p_value { well_formed.inside text.now (means.span p) ≡ true }
     ensures { Wrote out.old out.new at result
         (λ rest. tree.part_of text.now (means.span p) ++ rest) }
 {
@@ -47,7 +47,7 @@ fn put_tilde(out: &mut [u8], at: usize, inverted: bool) -> usize
 fn put_constraints(out: &mut [u8], at: usize, text: &[u8], t: &[u8]) -> usize
     requires at_le_most { at ≤ most }
     requires record_size_in_bounds { record_size ≤ length t.now }
-    requires good_constraints { well_formed.constraints_ok text.now (means.constraints_at t.now) ≡ true }
+    requires t_value { well_formed.constraints_ok text.now (means.constraints_at t.now) ≡ true }
     ensures { Wrote out.old out.new at result
         (print.put_constraints (meaning.constraint_meaning text.now (means.constraints_at t.now))) }
 {
@@ -63,7 +63,7 @@ fn put_constraints(out: &mut [u8], at: usize, text: &[u8], t: &[u8]) -> usize
 // The layers before a family.
 fn put_layers(out: &mut [u8], at: usize, text: &[u8], layers: LayerPrefixContents) -> usize
     requires at_le_most { at ≤ most }
-    requires good_layers { well_formed.layers_ok text.now (means.layers layers) ≡ true }
+    requires layers_value { well_formed.layers_ok text.now (means.layers layers) ≡ true }
     ensures { Wrote out.old out.new at result
         (print.put_layers (meaning.layer_meaning text.now (means.layers layers))) }
 {
@@ -128,7 +128,7 @@ fn put_pair(out: &mut [u8], at: usize, u: u32, d: u32) -> usize
 // fit, `out` is only measured against: what stands in it is left open.
 pub fn display(text: &[u8], tree: &[u8], out: &mut [u8]) -> usize
     requires packed { Packed tree.now }
-    requires good_tree { well_formed.tree_ok text.now (unpack tree.now) ≡ true }
+    requires tree_value { well_formed.tree_ok text.now (unpack tree.now) ≡ true }
     ensures counts { result ≡ min (length (print.printed text.now (unpack tree.now))) most }
     ensures prints { length (print.printed text.now (unpack tree.now)) ≤ length out.old →
         out.new ≡ print.printed text.now (unpack tree.now)
@@ -142,7 +142,7 @@ pub fn display(text: &[u8], tree: &[u8], out: &mut [u8]) -> usize
 pub fn node_list(out: &mut [u8], at: usize, text: &[u8], tree: &[u8]) -> usize
     requires at_le_most { at ≤ most }
     requires packed { Packed tree.now }
-    requires good_tree { well_formed.tree_ok text.now (unpack tree.now) ≡ true }
+    requires tree_value { well_formed.tree_ok text.now (unpack tree.now) ≡ true }
     ensures { Wrote out.old out.new at result
         (print.put_nodes (meaning.unspanned text.now (unpack tree.now))) }
 {

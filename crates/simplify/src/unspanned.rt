@@ -92,7 +92,7 @@ fn after_comma(part: &[u8], at: usize) -> Taken
 fn mark_set(part: &[u8], axis: AxisLayersInfo, reach: &mut [u16])
     requires layer { meaning.IsLayer axis.max_layer }
     requires max_layer_in_bounds { axis.max_layer < length reach.old }
-    requires is_set { is_some (layer_set_in part.now) ≡ true }
+    requires part_value { is_some (layer_set_in part.now) ≡ true }
     ensures { reach.new
         ≡ elements.marked_set axis.max_layer axis.allow_negatives (or_empty (layer_set_in part.now))
         reach.old }
@@ -113,8 +113,8 @@ fn mark_set(part: &[u8], axis: AxisLayersInfo, reach: &mut [u16])
 // Gathers the ranges of a layer set in an empty table of the axis, or with a tilde the layers that they do not give.
 fn gather_set(part: &[u8], axis: AxisLayersInfo, inverted: bool, reach: &mut [u16])
     requires layer { meaning.IsLayer axis.max_layer }
-    requires empty_reach { reach.old ≡ replicate (axis.max_layer + 1) 0 }
-    requires is_set { is_some (layer_set_in part.now) ≡ true }
+    requires reach_value { reach.old ≡ replicate (axis.max_layer + 1) 0 }
+    requires part_value { is_some (layer_set_in part.now) ≡ true }
     ensures { table.Gathered axis.max_layer
         (elements.lit_set axis.max_layer axis.allow_negatives inverted part.now) reach.new }
 {
@@ -133,8 +133,8 @@ fn simplify_set(
     out: &mut [u8],
 ) -> Answer
     requires layer { meaning.IsLayer axis.max_layer }
-    requires empty_reach { reach.old ≡ replicate (axis.max_layer + 1) 0 }
-    requires is_set { is_some (layer_set_in part.now) ≡ true }
+    requires reach_value { reach.old ≡ replicate (axis.max_layer + 1) 0 }
+    requires part_value { is_some (layer_set_in part.now) ≡ true }
     ensures { elements.GivesRanges
         (elements.lit_set axis.max_layer axis.allow_negatives inverted part.now) result out.new
         out.old }
@@ -152,7 +152,7 @@ fn simplify_set(
 // stack stays small.
 fn simplify_set_of_few(part: &[u8], axis: AxisLayersInfo, inverted: bool, out: &mut [u8]) -> Answer
     requires bound { (1 ≤ axis.max_layer) × (axis.max_layer < 128) }
-    requires is_set { is_some (layer_set_in part.now) ≡ true }
+    requires part_value { is_some (layer_set_in part.now) ≡ true }
     ensures { elements.GivesRanges
         (elements.lit_set axis.max_layer axis.allow_negatives inverted part.now) result out.new
         out.old }
@@ -165,7 +165,7 @@ fn simplify_set_of_few(part: &[u8], axis: AxisLayersInfo, inverted: bool, out: &
 // Simplifies a layer set on an axis with any number of layers.
 fn simplify_set_of_many(part: &[u8], axis: AxisLayersInfo, inverted: bool, out: &mut [u8]) -> Answer
     requires layer { meaning.IsLayer axis.max_layer }
-    requires is_set { is_some (layer_set_in part.now) ≡ true }
+    requires part_value { is_some (layer_set_in part.now) ≡ true }
     ensures { elements.GivesRanges
         (elements.lit_set axis.max_layer axis.allow_negatives inverted part.now) result out.new
         out.old }
@@ -222,7 +222,7 @@ pub fn simplify(
 ) -> Answer
     requires layer { meaning.IsLayer max_layer }
     requires text_len_bound { length text.now ≤ MAX-TEXT }
-    requires good_layers { layers_ok text.now (record'.layers layers) ≡ true }
+    requires layers_value { layers_ok text.now (record'.layers layers) ≡ true }
     ensures { elements.GivesRanges
         (rule.lit max_layer inverted (ranges_in text.now max_layer allow_negatives (record'.layers layers))) result
         out.new out.old }
