@@ -8,7 +8,7 @@ checkout=$(cd "${2:?a checkout with its archive}" && pwd)
 "$root/tests/oracle/build.sh" "${1:?the folder of the published Rust}" >&2
 out=$root/target/bench
 export HYPUZ_ARCHIVE=$checkout/target/staticlib/libhypuz_notation.a HYPUZ_HEADER=$checkout/include/hypuz_notation.h
-[ -f "$HYPUZ_ARCHIVE" ] || (cd "$checkout" && rt staticlib hypuz_notation >&2)
+[ -f "$HYPUZ_ARCHIVE" ] || "$checkout/tools/archive.sh" >&2
 rm -rf "$out/src" && mkdir -p "$out/src" "$out/programs"
 cp "$here"/{main,reader,scale}.rs "$root/tests/oracle/ours.rs" "$out/src/"
 cp "$here/Cargo.toml" "$root/tests/oracle/build.rs" "$out/"

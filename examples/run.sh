@@ -6,7 +6,7 @@ set -eu
 root=$(cd "$(dirname "$0")/.." && pwd)
 cd "$root"
 archive=target/staticlib/libhypuz_notation.a
-[ -f "$archive" ] || rt staticlib hypuz_notation >&2
+[ -f "$archive" ] || tools/archive.sh >&2
 mkdir -p target/examples
 cc -std=c99 -Wall -Wextra -Wpedantic -Werror -I include examples/card.c "$archive" -o target/examples/card
 c++ -std=c++17 -Wall -Wextra -Wpedantic -Werror -I include -x c++ examples/card.c -x none "$archive" -o target/examples/card++

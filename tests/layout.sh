@@ -1,6 +1,5 @@
 #!/usr/bin/env bash
-# Puts the code of all crates into the layout of `rt fmt`, or with --check says which files are not in it. `rt fmt` itself also takes the proofs, in which it
-# gives each imported name a line, and the table of character classes, in which it gives each of 1,024 entries one: both stay as they are.
+# Puts the code, the definitions and the proofs of all crates into the layout of `rt fmt`, or with --check says which files are not in it. The gate refuses those.
 #   tests/layout.sh [--check]
 set -eu
 root=$(cd "$(dirname "$0")/.." && pwd)
@@ -8,11 +7,13 @@ copy=$(mktemp -d)
 trap 'rm -rf "$copy"' EXIT
 cd "$root"
 cp crates.txt "$copy"
-find crates -path '*/src/*.rt' ! -name classes.rt | while read -r file; do
-    mkdir -p "$copy/$(dirname "$file")"
-    cp "$file" "$copy/$file"
+for crate in crates/*; do
+    mkdir -p "$copy/$crate"
+    for part in src specs proofs; do
+        [ ! -d "$crate/$part" ] || cp -r "$crate/$part" "$copy/$crate"
+    done
+    (cd "$copy/$crate" && rt fmt) >"$copy/said" || { cat "$copy/said"; exit 1; }
 done
-(cd "$copy" && rt fmt >/dev/null)
 found=0
 while read -r file; do
     if ! cmp -s "$copy/$file" "$file"; then
@@ -23,7 +24,7 @@ while read -r file; do
             cp "$copy/$file" "$file"
         fi
     fi
-done < <(cd "$copy" && find crates -name '*.rt')
+done < <(cd "$copy" && find crates -name '*.rt' -o -name '*.antt')
 if [ "${1:-}" = --check ]; then
     echo "$found files are not in the layout"
     [ "$found" -eq 0 ]

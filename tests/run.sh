@@ -65,8 +65,8 @@ fuzz() {
 }
 
 shown=1
-run archive rt staticlib hypuz_notation
-run lister-program rt check lister
+run archive tools/archive.sh
+run lister-program tools/lister.sh
 run layout tests/layout.sh --check
 shown=12
 if has python3; then

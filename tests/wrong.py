@@ -1,12 +1,11 @@
 #!/usr/bin/env python3
 """Tells which wrong programs the stored vectors tell. Each edit makes the sources of a crate wrong, and the prover refuses them; here the program crates/vectors is compiled
-over them without any proof, at -O3, and run on its stored cases. What it writes is held to the stored answers, line by line.
+over them without any proof, at -O2, and run on its stored cases. What it writes is held to the stored answers, line by line.
 
 wrong.py [--seconds S] [FOLDER..]    folders of edits, searched through; without one, crates/*/must-fail and tests/wrong
 
 An edit is a file NAME.edit in crates/CRATE/must-fail or tests/wrong/CRATE, in the format of `rt must-fail`. Only what it edits below src/ is in the program, so an edit of
-specs/ alone is passed over. A program may run for S seconds, 10 if not said. A run checks no index: a program that goes out of bounds may go on by chance,
-and then differ from run to run.
+specs/ alone is passed over. A program may run for S seconds, 10 if not said. A program whose index or sum is out of bounds stops.
 
 The exit status is 1 if an edit could not be applied or compiled, if one of tests/wrong is told by none, or if the sources as they stand differ from the stored answers;
 otherwise 0."""
@@ -14,43 +13,23 @@ import argparse
 import collections
 import os
 import resource
-import shlex
-import shutil
 import signal
 import subprocess
 import sys
 import time
 
-from unproved import CRATES, OWN, ROOT, copied
+from unproved import CRATES, ROOT, TOOLS, VECTORS, Failed, compiled, copied, tools
 
 OUT = os.path.join(ROOT, "target", "wrong")
 SOURCES = os.path.join(OUT, "crates")
 PROGRAM = os.path.join(OUT, "program")
-VECTORS = os.path.join(CRATES, "vectors")
-TOOLS = os.path.join(OWN, "toolchain")
 STACK = 8 << 20  # bytes, the limit of most shells, which rt leaves as it is
 SPACE = 8  # how many times what is expected a program may write
-# Stands in for clang where rattle-cases compiles at -O0, at -O3 and with the compiler's assumptions checked, in this order: the first gives a program that does nothing,
-# the second gives the object file that is kept, and ends rattle-cases.
-STAND_IN = r"""#!/bin/sh
-case " $* " in
-*' -O3 '*)
-    {clang} "$@" && mv module.o {kept}
-    exit 1
-    ;;
-esac
-printf 'target triple = "x86_64-unknown-linux-gnu"\ndefine i32 @main() {{ ret i32 0 }}\n' >module.bc
-exec {clang} "$@"
-"""
 
 TOLD = ("told", "stops", "endless")  # the kinds of verdict by which the cases tell a wrong program
 
 Edit = collections.namedtuple("Edit", "name crate pairs")
 Verdict = collections.namedtuple("Verdict", "kind text")
-
-
-class Failed(Exception):
-    """Says why an edit could not be applied, or a program not be compiled."""
 
 
 def found(folders):
@@ -116,39 +95,6 @@ def edited(edit):
     return texts
 
 
-def tools():
-    """Makes the toolchain that is given to rattle-cases: the kit's, but for clang."""
-    made = os.path.join(OUT, "toolchain")
-    os.makedirs(os.path.join(made, "bin"))
-    for name in ("lib", "bin/ld.lld", "bin/llvm-ar"):
-        os.symlink(os.path.join(TOOLS, name), os.path.join(made, name))
-    clang = os.path.join(made, "bin", "clang")
-    write({clang: STAND_IN.format(clang=shlex.quote(os.path.join(TOOLS, "bin", "clang")), kept=shlex.quote(PROGRAM + ".o"))})
-    os.chmod(clang, 0o755)
-    return made
-
-
-def call(*command):
-    """Runs a command of the kit: whether it ended well, and what it wrote."""
-    done = subprocess.run((os.path.join(OWN, "bin", command[0]), *command[1:]), stdout=subprocess.PIPE, stderr=subprocess.STDOUT, text=True, errors="replace")
-    return done.returncode == 0, done.stdout.strip()
-
-
-def compiled(made, words):
-    """Compiles and links the program over the sources in the copy; its bytes. That the interpreter runs it first, on no input, does not matter."""
-    kept = PROGRAM + ".o"
-    if os.path.exists(kept):
-        os.remove(kept)
-    _, said = call("rattle-cases", "--toolchain", made, os.path.join(SOURCES, "vectors", "src", "main.rt"), "--crate-name", "vectors", *words)
-    if not os.path.exists(kept):
-        raise Failed(said)
-    linked, said = call("rattle-link", "--target", "x86_64-unknown-linux-gnu", "--toolchain", TOOLS, "-o", PROGRAM, kept)
-    if not linked:
-        raise Failed(said)
-    with open(PROGRAM, "rb") as f:
-        return f.read()
-
-
 def ran(seconds):
     """Runs the program on the stored cases as rt does, under the kit's loader: the lines that it wrote, and its status, or None if it does not end in time or writes too much."""
     most = SPACE * os.path.getsize(os.path.join(VECTORS, "stdout"))
@@ -188,15 +134,14 @@ class Trial:
     """Holds the copy of the sources, in which the edits are made, one at a time, and the program over the sources as they stand."""
 
     def __init__(self, seconds):
-        shutil.rmtree(OUT, ignore_errors=True)
-        os.makedirs(OUT)
-        self.seconds, self.made, self.words = seconds, tools(), copied(SOURCES)
+        copied(OUT)
+        self.seconds, self.made = seconds, tools(OUT, PROGRAM)
         self.wanted = lines(os.path.join(VECTORS, "stdout"))
         self.sound = None
 
     def run(self):
         """Compiles and runs the program over the copy. One with the same bytes as the first, which is over the sources as they stand, is not run again."""
-        code = compiled(self.made, self.words)
+        code = compiled(self.made, SOURCES, PROGRAM)
         if code == self.sound:
             return Verdict("same", "told by none: the program stays the same, byte for byte")
         self.sound = self.sound or code

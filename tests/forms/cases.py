@@ -34,7 +34,7 @@ def literal(text):
 def ranges_of(text, record, max_layer, negatives):
     """Gives a call of `ranges::simplify` and its line. Three entries are lent, each filled with 7 and 77."""
     tree = n.pack(n.read(text, n.MAXIMAL))
-    call = f"ranges_of({literal(text)}, {record}, {max_layer}, {str(negatives).lower()});"
+    call = f"ranges_of(&rt, {literal(text)}, {record}, {max_layer}, {str(negatives).lower()})?;"
     try:
         found = n.lend(n.simplify(text, tree, record, max_layer, negatives), 4 * ROOM, 4)
     except n.Refused as e:
@@ -63,19 +63,19 @@ def walked(text, setting):
     found = r.braces(r.constraint)
     line += "none " if found is None else f"{r.offset[r.i]} "
     line += f"{r.multiplier() % 2**32} " + ("end" if r.i == len(r.s) else "")
-    return f"walked({literal(text)}, features::{name});", line
+    return f"walked(&rt, {literal(text)}, features::{name})?;", line
 
 
 def first(text):
     """Gives a call for the leaf that a text begins with, after white space, and its line."""
     r = n.Reader(text, n.MAXIMAL)
     r.spaces()
-    return f"first({literal(text)});", leaf(r)
+    return f"first(&rt, {literal(text)})?;", leaf(r)
 
 
 def first_of_pauses(size):
     """Does the same for a text of so many pauses. (A text past the limit would not fit the stack.)"""
-    return f"first(&[{ord('.')}u8; {size}]);", leaf(n.Reader(b"." * size, n.MAXIMAL))
+    return f"first(&rt, &[{ord('.')}u8; {size}])?;", leaf(n.Reader(b"." * size, n.MAXIMAL))
 
 
 def cases(r):
@@ -99,8 +99,8 @@ def cases(r):
         yield walked(text.encode(), r.choice(SETTINGS))
 
 
-# The interpreter takes at most ten million steps. A layer set with a tilde on the longest axis takes 3.7 million of them, most other calls some ten thousand.
-STEPS, HEAVY, LIGHT = 9000000, 4000000, 80000
+# The interpreter takes at most 20 million steps. A layer set with a tilde on the longest axis takes 3.7 million of them, most other calls some ten thousand.
+STEPS, HEAVY, LIGHT = 18000000, 4000000, 80000
 
 
 def pieces(found):

@@ -1,111 +1,85 @@
 #!/usr/bin/env bash
-# Runs the two forms after the core, `Reader` and `ranges::simplify`, on inputs: a small program over the proved sources, on the kit's interpreter
-# and compiled three ways, without a proof of the program itself. The calls and the lines that they are to write come from cases.py.
+# Runs the two forms after the core, `Reader` and `ranges::simplify`, on inputs: a small program over the sources as they stand, by `rt try`, on the kit's
+# interpreter and compiled with checks, without a proof of the program itself. The calls and the lines that they are to write come from cases.py.
 set -euo pipefail
 root=$(cd "$(dirname "$0")/../.." && pwd)
-kit=$(dirname "$(dirname "$(readlink -f "$(command -v rt)")")")
-own=$kit/on/$(uname -m)
 out=$root/target/forms
-rm -rf "$out" && mkdir -p "$out"
-mapfile -t words < <(python3 "$root/tests/unproved.py" --copy "$out/crates")
+python3 "$root/tests/unproved.py" --copy "$out"
+main=$out/crates/forms/src/main.rt
+mkdir -p "$(dirname "$main")"
+echo "forms: layer notation parse ranges reader record" >>"$out/crates.txt"
 cat >"$out/program" <<'PROGRAM'
-use layer::Layer;
-use layer::LayerRange;
-use libc::STDOUT_FILENO;
+use layer::{Layer, LayerRange};
 use notation::answer::Answer;
 use notation::features;
 use notation::features::Features;
 use parse::parse_notation;
-use parse::parts::LeafAnswer;
-use parse::parts::Taken;
+use parse::parts::{LeafAnswer, Taken};
 use reader::Reader;
 use record::RECORD;
+use std::io;
 
 // Room for ten records.
 const TREE: usize = 10 * RECORD;
 
-fn number(n: u64) {
-    let mut digits = [0u8; 20];
-    let k = io::decimal(n, &mut digits);
-    io::write_all(STDOUT_FILENO, &digits[..k]);
-    io::write_all(STDOUT_FILENO, b" ");
-}
-
-fn line() {
-    io::write_all(STDOUT_FILENO, b"\n");
-}
-
-fn answer(a: Answer) {
+fn answer(rt: &impl Print, a: Answer) -> io::Result<()> {
     match a {
-        Answer::Value(n) => number(n),
-        Answer::Refused(n) => {
-            io::write_all(STDOUT_FILENO, b"refused ");
-            number(n as u64);
-        }
+        Answer::Value(n) => print!(rt; "{n} "),
+        Answer::Refused(n) => print!(rt; "refused {n} "),
     }
 }
 
-fn ranges_of(text: &[u8], record: u64, max_layer: u32, negatives: bool) {
+fn ranges_of(rt: &impl Print, text: &[u8], record: u64, max_layer: u32, negatives: bool) -> io::Result<()> {
     let mut tree = [0u8; TREE];
     let Answer::Value(size) = parse_notation(text, features::maximal(), &mut tree) else {
-        return;
+        return Ok(());
     };
     let end = size as usize;
     let mut run = [LayerRange { min: Layer(7), max: Layer(77) }; 3];
-    answer(ranges::simplify(text, &tree[0..end], record, max_layer, negatives, &mut run));
-    let mut i = 0;
-    while i < 3 {
-        number(run[i].min.0 as u64);
-        number(run[i].max.0 as u64);
-        i += 1;
+    answer(rt, ranges::simplify(text, &tree[0..end], record, max_layer, negatives, &mut run))?;
+    for range in run {
+        print!(rt; "{} {} ", range.min.0, range.max.0)?;
     }
-    line();
+    println!(rt; "")
 }
 
-fn leaf(a: LeafAnswer) {
+fn leaf(rt: &impl Print, a: LeafAnswer) -> io::Result<()> {
     match a {
         LeafAnswer::Took(f, next) => {
-            number(f.small as u64);
-            number(f.number as u64);
-            number(f.family.offset as u64);
-            number(f.family.size as u64);
-            number(next as u64);
+            print!(rt; "{} {} {} {} {next} ", f.small, f.number, f.family.offset, f.family.size)
         }
-        LeafAnswer::Nothing => {
-            io::write_all(STDOUT_FILENO, b"nothing ");
-        }
+        LeafAnswer::Nothing => print!(rt; "nothing "),
     }
 }
 
-fn walked(text: &[u8], features: Features) {
+fn walked(rt: &impl Print, text: &[u8], features: Features) -> io::Result<()> {
     let mut r = Reader::new(text);
     r.skip_whitespace();
-    leaf(r.leaf(features));
+    leaf(rt, r.leaf(features))?;
     match r.constraint_set() {
-        Taken::To(next) => number(next as u64),
-        Taken::Nothing => {
-            io::write_all(STDOUT_FILENO, b"none ");
-        }
+        Taken::To(next) => print!(rt; "{next} ")?,
+        Taken::Nothing => print!(rt; "none ")?,
     }
-    number(r.multiplier(features) as u64);
+    print!(rt; "{} ", r.multiplier(features))?;
     if r.at_end() {
-        io::write_all(STDOUT_FILENO, b"end");
+        print!(rt; "end")?;
     }
-    line();
+    println!(rt; "")
 }
 
-fn first(text: &[u8]) {
-    leaf(reader::first_leaf(text, features::maximal()));
-    line();
+fn first(rt: &impl Print, text: &[u8]) -> io::Result<()> {
+    leaf(rt, reader::first_leaf(text, features::maximal()))?;
+    println!(rt; "")
 }
 
-fn main() {
+fn main(rt: HostRuntime) -> io::Result<()> {
 PROGRAM
-# In pieces, since the interpreter takes at most ten million steps.
+# In pieces, since the interpreter takes at most 20 million steps.
 python3 "$root/tests/forms/cases.py" "$out"
 for calls in "$out"/calls.*; do
-    mkdir -p "$out/main/src"
-    cat "$out/program" "$calls" - >"$out/main/src/main.rt" <<<"}"
-    "$own/bin/rattle-cases" --toolchain "$own/toolchain" --stdout "${calls/calls./lines.}" "$out/main/src/main.rt" --crate-name main "${words[@]}" >"$out/said" || { cat "$out/said"; exit 1; }
+    cat "$out/program" "$calls" - >"$main" <<<$'    Ok(())\n}'
+    (cd "$out/crates/forms" && rt try </dev/null) >"$out/wrote" 2>"$out/said" || { cat "$out/said"; exit 1; }
+    grep -q "runners=2" "$out/said" || { cat "$out/said"; exit 1; }
+    cmp "$out/wrote" "${calls/calls./lines.}"
 done
-echo "$(cat "$out"/lines.* | wc -l) cases agree, on the interpreter and compiled three ways"
+echo "$(cat "$out"/lines.* | wc -l) cases agree, on the interpreter and compiled with checks"

@@ -6,7 +6,7 @@ here=$(cd "$(dirname "$0")" && pwd)
 root=$(cd "$here/../.." && pwd)
 out=$root/target/fuzz
 lib=$root/target/staticlib/libhypuz_notation.a
-[ -f "$lib" ] || (cd "$root" && rt staticlib hypuz_notation)
+[ -f "$lib" ] || "$root/tools/archive.sh"
 mkdir -p "$out/corpus" "$out/found"
 clang -g -O1 -Wall -Wextra -fsanitize=fuzzer,address -I "$root/include" "$here/fuzz.c" "$lib" -o "$out/fuzz"
 python3 "$here/seeds.py" "$root/tests/oracle/sample.tsv" "$out/corpus"

@@ -5,7 +5,7 @@ set -eu
 root=$(cd "$(dirname "$0")/../.." && pwd)
 cd "$root"
 lib=target/staticlib/libhypuz_notation.a
-[ -f "$lib" ] || rt staticlib hypuz_notation
+[ -f "$lib" ] || tools/archive.sh
 mkdir -p target/host
 build="cc -std=c11 -Wall -Wextra -Wpedantic -Werror -O1 -g -I include"
 $build -fsanitize=address,undefined -fno-sanitize-recover=all tests/host/host.c "$lib" -o target/host/host

@@ -8,7 +8,7 @@ root=$(cd "$here/../.." && pwd)
 src=$(cd "${1:?the folder of the published Rust}" && pwd)/crates/hypuz_notation/src
 out=$root/target/oracle
 export HYPUZ_ARCHIVE=$root/target/staticlib/libhypuz_notation.a HYPUZ_HEADER=$root/include/hypuz_notation.h
-[ -f "$HYPUZ_ARCHIVE" ] || (cd "$root" && rt staticlib hypuz_notation)
+[ -f "$HYPUZ_ARCHIVE" ] || "$root/tools/archive.sh"
 rm -rf "$out/src" && mkdir -p "$out/src/layer"
 cp "$src"/{common,expand,invert,unspanned}.rs "$out/src/"
 # `bool::toggle` is newer than this Rust; the only line changed in a carried file (`!prefix`, which nothing here calls).

@@ -10,12 +10,16 @@ src=$(cd "${1:?the folder of the published Rust}" && pwd)/crates/hypuz_notation/
 out=$root/target/characters
 mkdir -p "$out/crates/classes/src"
 for c in notation charsets; do
-    rm -rf "$out/crates/$c"
-    cp -r "$root/crates/$c" "$out/crates/$c"
+    rm -rf "$out/crates/$c" && mkdir "$out/crates/$c"
+    for part in src specs proofs; do
+        [ ! -d "$root/crates/$c/$part" ] || cp -r "$root/crates/$c/$part" "$out/crates/$c/"
+    done
 done
-printf '%s\n' 'notation:' 'charsets: notation' 'classes: notation charsets' >"$out/crates.txt"
+printf '%s\n' 'notation:' 'charsets: notation' 'classes staticlib: notation charsets' >"$out/crates.txt"
 cat >"$out/crates/classes/src/lib.rt" <<'CRATE'
 // The character tests of `charsets`, for a host.
+#![tactic(auto)]
+
 use charsets::classify;
 use charsets::is_family_char;
 use charsets::is_prime;
@@ -24,7 +28,7 @@ use notation::char_set::CharSet;
 use notation::char_set::Class;
 
 // 0 outside, else 1 and on in the order of the Rust's enum, and 7 for the primes.
-#[no_mangle]
+#[unsafe(no_mangle)]
 pub extern "C" fn class_of(c: u32) -> u32 {
     match classify(c) {
         Class::In(set) => match set {
@@ -40,22 +44,22 @@ pub extern "C" fn class_of(c: u32) -> u32 {
     }
 }
 
-#[no_mangle]
+#[unsafe(no_mangle)]
 pub extern "C" fn family_char(c: u32) -> u32 {
     is_family_char(c) as u32
 }
 
-#[no_mangle]
+#[unsafe(no_mangle)]
 pub extern "C" fn prime(c: u32) -> u32 {
     is_prime(c) as u32
 }
 
-#[no_mangle]
+#[unsafe(no_mangle)]
 pub extern "C" fn white_space(c: u32) -> u32 {
     is_whitespace(c) as u32
 }
 CRATE
-(cd "$out" && rt staticlib classes) >"$out/said" 2>&1 || { cat "$out/said"; exit 1; }
+(cd "$out/crates/classes" && rt lib) >"$out/said" 2>&1 || { cat "$out/said"; exit 1; }
 cp "$src/charsets.rs" "$here/characters.rs" "$out/"
-rustc --edition 2024 -O -A dead_code -C link-arg="$out/target/staticlib/libclasses.a" -o "$out/characters" "$out/characters.rs"
+rustc --edition 2024 -O -A dead_code -C link-arg="$out/crates/classes/out/libclasses.a" -o "$out/characters" "$out/characters.rs"
 "$out/characters"

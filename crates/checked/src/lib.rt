@@ -3,7 +3,7 @@
 #![tactic(auto)]
 
 ghost use Rattle.std.specs.Prelude.{◌≡◌, ℕ, List};
-ghost use Rattle.notation.specs.Refusals.{result};
+ghost use Rattle.notation.specs.Refusals.{result as accepted};
 ghost use Rattle.notation.specs.Lending.{outcome};
 ghost use Rattle.notation.specs.Entries as rule;
 ghost use Rattle.checked.specs.Checked.{Found, Checks, Counted, checked_steps};
@@ -26,8 +26,8 @@ pub struct Checked {
 
 // How many steps the tree counts, and what unrolling it meets; or refusal 1, 2 or 6.
 pub fn check(text: &[u8], tree: &[u8]) -> Checked
-    ensures* answer_value { λ r. ⌜ outcome r.answer ≡ checked_steps text.now tree.now ⌝ }
-    ensures* fact { λ r. ⌜ ((n : ℕ) → outcome r.answer ≡ result n → Found text.now tree.now r.met) ⌝ }
+    ensures answer { outcome result.answer ≡ checked_steps text.now tree.now }
+    ensures found { (n : ℕ) → outcome result.answer ≡ accepted n → Found text.now tree.now result.met }
 {
     if MAX_TEXT < text.len() {
         return refused(TOO_LONG);
@@ -45,7 +45,7 @@ pub fn check(text: &[u8], tree: &[u8]) -> Checked
 }
 
 fn refused(number: u8) -> Checked
-    ensures* { λ r. ⌜ r.answer ≡ Answer.Refused number ⌝ }
+    ensures { result.answer ≡ Answer.Refused number }
 {
     Checked {
         answer: Answer::Refused(number),
@@ -56,9 +56,9 @@ fn refused(number: u8) -> Checked
 // How many steps a tree unrolls into, by what `check` found of it: after 1, 2 and 6 come 7 or 8 and then 9. Entries that
 // have a refusal of their own between 6 and 7 put it between the two calls.
 pub fn count_checked(checked: Checked) -> Answer
-    ensures* fact { λ r. ⌜ ((text tree : List ℕ) → Checks text tree checked → outcome r ≡ rule.count_steps text tree) ⌝ }
-    ensures* fact_2 { λ r. ⌜ ((text tree : List ℕ) → Checks text tree checked →
-        (n : ℕ) → outcome r ≡ result n → Counted text tree n) ⌝ }
+    ensures answer { (text tree : List ℕ) → Checks text tree checked → outcome result ≡ rule.count_steps text tree }
+    ensures counted { (text tree : List ℕ) → Checks text tree checked →
+        (n : ℕ) → outcome result ≡ accepted n → Counted text tree n }
 {
     let answer = checked.answer;
     let Answer::Value(steps) = answer else {

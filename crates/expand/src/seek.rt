@@ -62,7 +62,7 @@ pub fn seek(tree: &[u8], place: u64, step: &mut [u8])
 // Turns the place in a group and the direction into those in one of its lists, and answers whether that is the second.
 fn enter(group: &[u8], steps: u64, place: &mut u64, inverted: &mut bool) -> bool
     requires group { IsGroup group.now × Has group.now place.old }
-    requires steps_value { steps ≡ count (unpack group.now) }
+    requires steps_counted { steps ≡ count (unpack group.now) }
     ensures { (sought : Option Leaf) (middle : ℕ) → Lists group.now middle →
         Sought sought group.now place.old inverted.old →
         Sought sought (list_of result middle group.now) place.new inverted.new }

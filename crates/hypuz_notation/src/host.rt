@@ -1,6 +1,6 @@
 // The entries for a host that calls from C (include/hypuz_notation.h): byte slices and numbers only. Each answers one
 // number, the refusal's number times 2^56 plus the value modulo 2^56, which no value reaches (specs/Host of `notation`:
-// `Lossless`).
+// `Lossless`). The crate `hypuz_notation_c` exports each under its name here.
 ghost use Rattle.std.specs.Prelude.{◌≡◌, not, eqb};
 ghost use Rattle.notation.specs.Entries as rule;
 ghost use Rattle.notation.specs.Features as flags;
@@ -29,8 +29,7 @@ fn code(answer: Answer) -> u64
 }
 
 // Bytes used. Bits 0 to 7 of features are the flags in the order of the header; higher bits are ignored.
-#[unsafe(no_mangle)]
-pub extern "C" fn hypuz_parse_notation(text: &[u8], features: u32, tree: &mut [u8]) -> u64
+pub fn hypuz_parse_notation(text: &[u8], features: u32, tree: &mut [u8]) -> u64
     ensures { Hands result tree.new
         (rule.parse_notation (flags.of_bits features) text.now tree.old) }
 {
@@ -38,56 +37,49 @@ pub extern "C" fn hypuz_parse_notation(text: &[u8], features: u32, tree: &mut [u
 }
 
 // The number of steps.
-#[unsafe(no_mangle)]
-pub extern "C" fn hypuz_count_steps(text: &[u8], tree: &[u8]) -> u64
+pub fn hypuz_count_steps(text: &[u8], tree: &[u8]) -> u64
     ensures { result ≡ coded (rule.count_steps text.now tree.now) }
 {
     code(count_steps(text, tree))
 }
 
 // The size of a record, that of the step at a place written.
-#[unsafe(no_mangle)]
-pub extern "C" fn hypuz_seek_step(text: &[u8], tree: &[u8], place: u64, step: &mut [u8]) -> u64
+pub fn hypuz_seek_step(text: &[u8], tree: &[u8], place: u64, step: &mut [u8]) -> u64
     ensures { Hands result step.new (rule.seek_step text.now tree.now place step.old) }
 {
     code(seek_step(text, tree, place, step))
 }
 
 // Bytes used: the shallow inverse.
-#[unsafe(no_mangle)]
-pub extern "C" fn hypuz_inv(text: &[u8], tree: &[u8], out: &mut [u8]) -> u64
+pub fn hypuz_inv(text: &[u8], tree: &[u8], out: &mut [u8]) -> u64
     ensures { Hands result out.new (rule.inv_entry text.now tree.now out.old) }
 {
     code(inv(text, tree, out))
 }
 
 // The deep inverse.
-#[unsafe(no_mangle)]
-pub extern "C" fn hypuz_inv_deep(text: &[u8], tree: &[u8], out: &mut [u8]) -> u64
+pub fn hypuz_inv_deep(text: &[u8], tree: &[u8], out: &mut [u8]) -> u64
     ensures { Hands result out.new (rule.inv_deep_entry text.now tree.now out.old) }
 {
     code(inv_deep(text, tree, out))
 }
 
 // The tree as text.
-#[unsafe(no_mangle)]
-pub extern "C" fn hypuz_display(text: &[u8], tree: &[u8], out: &mut [u8]) -> u64
+pub fn hypuz_display(text: &[u8], tree: &[u8], out: &mut [u8]) -> u64
     ensures { Hands result out.new (rule.display_entry text.now tree.now out.old) }
 {
     code(display(text, tree, out))
 }
 
 // The unrolled list, a record for each step.
-#[unsafe(no_mangle)]
-pub extern "C" fn hypuz_flatten(text: &[u8], tree: &[u8], out: &mut [u8]) -> u64
+pub fn hypuz_flatten(text: &[u8], tree: &[u8], out: &mut [u8]) -> u64
     ensures { Hands result out.new (rule.flatten_entry text.now tree.now out.old) }
 {
     code(flatten(text, tree, out))
 }
 
 // The number of layer ranges. Negative layers are allowed unless `allow_negatives` is 0.
-#[unsafe(no_mangle)]
-pub extern "C" fn hypuz_simplify(
+pub fn hypuz_simplify(
     text: &[u8],
     tree: &[u8],
     record: u64,
@@ -103,8 +95,7 @@ pub extern "C" fn hypuz_simplify(
 }
 
 // Where a family stands: its offset times PART plus its length.
-#[unsafe(no_mangle)]
-pub extern "C" fn hypuz_family(text: &[u8], tree: &[u8], record: u64) -> u64
+pub fn hypuz_family(text: &[u8], tree: &[u8], record: u64) -> u64
     ensures { result ≡ coded (part_number (rule.family_span text.now tree.now «record»)) }
 {
     match family_part(text, tree, record) {

@@ -142,7 +142,7 @@ fn invert_group(node: &[u8], out: &mut [u8], deep: bool)
             return;
         }
         let m = inner_start(node);
-        out[..m].copy_from_slice(&node[..m]);
+        copy(&node[..m], &mut out[..m]);
         invert(&node[m..], &mut out[m..], true);
         return;
     }
@@ -165,14 +165,14 @@ fn inv_node(node: &[u8], out: &mut [u8])
     requires out_len { length out.old ≡ length node.now }
     ensures { out.new ≡ pack (inverted (unpack node.now)) }
 {
-    out.copy_from_slice(node);
+    copy(node, out);
     undo_record(out);
 }
 
 // Writes the deep inverse of a commutator: its lists exchanged.
 fn exchange_lists(node: &[u8], out: &mut [u8])
     requires node { (n : Node Leaf) × IsNode node.now n }
-    requires node_value { kind_at node.now ≡ 4 }
+    requires commutator { kind_at node.now ≡ 4 }
     requires out_len { length out.old ≡ length node.now }
     ensures { out.new ≡ pack (deeply (unpack node.now)) }
 {
@@ -180,8 +180,19 @@ fn exchange_lists(node: &[u8], out: &mut [u8])
     let second = fields::second(node);
     let m = first_end(node);
     let n = RECORD + (node.len() - m);
-    out[..RECORD].copy_from_slice(&node[..RECORD]);
-    out[RECORD..n].copy_from_slice(&node[m..]);
-    out[n..].copy_from_slice(&node[RECORD..m]);
+    copy(&node[..RECORD], &mut out[..RECORD]);
+    copy(&node[m..], &mut out[RECORD..n]);
+    copy(&node[RECORD..m], &mut out[n..]);
     fields::set_lists(out, second, first);
+}
+
+// Copies bytes, one after the other: `copy_from_slice` would ask the platform for memmove, which a host need not have
+// (include/hypuz_notation.h).
+fn copy(from: &[u8], out: &mut [u8])
+    requires { length from.now ≡ length out.old }
+    ensures { out.new ≡ from.now }
+{
+    for i in 0..from.len() {
+        out[i] = from[i];
+    }
 }

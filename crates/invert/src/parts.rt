@@ -12,7 +12,7 @@ use record::{RECORD, fields, kinds};
 pub fn inner_start(node: &[u8]) -> usize
     requires node { (n : Node Leaf) × IsNode node.now n }
     requires node_bound { kind_at node.now ≤ 5 }
-    requires fact { kind_at node.now ≡ 4 → ⊥ }
+    requires no_commutator { kind_at node.now ≡ 4 → ⊥ }
     ensures { Inner node.now result }
 {
     if fields::kind(node) == kinds::CONJUGATE {

@@ -6,7 +6,7 @@ ghost use Rattle.layer.specs.Meaning as meaning;
 use crate::unsigned::{Layer, LayerOption};
 
 // The layers from `min` to `max`, both included; `min` is not above `max`.
-#[derive(Drop)]
+#[derive(Clone, Copy)]
 pub struct LayerRange {
     pub min: Layer,
     pub max: Layer,

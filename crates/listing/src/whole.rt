@@ -1,6 +1,6 @@
 // What the lister writes for what it reads.
 ghost use Rattle.std.specs.Prelude.{◌≡◌, false, ◌++◌, ◌≤◌, min, length};
-ghost use Rattle.notation.specs.Refusals.{result};
+ghost use Rattle.notation.specs.Refusals.{result as accepted};
 ghost use Rattle.notation.specs.Packed.{unpack};
 ghost use Rattle.notation.specs.Invert.{undo};
 ghost use Rattle.notation.specs.Entries as entries;
@@ -36,15 +36,15 @@ pub const MAX_LISTING: usize = 4194304;
 
 // The whole listing of an input. It always fits, so it is written at once and nothing is refused.
 pub fn list_whole(input: &[u8], out: &mut [u8; MAX_LISTING]) -> usize
-    ensures* { λ r. ⌜ AtFront (rule.lister input.now) out.old out.new r ⌝ }
+    ensures { AtFront (rule.lister input.now) out.old out.new result }
 {
     put_input(out, input)
 }
 
 // The whole listing of an input, or refusal 5 where it does not fit. The first run has no room and only measures.
 pub fn list(input: &[u8], out: &mut [u8]) -> Answer
-    ensures* { λ r. ⌜ entries.lent r out.new
-        ≡ entries.lend (result (rule.lister input.now)) out.old ⌝ }
+    ensures { entries.lent result out.new
+        ≡ entries.lend (accepted (rule.lister input.now)) out.old }
 {
     let mut nothing = [0u8; 0];
     let size = put_input(&mut nothing, input);
@@ -57,7 +57,7 @@ pub fn list(input: &[u8], out: &mut [u8]) -> Answer
 
 // Writes the listing of an input, whose first line names the features.
 fn put_input(out: &mut [u8], input: &[u8]) -> usize
-    ensures* { λ r. ⌜ Wrote out.old out.new 0 r (λ rest. rule.lister input.now ++ rest) ⌝ }
+    ensures { Wrote out.old out.new 0 result (λ rest. rule.lister input.now ++ rest) }
 {
     if input.len() < FIRST_LINE {
         return put_bytes(out, 0, b"refused input\n");
@@ -76,7 +76,7 @@ fn put_input(out: &mut [u8], input: &[u8]) -> usize
 
 // Writes the listing of a text. The tree of a text that is not too long always fits.
 fn put_listing(out: &mut [u8], text: &[u8], features: Features) -> usize
-    ensures* { λ r. ⌜ Wrote out.old out.new 0 r (λ rest. rule.listing features text.now ++ rest) ⌝ }
+    ensures { Wrote out.old out.new 0 result (λ rest. rule.listing features text.now ++ rest) }
 {
     if MAX_INPUT < text.len() {
         return put_bytes(out, 0, b"refused input\n");
@@ -94,8 +94,8 @@ fn put_listing(out: &mut [u8], text: &[u8], features: Features) -> usize
 // Writes the lines of a text that was read.
 fn put_tree(out: &mut [u8], text: &[u8], tree: &[u8]) -> usize
     requires { length tree.now ≤ max_tree }
-    ensures* { λ r. ⌜ Wrote out.old out.new 0 r
-        (λ rest. rule.tree_part text.now (result tree.now) ++ rest) ⌝ }
+    ensures { Wrote out.old out.new 0 result
+        (λ rest. rule.tree_part text.now (accepted tree.now) ++ rest) }
 {
     let inverse = tree_line(out, 0, b"text", text, tree);
     let steps = inverse_line(out, inverse, b"inverse", text, tree);
@@ -105,8 +105,8 @@ fn put_tree(out: &mut [u8], text: &[u8], tree: &[u8]) -> usize
 // Writes the count and the first steps.
 fn put_steps(out: &mut [u8], at: usize, text: &[u8], tree: &[u8]) -> usize
     requires { at ≤ most }
-    ensures* { λ r. ⌜ Wrote out.old out.new at r
-        (λ rest. rule.steps_part text.now (entries.steps text.now tree.now) ++ rest) ⌝ }
+    ensures { Wrote out.old out.new at result
+        (λ rest. rule.steps_part text.now (entries.steps text.now tree.now) ++ rest) }
 {
     match count_steps(text, tree) {
         Answer::Value(n) => {
@@ -121,8 +121,8 @@ fn put_steps(out: &mut [u8], at: usize, text: &[u8], tree: &[u8]) -> usize
 fn step_lines(out: &mut [u8], at: usize, text: &[u8], tree: &[u8], n: u64) -> usize
     requires at_le_most { at ≤ most }
     requires counted { Counted text.now tree.now n }
-    ensures* { λ r. ⌜ Wrote out.old out.new at r
-        (λ rest. rule.step_lines text.now rule.SHOWN 0 (flat undo false (unpack tree.now)) ++ rest) ⌝ }
+    ensures { Wrote out.old out.new at result
+        (λ rest. rule.step_lines text.now rule.SHOWN 0 (flat undo false (unpack tree.now)) ++ rest) }
 {
     let end = least(n, SHOWN);
     let mut next = at;
@@ -136,7 +136,7 @@ fn step_lines(out: &mut [u8], at: usize, text: &[u8], tree: &[u8], n: u64) -> us
 
 // The smaller of two numbers.
 fn least(a: u64, b: u64) -> u64
-    ensures* { λ r. ⌜ r ≡ min a b ⌝ }
+    ensures { result ≡ min a b }
 {
     if a < b { a } else { b }
 }

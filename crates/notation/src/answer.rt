@@ -1,7 +1,7 @@
 // What an entry answers: its value, or the number of a refusal from document 01's table. specs/Lending.antt gives
 // each case the paper's numbers.
 
-#[derive(Drop)]
+#[derive(Clone, Copy)]
 pub enum Answer {
     Value(u64),
     Refused(u8),

@@ -195,7 +195,7 @@ pub fn group_kind(text: &[u8], at: usize) -> Group
 // Reads a rotation, whose `@` was seen.
 fn rotation(text: &[u8], at: usize, features: Features) -> LeafAnswer
     requires at_in_bounds { (at < length text.now) × (length text.now ≤ MAX-TEXT) }
-    requires at_value { eqb (byte_at text.now at) 64 ≡ true }
+    requires at_sign { eqb (byte_at text.now at) 64 ≡ true }
     ensures { means.record_reading text.now result
         ≡ means.repeated features (rule.rotation_node features at (drop at text.now)) }
 {

@@ -67,7 +67,7 @@ pub fn layer_after_hyphen(text: &[u8], at: usize) -> Unsigned
 // The range `i-j` at `at`, or else the layer by itself: the first number, `bits`, was read up to `end`.
 fn unsigned_layer_range(text: &[u8], at: usize, bits: u32, end: usize) -> LayerSetElementAnswer
     requires at_in_bounds { at ≤ length text.now }
-    requires text_value { rule.signed_layer at (drop at text.now) ≡ rule.read (from_bits 32 bits) end (drop end text.now) }
+    requires first_read { rule.signed_layer at (drop at text.now) ≡ rule.read (from_bits 32 bits) end (drop end text.now) }
     ensures { means.element_reading text.now result ≡ means.unsigned_or_single at (drop at text.now) }
 {
     if has(text, at, b'-') {

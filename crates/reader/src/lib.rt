@@ -23,21 +23,21 @@ pub struct Reader<'a> {
 }
 
 // Where the cursor goes after a leaf.
-fn after_leaf(answer: LeafAnswer, at: usize) -> usize
-    ensures { result ≡ cursor.after_leaf at answer }
+fn after_leaf(answer: &LeafAnswer, at: usize) -> usize
+    ensures { result ≡ cursor.after_leaf at answer.now }
 {
     match answer {
-        LeafAnswer::Took(_, next) => next,
+        LeafAnswer::Took(_, next) => *next,
         LeafAnswer::Nothing => at,
     }
 }
 
 // Where the cursor goes after a set.
-fn after_set(answer: Taken, at: usize) -> usize
-    ensures { result ≡ cursor.after_set at answer }
+fn after_set(answer: &Taken, at: usize) -> usize
+    ensures { result ≡ cursor.after_set at answer.now }
 {
     match answer {
-        Taken::To(next) => next,
+        Taken::To(next) => *next,
         Taken::Nothing => at,
     }
 }
@@ -51,8 +51,8 @@ impl<'a> Reader<'a> {
     }
 
     // Whether all is read.
-    pub fn at_end(self) -> bool
-        ensures { result ≡ eqb self.entry.at (length (cursor.text self.entry)) }
+    pub fn at_end(&self) -> bool
+        ensures { result ≡ eqb self.now.at (length (cursor.text self.now)) }
     {
         self.at == self.text.len()
     }
@@ -83,7 +83,7 @@ impl<'a> Reader<'a> {
             (cursor.reads rule.constraint_set self.old)) × cursor.Moves rule.constraint_set self.old self.new }
     {
         let answer = parse::constraint_set(self.text, self.at);
-        self.at = after_set(answer, self.at);
+        self.at = after_set(&answer, self.at);
         answer
     }
 
@@ -94,7 +94,7 @@ impl<'a> Reader<'a> {
             self.old) × cursor.Moves (cursor.leaf features) self.old self.new }
     {
         let answer = parse::leaf(self.text, self.at, features);
-        self.at = after_leaf(answer, self.at);
+        self.at = after_leaf(&answer, self.at);
         answer
     }
 }

@@ -15,7 +15,7 @@ use crate::{fields, kinds};
 pub fn leaf_written(t: &[u8]) -> bool
     requires in_bounds { RECORD ≤ length t.now }
     requires bound { 6 ≤ kind_at t.now }
-    requires t_value { field COUNT t.now ≡ 1 }
+    requires counts_one { field COUNT t.now ≡ 1 }
     ensures { result ≡ same_list (head_fields (head_at t.now)) (cut widths (take RECORD t.now)) }
 {
     if !fields::no_lists(t) {

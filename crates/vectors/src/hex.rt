@@ -21,7 +21,7 @@ fn digit(byte: u8) -> usize
 }
 
 // The byte of a hexadecimal digit.
-fn glyph(value: u8) -> u8
+pub fn glyph(value: u8) -> u8
     requires { value < 16 }
 {
     if value < 10 {

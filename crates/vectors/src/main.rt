@@ -13,23 +13,26 @@ mod reading;
 mod report;
 mod text;
 
-ghost use Rattle.std.specs.Prelude.{◌≡◌, ◌≤◌, length};
+ghost use Rattle.std.specs.Prelude.{◌≡◌, ◌≤◌, IfOk, length};
 ghost use Rattle.vectors.specs.Bounds.{AtMost, LINE};
 
 use hex::Decoded;
-use libc::{STDIN_FILENO, STDOUT_FILENO};
 use record::RECORD;
+use std::io;
+use std::io::Print;
 
 // One line of the input. Its answer goes out in one call.
-fn case(given: &[u8], text: &mut [u8], tree: &mut [u8], out: &mut [u8]) {
+fn case(
+    rt: &impl Print,
+    given: &[u8],
+    text: &mut [u8],
+    tree: &mut [u8],
+    out: &mut [u8],
+) -> io::Result<()> {
     let mut line = [0u8; line::LINE];
     match answer(given, text, tree, out, &mut line) {
-        Decoded::Value(n) => {
-            io::write_all(STDOUT_FILENO, &line[0..n]);
-        }
-        Decoded::Damaged => {
-            io::write_all(STDOUT_FILENO, b"damaged\n");
-        }
+        Decoded::Value(n) => rt.write_all(&line[0..n]),
+        Decoded::Damaged => rt.write_all(b"damaged\n"),
     }
 }
 
@@ -55,56 +58,77 @@ fn answer(
 }
 
 // Runs the cases of these lines.
-fn run_cases(input: &[u8], text: &mut [u8], tree: &mut [u8], out: &mut [u8]) {
+fn run_cases(
+    rt: &impl Print,
+    input: &[u8],
+    text: &mut [u8],
+    tree: &mut [u8],
+    out: &mut [u8],
+) -> io::Result<()> {
     let mut at = 0;
     while at < input.len() {
         let end = text::find(input, at, b'\n');
-        case(&input[at..end], text, tree, out);
+        case(rt, &input[at..end], text, tree, out)?;
         at = end + 1;
     }
+    Ok(())
 }
 
 // The input is read in pieces: what is kept of one is the start of the line that the next one goes on with. A last line
 // may lack its newline.
-fn run(input: &mut [u8], text: &mut [u8], tree: &mut [u8], out: &mut [u8]) {
+fn run(
+    rt: &(impl Input + Print),
+    input: &mut [u8],
+    text: &mut [u8],
+    tree: &mut [u8],
+    out: &mut [u8],
+) -> io::Result<()> {
     let mut kept = 0;
     let mut n = 0;
     while n < MAX_PIECES {
-        kept = piece(input, kept, text, tree, out);
+        kept = piece(rt, input, kept, text, tree, out)?;
         n += 1;
     }
-    run_cases(&input[0..kept], text, tree, out);
+    run_cases(rt, &input[0..kept], text, tree, out)
 }
 
 // Reads on behind what is kept, runs the cases of the lines that are whole, moves the start of the next one to the
 // front, and answers its length.
-fn piece(input: &mut [u8], kept: usize, text: &mut [u8], tree: &mut [u8], out: &mut [u8]) -> usize
+fn piece(
+    rt: &(impl Input + Print),
+    input: &mut [u8],
+    kept: usize,
+    text: &mut [u8],
+    tree: &mut [u8],
+    out: &mut [u8],
+) -> io::Result<usize>
     requires { kept ≤ length input.old }
-    ensures { result ≤ length input.old }
+    ensures { IfOk result (λ n. n ≤ length input.old) }
 {
-    let n = io::read_full(STDIN_FILENO, &mut input[kept..]);
+    let n = pieces::read_full(&mut rt.reader(), &mut input[kept..])?;
     let filled = kept + n;
     let whole = pieces::lines_end(&input[0..filled]);
-    run_cases(&input[0..whole], text, tree, out);
+    run_cases(rt, &input[0..whole], text, tree, out)?;
     pieces::to_front(&mut input[0..filled], whole);
-    filled - whole
+    Ok(filled - whole)
 }
 
 // An input has at most so many pieces of the size of its buffer: 16 MiB.
 const MAX_PIECES: usize = 64;
 
 const PIECE: usize = 262144;
-// Texts of over 65,536 bytes and trees of over 65,536 records: past what 16 bits hold. The stack has no room for the
-// longest texts; those are run from C (tests/host).
+// Texts of over 65,536 bytes and trees of over 65,536 records: past what 16 bits hold. The longest texts are run from C
+// (tests/host).
 const TEXT: usize = 144000;
 
 const TREE: usize = RECORD * 72000;
 
 // Runs the cases of standard input.
-fn main() {
-    let mut input = [0u8; PIECE];
-    let mut text = [0u8; TEXT];
-    let mut tree = [0u8; TREE];
-    let mut out = [0u8; TREE];
-    run(&mut input, &mut text, &mut tree, &mut out);
+fn main(rt: HostRuntime) -> io::Result<()> {
+    let alloc = rt.alloc();
+    let mut input = vec![in alloc; 0u8; PIECE]?;
+    let mut text = vec![in alloc; 0u8; TEXT]?;
+    let mut tree = vec![in alloc; 0u8; TREE]?;
+    let mut out = vec![in alloc; 0u8; TREE]?;
+    run(&rt, &mut input, &mut text, &mut tree, &mut out)
 }

@@ -179,7 +179,7 @@ fn visit_leaf(text: &[u8], t: &[u8]) -> VisitedLeaf
     requires in_bounds { RECORD ≤ length t.now }
     requires bound { 6 ≤ kind_at t.now }
     ensures by_index { (depth : ℕ) → result.ok ≡ first_ok text.now depth t.now }
-    ensures overflows_value { result.ok ≡ true → result.overflows ≡ overflows_at t.now }
+    ensures overflow { result.ok ≡ true → result.overflows ≡ overflows_at t.now }
 {
     if !fields::counts_one(t) {
         return BAD_LEAF;
