@@ -69,7 +69,7 @@ invert_group-kind-requires t c = node-room c.requires.node.1
 
 pub invert_group-exchange_lists-requires : goal.invert_group-exchange_lists-requires
 invert_group-exchange_lists-requires t c =
-    record { node = c.requires.node; node_value = sym c.kind.ensures ∙ c.if-kind-eq-COMMUTATOR.true; out_len = c.requires.out_len }
+    record { node = c.requires.node; commutator = sym c.kind.ensures ∙ c.if-kind-eq-COMMUTATOR.true; out_len = c.requires.out_len }
 
 pub invert_group-returns-then-kind-eq-COMMUTATOR : goal.invert_group-returns-then-kind-eq-COMMUTATOR
 invert_group-returns-then-kind-eq-COMMUTATOR t c =
@@ -77,18 +77,18 @@ invert_group-returns-then-kind-eq-COMMUTATOR t c =
 
 pub invert_group-inner_start-m-requires : goal.invert_group-inner_start-m-requires
 invert_group-inner_start-m-requires t c =
-    record { node = c.requires.node; node_bound = c.requires.node_bound; fact = λ e. c.if-kind-eq-COMMUTATOR.false (c.kind.ensures ∙ e) }
+    record { node = c.requires.node; node_bound = c.requires.node_bound; no_commutator = λ e. c.if-kind-eq-COMMUTATOR.false (c.kind.ensures ∙ e) }
 
 pub invert_group-invert-requires : goal.invert_group-invert-requires
 invert_group-invert-requires t c =
     let bs = c.args.node.now in
     let m = c.inner_start-m.result in
     let law = c.inner_start-m.ensures in
-    let out = c.copy_from_slice.new.self ++ drop m c.args.out.now in (
+    let out = c.copy.new.out ++ drop m c.args.out.now in (
       list-less bs m (length bs) _ law.least (node-room c.requires.node.1) c.decreases,
       (
         law.packed,
-        same-length-parts out bs m (length out) m (length bs) (omega arith) (omega arith) (omega (arith, c.requires.out_len, length-append c.copy_from_slice.new.self (drop m c.args.out.now), length-drop m c.args.out.now, ap length c.copy_from_slice.ensures.after, length-take-le m bs law.most)),
+        same-length-parts out bs m (length out) m (length bs) (omega arith) (omega arith) (omega (arith, c.requires.out_len, length-append c.copy.new.out (drop m c.args.out.now), length-drop m c.args.out.now, ap length c.copy.ensures, length-take-le m bs law.most)),
       ),
     )
 
@@ -97,8 +97,8 @@ invert_group-returns-then-deep t c =
     let bs = c.args.node.now in
     let m = c.inner_start-m.result in
     let law = c.inner_start-m.ensures in
-    let front = c.copy_from_slice.ensures.after in
-    two-parts c.args.out.now c.copy_from_slice.new.self c.invert.new.out m (ap length front ∙ length-take-le m bs law.most)
+    let front = c.copy.ensures in
+    two-parts c.args.out.now c.copy.new.out c.invert.new.out m (ap length front ∙ length-take-le m bs law.most)
     ∙ ap₂ (λ (x y : List ℕ). x ++ y) front c.invert.ensures
     ∙ law.deep
     ∙ told c.if-deep.true bs

@@ -63,7 +63,7 @@ node_refusal-returns-then-is_leaf t c =
 
 pub node_refusal-inner_start-m-requires : goal.node_refusal-inner_start-m-requires
 node_refusal-inner_start-m-requires t c =
-    record { node = c.requires; node_bound = no-leaf-low c.is_leaf.ensures c.if-is_leaf.false; fact = λ e. c.if-kind-eq-COMMUTATOR.false (c.kind-kind.ensures ∙ e) }
+    record { node = c.requires; node_bound = no-leaf-low c.is_leaf.ensures c.if-is_leaf.false; no_commutator = λ e. c.if-kind-eq-COMMUTATOR.false (c.kind-kind.ensures ∙ e) }
 
 pub node_refusal-list_refusal-requires : goal.node_refusal-list_refusal-requires
 node_refusal-list_refusal-requires t c =

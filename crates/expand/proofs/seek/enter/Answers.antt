@@ -45,7 +45,7 @@ number-multiplier-requires c = node-room c.requires.group.0.is_node
 
 -- the group, whatever it is that is sought in it
 group_at : (c : After-number-multiplier) → {sought : Option Leaf} → {d : Bool} → Sought sought c.args.group.now c.args.place.now d → Group sought c.args.group.now c.kind-kind.result c.number-multiplier.result c.args.steps c.args.place.now d
-group_at c s = in_group c.requires.group.0 c.requires.steps_value c.kind-kind.ensures c.number-multiplier.ensures s
+group_at c s = in_group c.requires.group.0 c.requires.steps_counted c.kind-kind.ensures c.number-multiplier.ensures s
 
 itself : (c : After-number-multiplier) → Sought (undo_if c.args.inverted.now (step_in c.args.group.now c.args.place.now)) c.args.group.now c.args.place.now c.args.inverted.now
 itself c = sought-itself _ _ _ c.requires.group.1
@@ -63,7 +63,7 @@ pub overflow_sub-place-then-is_negative : goal.overflow_sub-place-then-is_negati
 overflow_sub-place-then-is_negative c = omega (arith, within-once (group_at (goal.at.overflow_sub-place-then-is_negative c).After-number-multiplier (itself (goal.at.overflow_sub-place-then-is_negative c).After-number-multiplier)) c.magnitude.ensures)
 
 group_at-at-Joined-is_negative : (c : Joined-is_negative) → {sought : Option Leaf} → {d : Bool} → Sought sought c.args.group.now c.args.place.now d → Group sought c.args.group.now c.kind-kind.result c.number-multiplier.result c.args.steps c.args.place.now d
-group_at-at-Joined-is_negative c s = in_group c.requires.group.0 c.requires.steps_value c.kind-kind.ensures c.number-multiplier.ensures s
+group_at-at-Joined-is_negative c s = in_group c.requires.group.0 c.requires.steps_counted c.kind-kind.ensures c.number-multiplier.ensures s
 
 -- in one repeat, forward
 repeat-at : (c : Joined-is_negative) → {sought : Option Leaf} → Sought sought c.args.group.now c.args.place.now c.args.inverted.now → Repeat sought c.args.group.now c.kind-kind.result (c.args.steps / c.magnitude.result) c.if-is_negative.place c.if-is_negative.inverted
@@ -88,7 +88,7 @@ both_count-both-requires c =
     first_part (repeat-at (goal.at.both_count-both-requires c).Joined-is_negative (itself (goal.at.both_count-both-requires c).After-number-multiplier)) c.if-kind-lt-COMMUTATOR.false c.first_end-middle.ensures c.count-a.ensures
 
 group_at-at-After-both_count-both : (c : After-both_count-both) → {sought : Option Leaf} → {d : Bool} → Sought sought c.args.group.now c.args.place.now d → Group sought c.args.group.now c.kind-kind.result c.number-multiplier.result c.args.steps c.args.place.now d
-group_at-at-After-both_count-both c s = in_group c.requires.group.0 c.requires.steps_value c.kind-kind.ensures c.number-multiplier.ensures s
+group_at-at-After-both_count-both c s = in_group c.requires.group.0 c.requires.steps_counted c.kind-kind.ensures c.number-multiplier.ensures s
 
 repeat-at-at-After-both_count-both : (c : After-both_count-both) → {sought : Option Leaf} → Sought sought c.args.group.now c.args.place.now c.args.inverted.now → Repeat sought c.args.group.now c.kind-kind.result (c.args.steps / c.magnitude.result) c.if-is_negative.place c.if-is_negative.inverted
 repeat-at-at-After-both_count-both c s =

@@ -89,7 +89,7 @@ list-less c from to h = inside-less c.loop-rest.rest.now c.node_end-end.result f
 
 pub enter-requires : goal.enter-requires
 enter-requires c =
-    record { group = (group_of c.node_end-end.ensures c.is_leaf.ensures c.if-is_leaf.false, (in_group (goal.at.enter-requires c).After-first_end-middle).has); steps_value = exact (goal.at.enter-requires c).After-first_end-middle ∙ sym (one-count c.node_end-end.ensures.is_node) }
+    record { group = (group_of c.node_end-end.ensures c.is_leaf.ensures c.if-is_leaf.false, (in_group (goal.at.enter-requires c).After-first_end-middle).has); steps_counted = exact (goal.at.enter-requires c).After-first_end-middle ∙ sym (one-count c.node_end-end.ensures.is_node) }
 
 pub loop-rest-smaller-then-enter : goal.loop-rest-smaller-then-enter
 loop-rest-smaller-then-enter c =

@@ -14,4 +14,4 @@ returns-then-kind-eq-CONJUGATE c =
 
 pub returns-else-kind-eq-CONJUGATE : goal.returns-else-kind-eq-CONJUGATE
 returns-else-kind-eq-CONJUGATE c =
-    group-inner _ c.requires.node.1 c.requires.node_bound c.requires.fact (λ e. c.if-kind-eq-CONJUGATE.false (c.kind.ensures ∙ e))
+    group-inner _ c.requires.node.1 c.requires.node_bound c.requires.no_commutator (λ e. c.if-kind-eq-CONJUGATE.false (c.kind.ensures ∙ e))

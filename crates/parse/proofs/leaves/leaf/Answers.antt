@@ -25,7 +25,7 @@ returns-then-byte-eq46 c =
 pub rotation-requires : goal.rotation-requires
 rotation-requires c =
     let inside = c.if-at-text.true in
-    record { at_in_bounds = (inside, c.requires.1); at_value = eq-eqb _ _ (sym (in-text c.args.text.now c.args.at inside) ∙ c.if-byte-eq64.true) }
+    record { at_in_bounds = (inside, c.requires.1); at_sign = eq-eqb _ _ (sym (in-text c.args.text.now c.args.at inside) ∙ c.if-byte-eq64.true) }
 
 pub returns-then-byte-eq64 : goal.returns-then-byte-eq64
 returns-then-byte-eq64 c =

@@ -27,7 +27,7 @@ returns-then-features c =
     let text = c.args.text.now in
     let last = c.multiplier-times.result.next in
     ap (λ (l : List ℕ). read l last (drop last text)) c.rotation_fields.ensures
-    ∙ a-rotation c.args.features text c.args.at c.family_end-end.result c.constraints-set.result.next last _ _ _ c.if-features.true c.requires.at_value
+    ∙ a-rotation c.args.features text c.args.at c.family_end-end.result c.constraints-set.result.next last _ _ _ c.if-features.true c.requires.at_sign
     c.family_end-end.ensures c.family_span-family.ensures.result_value c.constraints-set.ensures c.multiplier-times.ensures
 
 pub returns : goal.returns

@@ -16,7 +16,7 @@ pub layer_after_dots-requires : goal.layer_after_dots-requires
 layer_after_dots-requires c = (within c.args.text.now c.args.at (takes-sint 1 32767 32767) c.requires (rw c.in-Took.is at c.sint.ensures)).1
 
 pub unsigned_layer_range-requires : goal.unsigned_layer_range-requires
-unsigned_layer_range-requires c = record { at_in_bounds = c.requires; text_value = sym (rw c.in-Took.is at c.sint.ensures) }
+unsigned_layer_range-requires c = record { at_in_bounds = c.requires; first_read = sym (rw c.in-Took.is at c.sint.ensures) }
 
 pub returns-then-hsc1 : goal.returns-then-hsc1
 returns-then-hsc1 c = c.unsigned_layer_range.ensures ∙ no-dots c.args.text.now c.args.at c.in-Took.bits c.in-Took.end (rw c.in-Took.is at c.sint.ensures) (rw c.in_default-layer_after_dots.is at c.layer_after_dots.ensures) ∙ ap (λ (b : Bool). layer_set_element b c.args.at (drop c.args.at c.args.text.now)) (sym c.if-hsc1.true)

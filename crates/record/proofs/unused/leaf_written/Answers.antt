@@ -29,14 +29,14 @@ told c =
       below = slice-below c.args.t.now c.type_inv.t;
       kind = c.kind.ensures;
       leaf = subst (λ (k : ℕ). 6 ≤ k) (sym c.kind.ensures) c.requires.bound;
-      one = c.requires.t_value;
+      one = c.requires.counts_one;
       lists = sym c.no_lists.ensures ∙ c.if-not-no_lists.false;
     }
 
 pub returns-then-not-no_lists : goal.returns-then-not-no_lists
 returns-then-not-no_lists c =
     let bs = c.args.t.now in
-    with-lists bs (slice-below bs c.type_inv.t) (kind_at bs) refl c.requires.bound c.requires.t_value (sym c.no_lists.ensures ∙ c.if-not-no_lists.true)
+    with-lists bs (slice-below bs c.type_inv.t) (kind_at bs) refl c.requires.bound c.requires.counts_one (sym c.no_lists.ensures ∙ c.if-not-no_lists.true)
 
 pub returns-in-7 : goal.returns-in-7
 returns-in-7 c =

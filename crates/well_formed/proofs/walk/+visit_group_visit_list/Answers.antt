@@ -215,7 +215,7 @@ visit_list-loop-t-preserved t c =
     let taken = c.if-leaf.true in
     past-leaf a.text.now a.depth a.list.now c.loop-t.t.now _ _ c.loop-t.invariant c.visit_leaf-leaf.result.ok (c.visit_leaf-leaf.ensures.by_index a.depth) taken
     (no-group-high c.is_group.ensures c.if-is_group.false) c.if-t-lt-RECORD.false
-    c.visit_leaf-leaf.result.overflows c.of_leaf.result c.join-met-then-leaf.result (c.visit_leaf-leaf.ensures.overflows_value taken) c.of_leaf.ensures c.join-met-then-leaf.ensures
+    c.visit_leaf-leaf.result.overflows c.of_leaf.result c.join-met-then-leaf.result (c.visit_leaf-leaf.ensures.overflow taken) c.of_leaf.ensures c.join-met-then-leaf.ensures
 
 pub visit_list-returns-else-leaf : goal.visit_list-returns-else-leaf
 visit_list-returns-else-leaf t c =
