@@ -179,6 +179,11 @@ class File:
             if len(more) < 2:
                 break
             items[-1:] = more
+        if (not m or len(items) != len(labels)) and kind == "ensures" and len(labels) == 2:
+            k = re.match(r"(\s*(?:let (?:(?! in\b).)* in\s*)*)(.*)$", text, re.S)
+            if k.group(2) and not re.match(r"(rw|absurd|search|omega|λ|simp|grind|elim|subst)\b", k.group(2)):
+                body = k.group(2).strip().replace("\n", "\n    ")
+                return f"{k.group(1).rstrip()}\n    let both = {body} in\n    record {{ {labels[0]} = both.0; {labels[1]} = both.1 }}"
         if not m or len(items) != len(labels):
             self.say(f"no record for {kind} of {function}: {' '.join(text.split())[:150]}")
             return text
