@@ -16,7 +16,7 @@ use notation::features::Features;
 use notation::limits::MAX_TEXT;
 use parse::parts::{LeafAnswer, Taken};
 
-#[derive(Drop)]
+#[derive(Clone, Copy)]
 pub struct Reader<'a> {
     text: &'a [u8],
     at: usize,
@@ -51,8 +51,8 @@ impl<'a> Reader<'a> {
     }
 
     // Whether all is read.
-    pub fn at_end(&self) -> bool
-        ensures { result ≡ eqb self.now.at (length (cursor.text self.now)) }
+    pub fn at_end(self) -> bool
+        ensures { result ≡ eqb self.entry.at (length (cursor.text self.entry)) }
     {
         self.at == self.text.len()
     }

@@ -12,9 +12,6 @@ loop-t-init c = going-starts c.args.tree.now c.args.room c.requires
 pub layer_form-requires : goal.layer_form-requires
 layer_form-requires c = going-room c.loop-t.invariant c.loop-t-test.true
 
-pub returns-then-layer_form-eq3 : goal.returns-then-layer_form-eq3
-returns-then-layer_form-eq3 c = λ e. absurd (false-true e)
-
 pub allowance-size-requires : goal.allowance-size-requires
 allowance-size-requires c = going-room c.loop-t.invariant c.loop-t-test.true
 
@@ -32,7 +29,7 @@ loop-t-smaller c = going-shorter c.loop-t.invariant c.loop-t-test.true
 
 pub loop-t-preserved : goal.loop-t-preserved
 loop-t-preserved c =
-    going_on c.loop-t.invariant c.loop-t-test.true c.layer_form.ensures c.if-layer_form-eq3.false c.allowance-size.ensures c.if-left-size.false
+    going_on c.loop-t.invariant c.loop-t-test.true c.layer_form.ensures (omega arith) c.allowance-size.ensures c.if-left-size.false
 
 pub returns : goal.returns
 returns c =
