@@ -1,0 +1,23 @@
+-- `parts::family` meets its contract: each way out is one case of the rule. Assumes nothing.
+use mathlib.Core.Path.{◌∙◌, sym, ap, subst}
+use borrow.Author.Rules.{rules}
+use borrow.Author.Tests.{leb-true}
+use Rattle.entries.specs.Parts.{part_outcome, Inside}
+use Rattle.entries.proofs.Naming.{family-part, family-empty}
+use Rattle.entries.proofs.parts.family.Goals as goal
+
+pub slice_bounds-result-end : goal.slice_bounds-result-end
+slice_bounds-result-end c =
+    let a = c.args in
+    let inside = subst (Inside a.text.now) c.in-Part.is c.family_part.ensures.inside in
+    leb-true _ _ inside
+
+pub returns-in-Part : goal.returns-in-Part
+returns-in-Part c =
+    let a = c.args in
+    family-part a.text.now a.tree.now a.«record» _ (ap part_outcome (sym c.in-Part.is) ∙ c.family_part.ensures.result_value)
+
+pub returns-in-Refused : goal.returns-in-Refused
+returns-in-Refused c =
+    let a = c.args in
+    family-empty a.text.now a.tree.now a.«record» _ (ap part_outcome (sym c.in-Refused.is) ∙ c.family_part.ensures.result_value)

@@ -1,0 +1,78 @@
+-- `parts::simplify` meets its contract: each way out is one case of the rule. Assumes nothing.
+use Prim.Native.Nat.{◌/◌, ◌<◌}
+use mathlib.Core.Path.{◌∙◌, ap, sym}
+use mathlib.Core.Bool.{Bool}
+use native.Mathlib.Omega.{arith}
+use borrow.Author.Rules.{rules}
+use lib.ListN.{length}
+use Rattle.notation.specs.Refusals.{result}
+use Rattle.notation.specs.Tree.{Span, Layers}
+use Rattle.notation.specs.Packed.{RECORD}
+use Rattle.notation.specs.WellFormed.{layers_ok}
+use Rattle.notation.specs.Entries.{outcome}
+use Rattle.record.specs.Meaning.{layers_at}
+use Rattle.entries.proofs.Naming.{
+  found,
+  accepted-record,
+  no-prefix,
+  some_prefix,
+  layers-inside,
+  simplify-unaccepted,
+  simplify-no-layers,
+  simplify-many-layers,
+  simplify-none,
+  simplify-no-move,
+  simplify-move,
+}
+use Rattle.entries.proofs.parts.simplify.Goals as goal
+
+pub returns-in_default : goal.returns-in_default
+returns-in_default c =
+    let a = c.args in
+    simplify-unaccepted a.text.now a.tree.now a.«record» a.max_layer a.allow_negatives a.out.now c.check-checked.ensures.answer (ap outcome c.in_default.is)
+
+pub returns-then-max_layer-eq0 : goal.returns-then-max_layer-eq0
+returns-then-max_layer-eq0 c =
+    let a = c.args in
+    let k = c.check-checked.ensures.found _ (ap outcome c.in-Value.is) in
+    simplify-no-layers a.text.now a.tree.now a.«record» a.max_layer a.allow_negatives a.out.now k.accepted c.if-max_layer-eq0.true
+
+pub returns-then-max_layer-gt-MAX_LAYER : goal.returns-then-max_layer-gt-MAX_LAYER
+returns-then-max_layer-gt-MAX_LAYER c =
+    let a = c.args in
+    let k = c.check-checked.ensures.found _ (ap outcome c.in-Value.is) in
+    simplify-many-layers a.text.now a.tree.now a.«record» a.max_layer a.allow_negatives a.out.now k.accepted c.if-max_layer-gt-MAX_LAYER.true
+
+pub returns-then-tree-record : goal.returns-then-tree-record
+returns-then-tree-record c =
+    let a = c.args in
+    let k = c.check-checked.ensures.found _ (ap outcome c.in-Value.is) in
+    simplify-none a.text.now a.tree.now a.«record» a.max_layer a.allow_negatives a.out.now k.accepted c.if-max_layer-eq0.false c.if-max_layer-gt-MAX_LAYER.false (omega (arith, c.if-tree-record.true))
+
+pub returns-then-kind-ne-MOVE : goal.returns-then-kind-ne-MOVE
+returns-then-kind-ne-MOVE c =
+    let a = c.args in
+    let k = c.check-checked.ensures.found _ (ap outcome c.in-Value.is) in
+    let less : a.«record» < length a.tree.now / RECORD = omega (arith, c.if-tree-record.false) in
+    simplify-no-move a.text.now a.tree.now a.«record» a.max_layer a.allow_negatives a.out.now k.accepted c.if-max_layer-eq0.false c.if-max_layer-gt-MAX_LAYER.false less
+    (no-prefix (found a.tree.now a.«record») c.kind.result c.kind.ensures c.if-kind-ne-MOVE.true)
+
+pub simplify-requires : goal.simplify-requires
+simplify-requires c =
+    let a = c.args in
+    let k = c.check-checked.ensures.found _ (ap outcome c.in-Value.is) in
+    let less : a.«record» < length a.tree.now / RECORD = omega (arith, c.if-tree-record.false) in
+    let ok = accepted-record a.text.now a.tree.now a.«record» k.accepted less in record { layer = record { low = omega (arith, c.if-max_layer-eq0.false); high = c.if-max_layer-gt-MAX_LAYER.false }; text_len_bound = k.accepted.short; layers_value = ap (λ (l : Layers Span). layers_ok a.text.now l) c.layers-layers.ensures
+            ∙ layers-inside (found a.tree.now a.«record») c.kind.result c.kind.ensures a.text.now c.if-kind-ne-MOVE.false ok }
+
+pub returns : goal.returns
+returns c =
+    let a = c.args in
+    let k = c.check-checked.ensures.found _ (ap outcome c.in-Value.is) in
+    let less : a.«record» < length a.tree.now / RECORD = omega (arith, c.if-tree-record.false) in
+    simplify-move a.text.now a.tree.now a.«record» a.max_layer a.allow_negatives a.out.now k.accepted c.if-max_layer-eq0.false c.if-max_layer-gt-MAX_LAYER.false less
+    c.tilde-inverted.result _
+    (some_prefix (found a.tree.now a.«record») c.kind.result c.kind.ensures c.if-kind-ne-MOVE.false
+    ∙ ap (λ (t : Bool). result (t, layers_at (found a.tree.now a.«record»))) (sym c.tilde-inverted.ensures)
+    ∙ ap (λ (l : Layers Span). result (c.tilde-inverted.result, l)) (sym c.layers-layers.ensures))
+    _ c.simplify.ensures

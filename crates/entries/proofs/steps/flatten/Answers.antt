@@ -1,0 +1,34 @@
+-- `steps::flatten` meets its contract: each way out is one case of the rule. Assumes nothing.
+use mathlib.Core.Path.{ap}
+use native.Mathlib.Omega.{arith}
+use borrow.Author.Rules.{rules}
+use Rattle.notation.specs.Entries.{outcome}
+use Rattle.entries.proofs.Stepping.{flatten-refused, flatten-short, flatten-written}
+use Rattle.entries.proofs.steps.flatten.Goals as goal
+
+pub returns-in_default : goal.returns-in_default
+returns-in_default c =
+    let a = c.args in
+    flatten-refused a.text.now a.tree.now _ c.count_steps-counted.ensures.answer _ (ap outcome c.in_default.is) a.out.now
+
+pub overflow_mul-size : goal.overflow_mul-size
+overflow_mul-size c =
+    let counted = c.count_steps-counted.ensures.counted _ (ap outcome c.in-Value.is) in
+    record { fits = omega (arith, counted.most) }
+
+pub returns-then-out-size : goal.returns-then-out-size
+returns-then-out-size c =
+    let a = c.args in
+    let counted = c.count_steps-counted.ensures.counted _ (ap outcome c.in-Value.is) in
+    flatten-short a.text.now a.tree.now _ counted a.out.now c.if-out-size.true
+
+pub flatten-requires : goal.flatten-requires
+flatten-requires c =
+    let counted = c.count_steps-counted.ensures.counted _ (ap outcome c.in-Value.is) in
+    record { packed = counted.accepted.packed; tree_in_bounds = omega (arith, counted.steps, c.if-out-size.false) }
+
+pub returns : goal.returns
+returns c =
+    let a = c.args in
+    let counted = c.count_steps-counted.ensures.counted _ (ap outcome c.in-Value.is) in
+    flatten-written a.text.now a.tree.now _ counted a.out.now c.if-out-size.false _ _ c.flatten.ensures
