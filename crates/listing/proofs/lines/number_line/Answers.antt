@@ -1,0 +1,12 @@
+-- One after the other. Assumes nothing.
+use borrow.Author.Rules.{rules}
+use mathlib.Core.Path.{refl}
+use mathlib.Core.List.{[]}
+use Rattle.notation.specs.Numbers.{show}
+use Rattle.listing.proofs.Fields.{wrote-line}
+use Rattle.listing.proofs.lines.number_line.Goals as goal
+
+pub returns : goal.returns
+returns c =
+    let a = c.args in
+    wrote-line a.label.now (show a.n []) refl c.put_bytes-space.ensures c.put-start.ensures c.put_number-end.ensures c.put.ensures

@@ -1,0 +1,30 @@
+-- The record that is found is printed as a tree of one leaf. Assumes nothing.
+use borrow.Author.Rules.{rules}
+use Prim.Native.Nat.{ℕ}
+use mathlib.Core.Path.{refl}
+use mathlib.Core.List.{[]}
+use native.Mathlib.Omega.{arith}
+use lib.ListN.{replicate, length-replicate}
+use Rattle.notation.specs.Numbers.{show}
+use Rattle.notation.specs.Packed.{RECORD}
+use Rattle.notation.specs.Meaning.{step_of}
+use Rattle.notation.specs.Print.{put_step}
+use Rattle.checked.proofs.Played.{there}
+use Rattle.listing.proofs.Fields.{wrote-to, wrote-line}
+use Rattle.listing.proofs.Sought.{sought}
+use Rattle.listing.proofs.lines.step_line.Goals as goal
+
+pub node_list-end-requires : goal.node_list-end-requires
+node_list-end-requires c =
+    let a = c.args in
+    let p = c.requires.by_index in
+    let t = there a.text.now a.tree.now p.0 p.1 a.place p.2 in
+    let x = sought a.text.now a.tree.now (replicate RECORD 0) _ p.0 a.place p.1 (omega (arith, length-replicate {0} {A = ℕ} RECORD 0)) c.seek.ensures t.step t.is in
+    record { at_le_most = omega (arith, c.put-start.ensures.counts); packed = x.packed_step; tree_value = x.ok }
+
+pub returns : goal.returns
+returns c = λ x i.
+    let a = c.args in
+    let p = c.requires.by_index in
+    let e = sought a.text.now a.tree.now (replicate RECORD 0) _ p.0 a.place p.1 (omega (arith, length-replicate {0} {A = ℕ} RECORD 0)) c.seek.ensures x i in
+    wrote-line (show a.place []) (put_step (step_of a.text.now x) []) (e.prints []) (wrote-to (show a.place []) refl c.put_number-space.ensures) c.put-start.ensures c.node_list-end.ensures c.put.ensures

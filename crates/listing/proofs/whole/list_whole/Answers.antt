@@ -1,0 +1,12 @@
+-- Every listing fits. Assumes nothing.
+use borrow.Author.Rules.{rules}
+use native.Mathlib.Omega.{arith}
+use Rattle.notation.specs.Lister.{lister}
+use Rattle.size_laws.proofs.Listing.{listing-fits}
+use Rattle.listing.proofs.Lending.{at_front}
+use Rattle.listing.proofs.whole.list_whole.Goals as goal
+
+pub returns : goal.returns
+returns c =
+    let a = c.args in
+    at_front (lister a.input.now) c.put_input.ensures (omega (arith, c.well_formed)) (omega (arith, c.well_formed, listing-fits a.input.now))
