@@ -3,15 +3,16 @@
 
 #![tactic(auto)]
 
+use listing::input::read_full;
 use listing::{MAX_LISTING, MAX_READ};
 use std::io;
-use std::io::{Print, Read};
+use std::io::{Input, Print};
 
 // Reads an input and writes its listing.
 fn main(rt: HostRuntime) -> io::Result<()> {
-    let mut input = Vec::new(rt.alloc());
-    rt.stdin().take(MAX_READ as u64).read_to_end(&mut input)?;
+    let mut input = [0u8; MAX_READ];
     let mut out = [0u8; MAX_LISTING];
-    let size = listing::list_whole(&input, &mut out);
+    let n = read_full(&mut rt.reader(), &mut input)?;
+    let size = listing::list_whole(&input[..n], &mut out);
     rt.write_all(&out[..size])
 }

@@ -17,6 +17,7 @@ ghost use Rattle.std.specs.Prelude.{◌≡◌, ◌≤◌, IfOk, length};
 ghost use Rattle.vectors.specs.Bounds.{AtMost, LINE};
 
 use hex::Decoded;
+use listing::input::read_full;
 use record::RECORD;
 use std::io;
 use std::io::Print;
@@ -105,7 +106,7 @@ fn piece(
     requires { kept ≤ length input.old }
     ensures { IfOk result (λ n. n ≤ length input.old) }
 {
-    let n = pieces::read_full(&mut rt.reader(), &mut input[kept..])?;
+    let n = read_full(&mut rt.reader(), &mut input[kept..])?;
     let filled = kept + n;
     let whole = pieces::lines_end(&input[0..filled]);
     run_cases(rt, &input[0..whole], text, tree, out)?;
@@ -117,18 +118,17 @@ fn piece(
 const MAX_PIECES: usize = 64;
 
 const PIECE: usize = 262144;
-// Texts of over 65,536 bytes and trees of over 65,536 records: past what 16 bits hold. The longest texts are run from C
-// (tests/host).
+// Texts of over 65,536 bytes and trees of over 65,536 records: past what 16 bits hold. The stack has no room for the
+// longest texts; those are run from C (tests/host).
 const TEXT: usize = 144000;
 
 const TREE: usize = RECORD * 72000;
 
 // Runs the cases of standard input.
 fn main(rt: HostRuntime) -> io::Result<()> {
-    let alloc = rt.alloc();
-    let mut input = vec![in alloc; 0u8; PIECE]?;
-    let mut text = vec![in alloc; 0u8; TEXT]?;
-    let mut tree = vec![in alloc; 0u8; TREE]?;
-    let mut out = vec![in alloc; 0u8; TREE]?;
+    let mut input = [0u8; PIECE];
+    let mut text = [0u8; TEXT];
+    let mut tree = [0u8; TREE];
+    let mut out = [0u8; TREE];
     run(&rt, &mut input, &mut text, &mut tree, &mut out)
 }
