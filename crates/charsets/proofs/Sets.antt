@@ -4,29 +4,13 @@ use mathlib.Core.Bool.{Bool, true, false, not, ◌||◌}
 use mathlib.Core.List.{[], ◌∷◌}
 use Prim.Native.Nat.{ℕ, ◌≤◌}
 use borrow.Author.Tests.{le-leb, ne_eqb}
-use denote.Enum.Declared.{tag_of}
 use lib.Dec.{eqb, leb}
-use Rattle.notation.specs.contracts.char_set.CharSet.{the_type}
 use Rattle.notation.specs.declared.char_set.CharSet.{CharSet}
 use Rattle.notation.specs.declared.char_set.CharSet.TheVariants.{LowercaseLatin, UppercaseLatin, UppercaseGreek, TallLowercaseGreek, ShortLowercaseGreek, Underscore, Prime}
 use Rattle.notation.specs.declared.char_set.Class.{Class}
 use Rattle.notation.specs.declared.char_set.Class.TheVariants.{In, Outside}
 use Rattle.notation.specs.Basics.{pick, between, one_of, every}
-use Rattle.notation.specs.Chars.{
-  classify,
-  class_number,
-  set_number,
-  is_family_class,
-  is_family_char,
-  is_prime_class,
-  is_prime,
-  is_latin_letter,
-  is_greek_letter,
-  uppercase_greek,
-  tall_lowercase_greek,
-  short_lowercase_greek,
-  curly_prime_codes,
-}
+use Rattle.notation.specs.Chars.{classify, class_number, set_number, is_family_class, is_family_char, is_prime_class, is_prime, is_latin_letter, uppercase_greek, tall_lowercase_greek, short_lowercase_greek, curly_prime_codes}
 use Rattle.charsets.proofs.Bools.{contra}
 use Rattle.charsets.proofs.Among.{apart}
 

@@ -1,16 +1,16 @@
 -- The width of the character at the start of a text, by its first four bytes.
-use mathlib.Core.Path.{◌≡◌, refl, sym, subst, ◌∙◌}
+use mathlib.Core.Path.{◌≡◌, refl, sym, ◌∙◌}
 use mathlib.Core.Bool.{Bool, true, false, ◌&&◌}
-use mathlib.Core.List.{List, [], ◌∷◌}
-use Prim.Native.Nat.{ℕ, zero, suc, ◌+◌, ◌*◌, ◌%◌, ◌≤◌, ◌<◌}
+use mathlib.Core.List.{List}
+use Prim.Native.Nat.{ℕ, ◌+◌, ◌*◌, ◌%◌, ◌≤◌, ◌<◌}
 use native.Mathlib.Nat.{add-zero}
 use native.Mathlib.Omega.{arith}
-use borrow.Author.Tests.{le-leb, lt-leb, leb-true, leb-false}
+use borrow.Author.Tests.{le-leb, leb-true}
 use lib.Dec.{leb, eqb}
 use lib.ListN.{length, get_or, drop}
 use Rattle.notation.specs.Basics.{pick, between}
 use Rattle.notation.specs.Utf8.{byte_at, continuation, char_width, code_point, width_if}
-use Rattle.charsets.proofs.Bools.{and_left, and_right, between-low, between-high}
+use Rattle.charsets.proofs.Bools.{and_left, and_right, between-high}
 use Rattle.notation.proofs.Bools.{pick_same}
 use Rattle.charsets.proofs.Texts.{in-text, is_byte, byte-drop, first_byte, is-byte-drop}
 

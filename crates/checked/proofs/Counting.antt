@@ -2,14 +2,13 @@
 -- Assumes nothing.
 use Prim.Native.Nat.{ℕ, zero, suc, ◌≤◌, ◌<◌}
 use mathlib.Core.Path.{◌≡◌, refl, sym, ap, ◌∙◌}
-use mathlib.Core.Bool.{Bool, true, false}
+use mathlib.Core.Bool.{Bool, false}
 use mathlib.Core.List.{List}
 use mathlib.Core.Option.{Option, none, some}
 use native.Mathlib.Omega.{arith}
 use borrow.Author.Tests.{le-leb, lt-leb}
 use Rattle.notation.specs.Refusals.{Outcome, refusal, result, TOO-MANY-STEPS}
 use Rattle.notation.specs.Packed.{unpack}
-use Rattle.notation.specs.Unroll.{flatten}
 use Rattle.notation.specs.Counts.{cap, count}
 use Rattle.notation.specs.Lending.{outcome, value}
 use Rattle.notation.specs.Entries.{steps, count_steps, MAX-STEPS}
@@ -19,7 +18,7 @@ use Rattle.laws.proofs.Unrolling.{flatten-is}
 use Rattle.laws.proofs.Counting.{count-is}
 use Rattle.well_formed.specs.Refusing.{refusal_of}
 use Rattle.checked.specs.declared.Checked.{Checked}
-use Rattle.checked.specs.Checked.{Accepted, Found, Checks, Counted}
+use Rattle.checked.specs.Checked.{Accepted, Checks, Counted}
 use Rattle.checked.proofs.Outcomes.{counted, refused}
 
 -- What `count_checked` promises of its answer.

@@ -1,5 +1,5 @@
 -- How many bytes are allowed for what a record prints by itself.
-use Rattle.std.specs.Prelude.{ℕ, ◌+◌, ◌/◌, ◌%◌, not, List, ltb, eqb, nat_abs, get_or}
+use Rattle.std.specs.Prelude.{ℕ, ◌+◌, not, List, ltb, eqb, nat_abs}
 use Rattle.notation.specs.Basics.{pick}
 use Rattle.notation.specs.Numbers.{from_bits}
 use Rattle.notation.specs.Clauses.{kind, number, family, constraints, form}

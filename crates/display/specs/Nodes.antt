@@ -1,5 +1,5 @@
 -- Nodes and leaves that are well formed in their text, and what a leaf's record prints by its fields.
-use Rattle.std.specs.Prelude.{ℕ, ◌/◌, ◌%◌, ◌≤◌, ◌<◌, ◌≡◌, true, List, ◌∷◌, ◌++◌, eqb, length}
+use Rattle.std.specs.Prelude.{ℕ, ◌≤◌, ◌<◌, ◌≡◌, true, List, ◌∷◌, ◌++◌, eqb, length}
 use Rattle.notation.specs.Basics.{pick}
 use Rattle.notation.specs.Numbers.{from_bits}
 use Rattle.notation.specs.Tree.{Leaf, Node, part_of}

@@ -1,14 +1,14 @@
 -- What printing comes to, case by case. Assumes nothing.
 use Prim.Native.Nat.{ℕ, ◌-◌, ◌≤◌, ◌<◌, min}
-use mathlib.Core.Path.{◌≡◌, refl, sym, ap, ap₂, ◌∙◌}
-use mathlib.Core.List.{List, [], ◌++◌, append-nil}
+use mathlib.Core.Path.{◌≡◌, sym, ap, ap₂, ◌∙◌}
+use mathlib.Core.List.{List, ◌++◌, append-nil}
 use native.Mathlib.Omega.{arith}
 use lib.ListN.{length, take, drop, length-take}
 use lib.Seq.{drop-length}
 use Rattle.notation.specs.Refusals.{Outcome, refusal, result, NO-ROOM}
 use Rattle.notation.specs.Packed.{unpack}
 use Rattle.notation.specs.Print.{printed}
-use Rattle.notation.specs.Entries.{Lent, display, display_entry}
+use Rattle.notation.specs.Entries.{display, display_entry}
 use Rattle.display.specs.Written.{MOST}
 use Rattle.checked.specs.Checked.{Accepted, checked_steps}
 use Rattle.checked.proofs.Outcomes.{refused, lend-handed, lend-short, lend-fits}

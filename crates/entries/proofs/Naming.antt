@@ -1,5 +1,5 @@
 -- What the entries that name a record come to, case by case. Assumes nothing.
-use Prim.Native.Nat.{ℕ, ◌+◌, ◌-◌, ◌*◌, ◌/◌, ◌%◌, ◌≤◌, ◌<◌}
+use Prim.Native.Nat.{ℕ, ◌+◌, ◌-◌, ◌*◌, ◌/◌, ◌≤◌, ◌<◌}
 use mathlib.Core.Path.{◌≡◌, refl, sym, ap, subst}
 use mathlib.Core.Bool.{Bool, true}
 use mathlib.Core.List.{List, []}
@@ -9,7 +9,7 @@ use lib.Dec.{eqb}
 use lib.ListN.{length, take, drop, length-drop}
 use lib.Seq.{take_all}
 use Rattle.notation.specs.Basics.{pick, between}
-use Rattle.notation.specs.Refusals.{Outcome, refusal, result, ◌>>=◌, ◌>>◌, NO-SUCH-LAYER-COUNT, NO-SUCH-RECORD}
+use Rattle.notation.specs.Refusals.{Outcome, refusal, result, NO-SUCH-LAYER-COUNT, NO-SUCH-RECORD}
 use Rattle.notation.specs.Layers.{MAX-LAYER, lit, simplified}
 use Rattle.notation.specs.Tree.{Span, Layers}
 use Rattle.notation.specs.Packed.{RECORD, Head, head_at, family_at}

@@ -1,22 +1,20 @@
 -- What unrolling and seeking come to, case by case. Assumes nothing.
-use Prim.Native.Nat.{ℕ, zero, suc, ◌*◌, ◌≤◌, ◌<◌}
+use Prim.Native.Nat.{ℕ, ◌*◌, ◌≤◌, ◌<◌}
 use mathlib.Core.Path.{◌≡◌, refl, sym, ap, ◌∙◌}
-use mathlib.Core.Bool.{Bool, true, false}
-use mathlib.Core.List.{List, [], ◌∷◌, ◌++◌}
-use mathlib.Core.Option.{Option, none, some}
+use mathlib.Core.Bool.{false}
+use mathlib.Core.List.{List, ◌++◌}
+use mathlib.Core.Option.{Option, some}
 use native.Mathlib.Omega.{arith}
-use borrow.Author.Tests.{le-leb, lt-leb}
+use borrow.Author.Tests.{le-leb}
 use lib.ListN.{length, drop, get_elem?}
-use Rattle.notation.specs.Refusals.{Outcome, refusal, result, ◌>>=◌, ◌>>◌, unless, or_refuse, NO-ROOM, TOO-MANY-STEPS, NO-SUCH-PLACE}
-use Rattle.notation.specs.Tree.{Leaf, Tree}
+use Rattle.notation.specs.Refusals.{Outcome, refusal, result, NO-ROOM, NO-SUCH-PLACE}
+use Rattle.notation.specs.Tree.{Leaf}
 use Rattle.notation.specs.Packed.{RECORD, leaf_head, leaf_record, unpack}
 use Rattle.notation.specs.Invert.{undo}
-use Rattle.notation.specs.Unroll.{flatten}
-use Rattle.notation.specs.Counts.{cap, count}
-use Rattle.notation.specs.Entries.{Lent, lend, steps, records, unrolled, flatten_entry, count_steps, step_at, seek_step, refusal_number, value, MAX-STEPS}
+use Rattle.notation.specs.Entries.{steps, records, unrolled, flatten_entry, count_steps, step_at, seek_step, refusal_number, MAX-STEPS}
 use Rattle.record.proofs.RoundTrip.{length-head_record}
 use Rattle.laws.proofs.ListEntries.{get-past, get-within}
-use Rattle.laws.specs.Unrolled.{flat, first_refusal}
+use Rattle.laws.specs.Unrolled.{flat}
 use Rattle.laws.proofs.Unrolling.{flatten-is}
 use Rattle.laws.proofs.Counting.{count-is}
 use Rattle.expand.specs.Places.{step_in, found}

@@ -1,11 +1,11 @@
 -- Steps as the records that are written.
-use Rattle.std.specs.Prelude.{ℕ, ◌-◌, ◌*◌, ◌/◌, ◌≤◌, ◌≡◌, Bool, false, List, ◌++◌, ℤ, nat_abs, length, take, drop}
+use Rattle.std.specs.Prelude.{ℕ, ◌-◌, ◌*◌, ◌≤◌, ◌≡◌, Bool, false, List, ◌++◌, ℤ, nat_abs, length, take, drop}
 use Rattle.notation.specs.Basics.{pick}
 use Rattle.notation.specs.Tree.{Leaf, rotation, move, pause, pair, slash, megaminx, Node, leaf, block, Body, group, nil, cons, Tree}
 use Rattle.notation.specs.Packed.{RECORD, head_record, head_at, unpack}
 use Rattle.notation.specs.Entries.{records}
 use Rattle.notation.specs.Invert.{undo}
-use Rattle.record.specs.Meaning.{field, kind_at}
+use Rattle.record.specs.Meaning.{kind_at}
 use Rattle.record.specs.Range.{FitsFamily, FitsConstraints, FitsLayers, FitsLeaf}
 use Rattle.record.specs.Undone.{undone_head}
 use Rattle.laws.specs.All.{All}

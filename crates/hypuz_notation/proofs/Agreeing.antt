@@ -7,7 +7,7 @@ use native.Mathlib.Omega.{arith}
 use lib.Dec.{leb}
 use lib.ListN.{length, take, drop}
 use lib.Seq.{take_at}
-use Rattle.notation.specs.Refusals.{Outcome, refusal, result, ◌>>=◌}
+use Rattle.notation.specs.Refusals.{Outcome, refusal, result}
 use Rattle.notation.specs.Tree.{Leaf}
 use Rattle.notation.specs.Packed.{leaf_head, leaf_record, unpack}
 use Rattle.notation.specs.Meaning.{SameStep}

@@ -1,6 +1,6 @@
 -- The two loops over a packed list: one writes what each node gives from the end, one keeps the last refusal. Each invariant is kept
 -- by a turn, whatever the nodes are inverted to or refused for. Assumes nothing.
-use Prim.Native.Nat.{ℕ, ◌+◌, ◌-◌, ◌/◌, ◌≤◌}
+use Prim.Native.Nat.{ℕ, ◌+◌, ◌-◌, ◌≤◌}
 use mathlib.Core.Path.{◌≡◌, refl, sym, ap, ◌∙◌, subst}
 use mathlib.Core.Bool.{Bool, true, false}
 use mathlib.Core.List.{List, [], ◌++◌, append-nil, append_assoc}
@@ -11,7 +11,7 @@ use lib.ListN.{length, take, drop, length-append, length-drop}
 use lib.Seq.{take_at, drop-length, drop_at, drop-drop, length-take-le}
 use Rattle.notation.specs.Tree.{Leaf, Node, leaf, block, group, binary_group, nil, cons, append, Tree}
 use Rattle.notation.specs.Packed.{RECORD, pack, unpack, head_at, node_head}
-use Rattle.record.specs.Meaning.{field, kind_at}
+use Rattle.record.specs.Meaning.{kind_at}
 use Rattle.record.proofs.KindTests.{no-leaf-low}
 use Rattle.laws.specs.Unrolled.{first}
 use Rattle.laws.specs.Inverted.{inverted, inv_refusal, deeply, deeply_node, deep_refusal}

@@ -1,5 +1,5 @@
 -- The bytes of one node: its record, its inverses, and the list that the deep inverse enters. Assumes nothing.
-use Prim.Native.Nat.{ℕ, ◌+◌, ◌-◌, ◌/◌, ◌≤◌, ◌<◌}
+use Prim.Native.Nat.{ℕ, ◌+◌, ◌-◌, ◌≤◌, ◌<◌}
 use mathlib.Core.Path.{◌≡◌, refl, sym, ap, ap₂, ◌∙◌, subst}
 use mathlib.Core.List.{List, ◌++◌, append-nil, append_assoc}
 use mathlib.Core.Option.{Option, none, some}
@@ -11,11 +11,11 @@ use lib.Seq.{take_at, take-add}
 use Rattle.notation.specs.Refusals.{NISS}
 use Rattle.notation.specs.Tree.{Leaf, Node, leaf, block, Body, group, binary_group, append, Tree}
 use Rattle.notation.specs.Packed.{RECORD, Head, group_head, binary_head, head_record, group_number, size, body_head, pack_node, pack_body, pack, head_at, unpack, node_head}
-use Rattle.notation.specs.Counts.{cap, stored}
+use Rattle.notation.specs.Counts.{cap}
 use Rattle.notation.specs.declared.common.GroupKind.{GroupKind}
 use Rattle.notation.specs.declared.common.GroupKind.TheVariants.{Simple, Macro, Simultaneous, Niss}
 use Rattle.notation.specs.declared.common.BinaryGroupKind.TheVariants.{Commutator, Conjugate}
-use Rattle.record.specs.Meaning.{field, kind_at}
+use Rattle.record.specs.Meaning.{kind_at}
 use Rattle.record.specs.Undone.{StartsRecord, undone_head}
 use Rattle.record.proofs.RoundTrip.{length-head_record}
 use Rattle.record.proofs.Undoing.{Undone, starts_with, undone-with}

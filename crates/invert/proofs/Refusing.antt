@@ -6,7 +6,6 @@ use mathlib.Core.List.{List}
 use mathlib.Core.Option.{none, some}
 use Rattle.notation.specs.Basics.{pick}
 use Rattle.notation.specs.Refusals.{OVERFLOW}
-use Rattle.notation.specs.Tree.{rotation, move, pause, pair, slash, megaminx}
 use Rattle.notation.specs.Packed.{Head, leaf_head, group_head, binary_head, head_at}
 use Rattle.record.specs.Undone.{overflows_at}
 use Rattle.record.proofs.Overflows.{head_overflows, overflow-test}

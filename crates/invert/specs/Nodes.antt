@@ -1,9 +1,9 @@
 -- Nodes as the inverses take them.
-use Rattle.std.specs.Prelude.{ℕ, ◌/◌, ◌≤◌, ◌≡◌, Bool, true, false, List, ◌++◌, length, take}
+use Rattle.std.specs.Prelude.{ℕ, ◌≤◌, ◌≡◌, Bool, true, false, List, ◌++◌, length, take}
 use Rattle.std.proofs.Math.Option.{Option, none, some}
 use Rattle.notation.specs.Tree.{Tree}
 use Rattle.notation.specs.Packed.{RECORD, Head, leaf_head, group_head, binary_head, pack, unpack}
-use Rattle.record.specs.Meaning.{field, kind_at}
+use Rattle.record.specs.Meaning.{kind_at}
 use Rattle.laws.specs.Inverted.{inverted, leaf_refusal, deeply, deep_refusal}
 use Rattle.laws.specs.Packed.{Packed}
 use Rattle.nodes.specs.Nodes.{part}

@@ -10,7 +10,6 @@ use borrow.Author.Tests.{ltb-true, ltb-false}
 use lib.Dec.{ltb}
 use lib.IntN.{ℤ}
 use lib.ListN.{length, length-map, get_elem?}
-use Rattle.notation.specs.Basics.{pick}
 use Rattle.notation.specs.Tree.{Leaf, block, Body, binary_group, Tree}
 use Rattle.notation.specs.Invert.{undo}
 use Rattle.notation.specs.Unroll.{copies, turned}

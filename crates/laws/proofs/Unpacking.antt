@@ -12,7 +12,7 @@ use lib.ListN.{length, take, drop, get_or, length-take, length-drop}
 use Rattle.notation.specs.Basics.{pick}
 use Rattle.notation.specs.Numbers.{from_bits, fits_bits}
 use Rattle.notation.specs.Tree.{Span, span, Layers, no_layers, single_layer, layer_range, layer_set, pause}
-use Rattle.notation.specs.Packed.{RECORD, widths, cut, family_at, nowhere, Head, leaf_head, group_head, binary_head, node_size, body_size, size, head_at, unpack_from, unpack}
+use Rattle.notation.specs.Packed.{RECORD, widths, family_at, nowhere, Head, leaf_head, group_head, binary_head, node_size, body_size, size, head_at, unpack_from, unpack}
 use Rattle.notation.specs.WellFormed.{tree_ok, depth, MAX-NESTING, well_formed}
 use Rattle.numbers.proofs.Positional.{Below, below-take, below-drop}
 use Rattle.record.specs.Meaning.{field, place_width, span_at, constraints_at, layers_at, kind_at, form_at, present_at, NUMBER, OTHER, FAMILY, FAMILY-SIZE, CONSTRAINTS, LAYER-SET}

@@ -8,27 +8,7 @@ use lib.IntN.{ℤ}
 use lib.ListN.{length, get_or, take, drop, length-append}
 use lib.Seq.{take_at, drop_at, drop-drop}
 use Rattle.notation.specs.Tree.{Leaf, rotation, move, pause, pair, slash, megaminx, Node, leaf, block, group, binary_group, nil, cons, Tree}
-use Rattle.notation.specs.Packed.{
-  RECORD,
-  widths,
-  cut,
-  Head,
-  leaf_head,
-  group_head,
-  binary_head,
-  head_fields,
-  head_record,
-  node_size,
-  body_size,
-  size,
-  body_head,
-  node_head,
-  pack_node,
-  pack_body,
-  pack,
-  head_at,
-  unpack,
-}
+use Rattle.notation.specs.Packed.{RECORD, widths, cut, Head, leaf_head, head_fields, head_record, node_size, body_size, size, body_head, node_head, pack_node, pack_body, pack, head_at, unpack}
 use Rattle.notation.specs.Counts.{count_node, stored}
 use Rattle.notation.specs.declared.common.GroupKind.{GroupKind}
 use Rattle.notation.specs.declared.common.BinaryGroupKind.{BinaryGroupKind}

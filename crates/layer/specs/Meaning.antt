@@ -1,6 +1,6 @@
 -- What the crate's types mean in the rules' terms, what holds of every value that the crate makes, and what its functions
 -- compute where the rules have no name for it.
-use Rattle.std.specs.Prelude.{ℕ, zero, suc, ◌+◌, ◌-◌, ◌≤◌, min, max, Bool, true, false, leb, ℤ, pos, negsuc, neg_ℤ}
+use Rattle.std.specs.Prelude.{ℕ, zero, suc, ◌≤◌, min, max, Bool, true, false, leb, ℤ, pos, negsuc, neg_ℤ}
 use Rattle.std.proofs.Math.Option.{Option, none, some}
 use Rattle.notation.specs.Basics.{pick, between}
 use Rattle.notation.specs.Layers as rule

@@ -13,7 +13,6 @@ use Rattle.notation.specs.Entries.{checked, inverse, display, steps}
 use Rattle.notation.specs.Lister.{line, field, step_lines, steps_part, tree_part, SHOWN}
 use Rattle.notation.specs.Demands.{printed_inverse}
 use Rattle.laws.specs.Unrolled.{flat}
-use Rattle.notation.specs.Counts.{count}
 use Rattle.laws.proofs.Counting.{count-is}
 use Rattle.checked.specs.Checked.{Counted}
 use Rattle.entries.proofs.Stepping.{these}

@@ -8,7 +8,7 @@ use native.Mathlib.Omega.{arith}
 use lib.Dec.{leb}
 use lib.ListN.{length}
 use Rattle.notation.specs.Utf8.{utf8}
-use Rattle.notation.specs.Refusals.{Outcome, refusal, result, ◌>>=◌, ◌>>◌, unless, TOO-LONG, NOT-UTF8, NOT-WELL-FORMED}
+use Rattle.notation.specs.Refusals.{Outcome, refusal, result, ◌>>◌, unless, TOO-LONG, NOT-UTF8, NOT-WELL-FORMED}
 use Rattle.notation.specs.Tree.{Tree}
 use Rattle.notation.specs.Packed.{RECORD, pack, unpack}
 use Rattle.notation.specs.WellFormed.{well_formed}

@@ -1,5 +1,5 @@
 -- Demand 3, over the definitions alone: from any accepted text to its inverse read back, counts, seeks and undone steps.
-use Rattle.std.specs.Prelude.{ℕ, suc, ◌-◌, ◌<◌, ◌≤◌, ◌≡◌, true, false, not, List, ◌++◌, length, drop}
+use Rattle.std.specs.Prelude.{ℕ, suc, ◌-◌, ◌≤◌, ◌≡◌, true, not, List, ◌++◌, length, drop}
 use Rattle.std.proofs.Math.Option.{some}
 use Rattle.std.proofs.Math.ListN.{get_elem?}
 use Rattle.notation.specs.Basics.{every}

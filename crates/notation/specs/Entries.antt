@@ -1,30 +1,11 @@
 -- The entries: for each its answer and the final bytes of its buffer, on accepted and refused inputs alike.
-use Rattle.std.specs.Prelude.{ℕ, zero, suc, ◌+◌, ◌*◌, ◌/◌, Bool, true, false, not, ◌&&◌, ◌||◌, List, [], ◌∷◌, ◌++◌, eqb, leb, ltb, length, drop}
+use Rattle.std.specs.Prelude.{ℕ, ◌+◌, ◌*◌, ◌/◌, Bool, ◌&&◌, ◌||◌, List, [], ◌∷◌, ◌++◌, eqb, leb, ltb, length, drop}
 use Prim.Native.Char.{code}
-use Rattle.std.proofs.Math.Option.{Option, none, some}
 use Rattle.std.proofs.Math.ListN.{get_elem?}
-use Rattle.notation.specs.Basics.{Bytes, pick, between}
+use Rattle.notation.specs.Basics.{Bytes, between}
 use Rattle.notation.specs.Utf8.{utf8}
 use Rattle.notation.specs.Numbers.{big_endian}
-use Rattle.notation.specs.Refusals.{
-  Outcome,
-  refusal,
-  result,
-  ◌>>=◌,
-  ◌>>◌,
-  unless,
-  or_refuse,
-  TOO-LONG,
-  NOT-UTF8,
-  TOO-NESTED,
-  NOT-NOTATION,
-  NO-ROOM,
-  NOT-WELL-FORMED,
-  TOO-MANY-STEPS,
-  NO-SUCH-PLACE,
-  NO-SUCH-LAYER-COUNT,
-  NO-SUCH-RECORD,
-}
+use Rattle.notation.specs.Refusals.{Outcome, refusal, result, ◌>>=◌, ◌>>◌, unless, or_refuse, TOO-LONG, NOT-UTF8, TOO-NESTED, NOT-NOTATION, NOT-WELL-FORMED, TOO-MANY-STEPS, NO-SUCH-PLACE, NO-SUCH-LAYER-COUNT, NO-SUCH-RECORD}
 pub use Rattle.notation.specs.Lending.{outcome, refusal_number, value, Lent, lent, kept, lend, in_entries}
 use Rattle.notation.specs.Layers.{Range, MAX-LAYER, clamp_to_layer_count, set_ranges, keep, lit, simplified}
 use Rattle.notation.specs.Tree.{

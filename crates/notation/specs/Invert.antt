@@ -1,28 +1,8 @@
 -- Inverses (invert.rs and the `Invert` impls). Both walk from the last node to the first.
-use Rattle.std.specs.Prelude.{ℕ, Bool, true, false, ◌||◌, eqb, ℤ, pos, negsuc, neg_ℤ}
+use Rattle.std.specs.Prelude.{Bool, false, ◌||◌, eqb, ℤ, pos, negsuc, neg_ℤ}
 use Rattle.notation.specs.Basics.{pick}
 use Rattle.notation.specs.Refusals.{Outcome, refusal, result, ◌>>=◌, NISS, OVERFLOW}
-use Rattle.notation.specs.Tree.{
-  LeafOf,
-  rotation,
-  move,
-  pause,
-  pair,
-  slash,
-  megaminx,
-  Leaf,
-  Node,
-  leaf,
-  block,
-  Body,
-  group,
-  binary_group,
-  NodeList,
-  nil,
-  cons,
-  append,
-  Tree,
-}
+use Rattle.notation.specs.Tree.{LeafOf, rotation, move, pause, pair, slash, megaminx, Leaf, Node, leaf, block, Body, group, binary_group, nil, cons, append, Tree}
 use Rattle.notation.specs.declared.common.GroupKind.{GroupKind}
 use Rattle.notation.specs.declared.common.GroupKind.TheVariants.{Simple, Macro, Simultaneous, Niss}
 use Rattle.notation.specs.declared.common.BinaryGroupKind.{BinaryGroupKind}

@@ -1,8 +1,6 @@
 -- The lister program: the bytes that it writes for the bytes that it reads.
-use Rattle.std.specs.Prelude.{ℕ, zero, suc, Bool, true, false, ◌&&◌, List, [], ◌∷◌, ◌++◌, leb, length, take, drop}
+use Rattle.std.specs.Prelude.{ℕ, zero, suc, List, [], ◌∷◌, ◌++◌, leb, length, take, drop}
 use Prim.Native.Char.{code}
-use Prim.Native.String as S
-use Prim.Native.String.{String}
 use Rattle.notation.specs.Basics.{pick, choose, same_list}
 use Rattle.notation.specs.Features.{WCA, MAXIMAL}
 use Rattle.notation.specs.Numbers.{show}

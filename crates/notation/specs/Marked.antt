@@ -1,6 +1,5 @@
 -- The marked items ◆ of document 01, as one group. The theorem is `marked` in proofs/Marked.antt.
 use Rattle.std.specs.Prelude.{ℕ, ◌≡◌, true, List, [], ◌∷◌, map}
-use Prim.Native.String as S
 use Prim.Native.String.{String}
 use Rattle.notation.specs.Features.{MAXIMAL}
 use Rattle.notation.specs.Layers.{Range}

@@ -35,7 +35,7 @@ use Rattle.notation.specs.Tree.{
   cons,
   Tree,
 }
-use Rattle.notation.specs.Meaning.{unspanned, step_of}
+use Rattle.notation.specs.Meaning.{unspanned}
 use Rattle.notation.specs.declared.common.GroupKind.{GroupKind}
 use Rattle.notation.specs.declared.common.GroupKind.TheVariants.{Simple, Macro, Simultaneous, Niss}
 use Rattle.notation.specs.declared.common.BinaryGroupKind.{BinaryGroupKind}

@@ -1,8 +1,8 @@
 -- Document 02, request 2: the step count in a record is how many steps its node unrolls into, capped.
 -- The theorem is `stores-length` in crates/laws/proofs/Stored.antt.
-use Rattle.std.specs.Prelude.{ℕ, ◌≡◌, Bool, List, ◌++◌, length}
+use Rattle.std.specs.Prelude.{◌≡◌, Bool, List, ◌++◌, length}
 use Rattle.notation.specs.Basics.{Bytes}
-use Rattle.notation.specs.Refusals.{Outcome, result}
+use Rattle.notation.specs.Refusals.{result}
 use Rattle.notation.specs.Tree.{Leaf, Node}
 use Rattle.notation.specs.Counts.{cap}
 use Rattle.notation.specs.Invert.{undone}

@@ -1,7 +1,7 @@
 -- The tree of a text: nodes over leaves. A spanned leaf names parts of the text by offset and size, as a packed record does
 -- (spanned.rs); an unspanned one, a step, holds what those parts mean, so that steps of two texts can be compared (unspanned.rs).
-use Rattle.std.specs.Prelude.{ℕ, ◌+◌, ◌*◌, max, Bool, List, ℤ, take, drop}
-use Rattle.std.proofs.Math.Option.{Option, none, some}
+use Rattle.std.specs.Prelude.{ℕ, Bool, List, ℤ, take, drop}
+use Rattle.std.proofs.Math.Option.{Option}
 use Rattle.notation.specs.Layers.{LayerSetElement}
 use Rattle.notation.specs.declared.common.GroupKind.{GroupKind}
 use Rattle.notation.specs.declared.common.BinaryGroupKind.{BinaryGroupKind}

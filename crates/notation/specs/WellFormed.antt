@@ -1,5 +1,5 @@
 -- Well-formed trees, as proofs work with them: by what packing writes. specs/Clauses says the same clause by clause, as document 01 does.
-use Rattle.std.specs.Prelude.{ℕ, zero, suc, ◌+◌, max, Bool, true, false, ◌&&◌, List, leb, ltb, eqb, ℤ, nat_abs, length}
+use Rattle.std.specs.Prelude.{ℕ, suc, ◌+◌, max, Bool, true, false, ◌&&◌, List, leb, ltb, eqb, ℤ, nat_abs, length}
 use Rattle.std.proofs.Math.Option.{Option, none, some}
 use Rattle.notation.specs.Basics.{between, same_list}
 use Rattle.notation.specs.Chars.{is_family_char}

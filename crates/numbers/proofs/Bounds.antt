@@ -1,5 +1,5 @@
 -- What the rules for numbers give: a value within its bounds, and an end past the start. Assumes nothing.
-use Rattle.std.proofs.Common.{◌≡◌, ℕ, suc, ◌+◌, ◌-◌, ◌<◌, ◌≤◌, Bool, true, false, ◌&&◌, ltb, leb, List, [], ◌∷◌, length, get_or, take, drop, ℤ, pos, neg_ℤ, sym, refl, ap, ◌∙◌, add-one, arith, length-drop, drop_of_length-le, drop-cons, ltb-true, lt-ltb, eq-eqb, ne_eqb, leb-true}
+use Rattle.std.proofs.Common.{◌≡◌, ℕ, suc, ◌+◌, ◌<◌, ◌≤◌, Bool, true, false, ◌&&◌, ltb, leb, List, [], ◌∷◌, length, get_or, take, drop, ℤ, pos, neg_ℤ, sym, refl, ap, ◌∙◌, add-one, arith, length-drop, drop_of_length-le, drop-cons, ltb-true, lt-ltb, eq-eqb, ne_eqb, leb-true}
 use Prim.Native.Char.{Char, code}
 use Rattle.notation.specs.Basics.{pick, choose}
 use Rattle.notation.specs.Numbers.{digit_run, decimal, is_digit, from_bits, to_bits}

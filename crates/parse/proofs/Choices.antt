@@ -1,6 +1,6 @@
 -- The choices of a node, by the first byte: what groups and brackets add to the nodes that hold no list, and which rules reject where.
 -- Assumes nothing.
-use Prim.Native.Nat.{ℕ, ◌-◌}
+use Prim.Native.Nat.{ℕ}
 use Prim.Native.Char.{Char, code}
 use mathlib.Core.Path.{◌≡◌, refl, sym, ap, ◌∙◌}
 use mathlib.Core.Bool.{Bool, true, false}
@@ -11,7 +11,7 @@ use lib.IntN.{ℤ, pos, neg_ℤ}
 use Rattle.notation.specs.Utf8.{byte_at}
 use Rattle.notation.specs.Tree as tree
 use Rattle.notation.specs.Tree.{Node, leaf, Leaf, Tree}
-use Rattle.notation.specs.Grammar.{Reading, rejected, read, Reader, and_then, or_else, ◌or◌, done, fail, when, just, word, uint, prime, multiplier, rotation_node, move_node, group_kind, group_node, binary_group_node, megaminx_scramble_move, sq1_move, node, node_by}
+use Rattle.notation.specs.Grammar.{Reading, rejected, read, Reader, and_then, or_else, done, fail, when, just, word, uint, prime, multiplier, rotation_node, move_node, group_kind, group_node, binary_group_node, megaminx_scramble_move, sq1_move, node, node_by}
 use Rattle.notation.specs.declared.features.Features.{Features}
 use Rattle.notation.specs.declared.common.MegaminxScrambleMove.{MegaminxScrambleMove}
 use Rattle.parse.specs.Nodes.{nested}

@@ -13,7 +13,7 @@ use Rattle.notation.specs.Numbers.{from_bits, digit_run}
 use Rattle.notation.specs.Utf8.{byte_at}
 use Rattle.notation.specs.Layers.{LayerSetElement, single, range}
 use Rattle.notation.specs.Tree.{Layers, Span, span, layer_set, layer_range, single_layer, no_layers}
-use Rattle.notation.specs.Grammar.{Reading, rejected, read, and_then, or_else, ◌or◌, done, just, word, uint, sint, layer, signed_layer, layer_set_element, layer_set_elements, layer_prefix_contents}
+use Rattle.notation.specs.Grammar.{Reading, rejected, read, and_then, or_else, done, just, word, uint, sint, layer, signed_layer, layer_set_element, layer_set_elements, layer_prefix_contents}
 use Rattle.notation.specs.declared.features.Features.{Features}
 use Rattle.charsets.proofs.Texts.{in-text}
 use Rattle.numbers.proofs.Bounds.{number, hyphen, sint_plain, not-negated}

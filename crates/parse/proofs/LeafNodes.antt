@@ -7,7 +7,7 @@ use native.Mathlib.Omega.{arith}
 use lib.IntN.{ℤ}
 use lib.ListN.{length, drop, set}
 use Rattle.record.specs.Meaning.{COUNT}
-use Rattle.notation.specs.Tree.{Leaf, megaminx, Node, leaf, block}
+use Rattle.notation.specs.Tree.{Leaf, Node, leaf, block}
 use Rattle.notation.specs.Packed.{RECORD, widths, lay_out, leaf_fields, node_size}
 use Rattle.notation.specs.Grammar.{Reading, rejected, read, Reader, done, fail, and_then, or_else, when, multiplier, just, constraints, tilde, family, layer_prefix_contents, rotation_node, move_node, group_kind, group_node, binary_group_node, megaminx_scramble_move, sq1_move, node, node_by}
 use Rattle.notation.specs.declared.features.Features.{Features}

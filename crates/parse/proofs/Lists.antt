@@ -9,7 +9,7 @@ use lib.Seq.{drop-drop}
 use Rattle.notation.specs.Chars.{white_space}
 use Rattle.notation.specs.Utf8.{run}
 use Rattle.notation.specs.Tree.{Leaf, Node, nil, cons, Tree, append}
-use Rattle.notation.specs.Grammar.{Reading, rejected, read, Reader, done, and_then, ◌>>=◌, ◌>>◌, whitespace, some_whitespace, collect, more_of, node, node_list, node_list_by}
+use Rattle.notation.specs.Grammar.{Reading, rejected, read, Reader, done, and_then, ◌>>◌, whitespace, some_whitespace, collect, more_of, node, node_list, node_list_by}
 use Rattle.notation.specs.declared.features.Features.{Features}
 
 -- White space after a list.

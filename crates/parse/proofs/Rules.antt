@@ -1,5 +1,5 @@
 -- How much of the text each rule takes. Assumes nothing.
-use Prim.Native.Nat.{ℕ, ◌+◌, ◌-◌, ◌≤◌, ◌<◌}
+use Prim.Native.Nat.{ℕ, ◌+◌, ◌-◌, ◌≤◌}
 use Prim.Native.Char.{Char}
 use mathlib.Core.Path.{◌≡◌, refl, sym}
 use mathlib.Core.Bool.{Bool}
@@ -11,7 +11,7 @@ use Rattle.notation.specs.Chars.{is_prime}
 use Rattle.notation.specs.Grammar.{Reading, rejected, read, Reader, and_then, done, fail, just, word, sint, prime, multiplier, spanned, constraint, constraint_set, layer_set_element, layer_set_elements, layer_prefix_contents, constraints, rotation_node, tilde, move_node, group_node, binary_group_node, megaminx_scramble_move, sq1_move, node, node_by}
 use Rattle.notation.specs.declared.features.Features.{Features}
 use Rattle.notation.specs.declared.common.MegaminxScrambleMove.{MegaminxScrambleMove}
-use Rattle.parse.specs.Meaning.{forget, element_of, layer_after_hyphen, layer_after_dots, numbered_layers, record_reading, node_fields, Within}
+use Rattle.parse.specs.Meaning.{forget, element_of, numbered_layers, record_reading, node_fields, Within}
 use Rattle.parse.specs.declared.parts.Element.{Element}
 use Rattle.parse.specs.declared.parts.Element.TheVariants as element
 use Rattle.parse.specs.declared.parts.LeafAnswer.{LeafAnswer}

@@ -1,6 +1,6 @@
 -- What the answers of parse.rt say: a reading of the text, or a rejection; and names for the parts of rules that a function of
 -- its own reads.
-use Rattle.std.specs.Prelude.{ℕ, ◌+◌, ◌≤◌, ◌<◌, min, max, ◌≡◌, Bool, true, false, ◌&&◌, ◌||◌, List, [], ◌∷◌, eqb, ℤ, pos, drop}
+use Rattle.std.specs.Prelude.{ℕ, ◌+◌, ◌≤◌, ◌<◌, min, max, Bool, true, false, ◌&&◌, ◌||◌, List, [], ◌∷◌, eqb, ℤ, pos, drop}
 use Rattle.std.proofs.Math.Option.{Option}
 use Rattle.notation.specs.Basics.{pick}
 use Rattle.notation.specs.Numbers.{from_bits}

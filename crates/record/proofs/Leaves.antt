@@ -10,7 +10,7 @@ use lib.ListN.{get_or}
 use Rattle.notation.specs.Basics.{pick, same_list}
 use Rattle.notation.specs.Tree.{Span, span}
 use Rattle.notation.specs.Packed.{nowhere, family_at, low_and_high, Head, head_fields, head_at}
-use Rattle.notation.specs.Clauses.{Fields, kind, tilde, form, present, number, other, family, is_group, is_binary, is_move, is_pair, has_multiplier, has_family, has_constraints, has_set, kind_ok}
+use Rattle.notation.specs.Clauses.{Fields, kind, tilde, form, present, number, other, is_group, is_binary, is_move, is_pair, has_multiplier, has_family, has_constraints, has_set, kind_ok}
 use Rattle.notation.proofs.Bools.{false-true, and_left, and_right, and_both, above}
 use Rattle.numbers.proofs.Positional.{Below}
 use Rattle.record.specs.Meaning.{field, both_zero, span_at, layers_at, kind_at, SMALL, FIRST, NUMBER, OTHER, FAMILY, FAMILY-SIZE, CONSTRAINTS, LAYER-SET, COUNT}

@@ -1,5 +1,5 @@
 -- Parts that a record does not use, by the tests that the code makes: an empty family stands at 0, and what is not there is nowhere.
-use Rattle.std.specs.Prelude.{ℕ, ◌/◌, ◌%◌, Bool, not, ◌&&◌, ◌||◌, List, eqb}
+use Rattle.std.specs.Prelude.{ℕ, Bool, not, ◌&&◌, ◌||◌, List, eqb}
 use Rattle.record.specs.Meaning.{field, both_zero, form_at, present_at, FAMILY, FAMILY-SIZE, CONSTRAINTS, LAYER-SET}
 
 abbrev pub family_written : List ℕ → Bool

@@ -1,12 +1,12 @@
 -- Unpacking one record: what it says, the bytes of its lists and the bytes after it. Assumes nothing.
-use Prim.Native.Nat.{ℕ, zero, suc, ◌+◌, ◌-◌, ◌*◌, ◌≤◌, ◌<◌}
+use Prim.Native.Nat.{ℕ, zero, suc, ◌+◌, ◌*◌, ◌≤◌, ◌<◌}
 use mathlib.Core.Path.{◌≡◌, refl, sym, ap, ap₂, ◌∙◌}
 use mathlib.Core.List.{List, [], ◌∷◌}
 use mathlib.Core.Bool.{true}
 use native.Mathlib.Omega.{arith}
 use borrow.Author.Tests.{eqb-true}
 use lib.ListN.{length, take, drop, length-take, length-drop}
-use Rattle.notation.specs.Tree.{Leaf, Node, leaf, block, group, binary_group, cons, Tree}
+use Rattle.notation.specs.Tree.{leaf, block, group, binary_group, cons, Tree}
 use Rattle.notation.specs.Counts.{stored}
 use Rattle.notation.specs.Packed.{RECORD, Head, leaf_head, group_head, binary_head, size, head_at, unpack_from, unpack}
 use Rattle.well_formed.specs.Formed.{first, second, both, first_bytes, second_bytes, rest_bytes, node_of, count_ok}

@@ -13,7 +13,6 @@ use Rattle.notation.specs.Numbers.{from_bits}
 use Rattle.notation.specs.Refusals.{NISS}
 use Rattle.notation.specs.Tree.{Leaf, Node, leaf, block, group, binary_group, cons, Tree}
 use Rattle.notation.specs.Packed.{group_number, binary_number, leaf_head, head_at}
-use Rattle.notation.specs.Invert.{overflows}
 use Rattle.notation.specs.Unroll.{turned}
 use Rattle.notation.specs.declared.common.GroupKind.{GroupKind}
 use Rattle.notation.specs.declared.common.GroupKind.TheVariants.{Simple, Macro, Simultaneous, Niss}

@@ -1,5 +1,5 @@
 -- The walk: what each way out of a turn says of the list, and of its first node. Assumes nothing.
-use Prim.Native.Nat.{ℕ, ◌+◌, ◌-◌, ◌*◌, ◌/◌, ◌^◌, ◌≤◌, ◌<◌}
+use Prim.Native.Nat.{ℕ, ◌+◌, ◌-◌, ◌*◌, ◌^◌, ◌≤◌, ◌<◌}
 use mathlib.Core.Path.{◌≡◌, refl, sym, ap, ap₂, ◌∙◌, subst}
 use mathlib.Core.Bool.{Bool, true, false, ◌&&◌, ◌||◌}
 use mathlib.Core.List.{List, [], ◌∷◌}
@@ -11,7 +11,7 @@ use lib.ListN.{length, take, drop, get_or, length-drop}
 use lib.Seq.{take_all}
 use Rattle.notation.specs.Basics.{pick, same_list}
 use Rattle.notation.specs.Numbers.{from_bits}
-use Rattle.notation.specs.Tree.{Leaf, Node, Tree}
+use Rattle.notation.specs.Tree.{Leaf, Tree}
 use Rattle.notation.specs.Counts.{CAP, cap, count_node, count, stored}
 use Rattle.notation.specs.Packed.{RECORD, widths, cut, in_order, nowhere, Head, leaf_head, head_fields, head_record, head_at, unpack_from, unpack}
 use Rattle.notation.specs.WellFormed.{leaf_ok, multiplier_ok}

@@ -1,7 +1,5 @@
 -- `check` meets its contract: each way out is one case of the rule. Assumes nothing.
 use mathlib.Core.Path.{sym, ap, subst, ◌∙◌}
-use borrow.Author.Rules.{rules}
-use borrow.Author.Tests.{not-true, not-false}
 use Rattle.well_formed.specs.Meaning.{step_count, Meets}
 use Rattle.well_formed.specs.declared.walk.Visited.{Visited}
 use Rattle.notation.specs.Packed.{unpack}
@@ -26,13 +24,13 @@ returns-in-Steps c =
     let a = c.args in
     let k = list-passed _ _ _ (ap step_count (sym c.in-Steps.is) ∙ c.visit.ensures.result_value) in
     let both = is-accepted a.text.now a.tree.now c.if-text-gt-MAX_TEXT.false
-        (sym c.is_utf8.ensures ∙ c.if-not-is_utf8.false) k.0 _ k.1 c.in-Steps.met
-        (subst (λ (v : Visited). Meets v (unpack a.tree.now)) c.in-Steps.is c.visit.ensures.meets) in
+    (sym c.is_utf8.ensures ∙ c.if-not-is_utf8.false) k.0 _ k.1 c.in-Steps.met
+    (subst (λ (v : Visited). Meets v (unpack a.tree.now)) c.in-Steps.is c.visit.ensures.meets) in
     record { answer = both.0; found = both.1 }
 
 pub returns-in-Nothing : goal.returns-in-Nothing
 returns-in-Nothing c =
     let a = c.args in
     let both = not-well-formed a.text.now a.tree.now c.if-text-gt-MAX_TEXT.false (sym c.is_utf8.ensures ∙ c.if-not-is_utf8.false)
-        (list-refused _ _ (ap step_count (sym c.in-Nothing.is) ∙ c.visit.ensures.result_value)) c.refused-in-Nothing.result c.refused-in-Nothing.ensures in
+    (list-refused _ _ (ap step_count (sym c.in-Nothing.is) ∙ c.visit.ensures.result_value)) c.refused-in-Nothing.result c.refused-in-Nothing.ensures in
     record { answer = both.0; found = both.1 }

@@ -1,6 +1,5 @@
 -- `count_checked` meets its contract: each way out is one case of the rule. Assumes nothing.
 use mathlib.Core.Path.{ap}
-use borrow.Author.Rules.{rules}
 use Rattle.notation.specs.Lending.{outcome}
 use Rattle.checked.proofs.Counting.{count-unaccepted, count-refused, count-many, count-done}
 use Rattle.checked.proofs.count_checked.Goals as goal

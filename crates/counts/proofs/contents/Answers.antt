@@ -2,7 +2,6 @@
 use Prim.Native.Nat.{ℕ, ◌+◌, ◌*◌}
 use mathlib.Core.Path.{ap, ap₂, ◌∙◌}
 use native.Mathlib.Omega.{arith}
-use borrow.Author.Rules.{rules}
 use Rattle.notation.specs.Counts.{cap}
 use Rattle.counts.proofs.Capped.{twice-at-most, contents-is}
 use Rattle.counts.proofs.contents.Goals as goal

@@ -1,17 +1,15 @@
 -- The proof of the cycle of calls {list_refusal, node_refusal}: a list calls on its nodes, a node on the list inside it, which is shorter.
 -- Assumes nothing.
-use Prim.Native.Nat.{ℕ, ◌+◌, ◌*◌, ◌<◌}
+use Prim.Native.Nat.{ℕ}
 use mathlib.Core.Path.{sym, ap, ◌∙◌}
 use mathlib.Core.Option.{Option}
 use native.Mathlib.Omega.{arith}
-use borrow.Author.Rules.{rules}
-use lib.ListN.{length}
 use Rattle.notation.specs.Tree.{Tree}
 use Rattle.laws.specs.Inverted.{deep_refusal}
 use Rattle.invert.specs.Nodes.{over}
 use Rattle.nodes.proofs.Nodes.{list-less, node-room, alone}
 use Rattle.invert.proofs.Nodes.{node-starts, niss-refused, commutator-refused, leaf-refused}
-use Rattle.invert.proofs.Loops.{Looked, looked-none, looked-more, looked-all, deep-latest, front-node, front_long}
+use Rattle.invert.proofs.Loops.{looked-none, looked-more, looked-all, deep-latest, front-node, front_long}
 use Rattle.record.proofs.KindTests.{leaf-high, no-leaf-low}
 use Rattle.invert.proofs.+list_refusal_node_refusal.Goals as goal
 

@@ -1,5 +1,5 @@
 -- At the end every byte was copied.
-use Rattle.std.proofs.Common.{◌≡◌, ◌<◌, length, get_or, sym, arith}
+use Rattle.std.proofs.Common.{arith}
 use Rattle.std.proofs.lemmas.Grind.{same_number_lists}
 use Rattle.invert.proofs.copy.Goals as goal
 

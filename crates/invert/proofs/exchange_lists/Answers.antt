@@ -5,7 +5,6 @@ use lib.Seq.{length-take-le}
 use Rattle.notation.specs.Packed.{RECORD}
 use Rattle.nodes.proofs.Nodes.{node-room}
 use Rattle.invert.proofs.Exchanging.{first-place, exchanged-lists}
-use borrow.Author.Rules.{rules}
 use Rattle.invert.proofs.exchange_lists.Goals as goal
 
 pub first-first-requires : goal.first-first-requires

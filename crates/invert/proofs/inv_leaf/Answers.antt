@@ -3,7 +3,6 @@ use mathlib.Core.Path.{◌∙◌}
 use Rattle.notation.specs.Packed.{RECORD}
 use Rattle.record.proofs.Copying.{over-all}
 use Rattle.invert.proofs.Nodes.{copy-starts, copy-inverted}
-use borrow.Author.Rules.{rules}
 use Rattle.invert.proofs.inv_leaf.Goals as goal
 
 pub undo_record-requires : goal.undo_record-requires

@@ -1,6 +1,5 @@
 -- `invert::inv_node` meets its contract: the copy with its first record undone. Assumes nothing.
 use Rattle.invert.proofs.Nodes.{copy-starts, copy-inverted}
-use borrow.Author.Rules.{rules}
 use Rattle.invert.proofs.inv_node.Goals as goal
 
 pub undo_record-requires : goal.undo_record-requires

@@ -1,14 +1,12 @@
 -- `invert::inv_refusal` meets its contract. The loop's invariant: the refusal of what is left, or else `found`, is the tree's.
 -- Assumes nothing.
-use borrow.Author.Rules.{rules}
 use Prim.Native.Nat.{ℕ}
 use mathlib.Core.Path.{ap, ◌∙◌}
 use mathlib.Core.Option.{Option}
-use lib.ListN.{length}
 use Rattle.laws.specs.Inverted.{inv_refusal}
 use Rattle.invert.specs.Nodes.{over}
 use Rattle.invert.proofs.Nodes.{packed-starts}
-use Rattle.invert.proofs.Loops.{Looked, looked-none, looked-more, looked-all, inv-latest, inv-one}
+use Rattle.invert.proofs.Loops.{looked-none, looked-more, looked-all, inv-latest, inv-one}
 use Rattle.invert.proofs.inv_refusal.Goals as goal
 
 pub loop-t-init : goal.loop-t-init

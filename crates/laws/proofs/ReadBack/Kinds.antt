@@ -4,7 +4,7 @@ use Prim.Native.Char.{Char, code}
 use mathlib.Core.Path.{◌≡◌, refl, ap, ◌∙◌}
 use mathlib.Core.Bool.{Bool, true, false, not}
 use mathlib.Core.List.{List, [], ◌∷◌, ◌++◌}
-use mathlib.Core.Option.{Option, none}
+use mathlib.Core.Option.{Option}
 use lib.Dec.{leb, eqb}
 use lib.IntN.{ℤ, pos, negsuc}
 use lib.ListN.{length}
@@ -15,7 +15,7 @@ use Rattle.notation.specs.Chars.{is_family_char, classify}
 use Rattle.notation.specs.Utf8.{run, run_from, char_width, code_point}
 use Rattle.notation.specs.Numbers.{digit_run, show, show_signed, fits_bits}
 use Rattle.notation.specs.Layers.{LayerSetElement, MAX-LAYER}
-use Rattle.notation.specs.Tree.{Constraint, Layers, no_layers, single_layer, layer_range, layer_set, megaminx, Tree}
+use Rattle.notation.specs.Tree.{Constraint, Layers, no_layers, single_layer, layer_range, layer_set, Tree}
 use Rattle.notation.specs.Grammar.{
   Reader,
   read,

@@ -1,7 +1,6 @@
 -- Texts and trees that a reviewer thought of: odd whitespace, empty sets, leading zeros, each flag alone, NISS and −2147483648 at every
 -- place, parts that start inside a character, limits of layers, the lister.
 use Prim.Native.Nat.{ℕ, ◌<◌}
-use Prim.Native.String as S
 use Prim.Native.String.{String}
 use mathlib.Core.Path.{◌≡◌, refl}
 use mathlib.Core.Bool.{Bool, true, false}
@@ -21,7 +20,6 @@ use Rattle.notation.specs.Layers.{Range}
 use Rattle.notation.specs.Entries.{MAX-TEXT, tree_in, refusal_number, reading, deep_inverse, display, layer_ranges}
 use Rattle.notation.specs.Lister.{lister}
 use Rattle.notation.specs.Marked.{from, step_count, ascii}
-use Rattle.notation.specs.declared.features.LayerFeatures.{LayerFeatures}
 use Rattle.notation.specs.declared.features.Features.{Features}
 use Rattle.notation.specs.declared.common.GroupKind.TheVariants.{Simple}
 use Rattle.notation.specs.declared.common.BinaryGroupKind.TheVariants.{Commutator}

@@ -2,8 +2,8 @@
 use Prim.Native.Nat.{ℕ, ◌/◌}
 use Prim.Native.String.{String}
 use mathlib.Core.Path.{◌≡◌, refl}
-use mathlib.Core.List.{List, [], ◌∷◌, ◌++◌, map}
-use lib.ListN.{length, take, drop, replicate}
+use mathlib.Core.List.{List, [], ◌∷◌, map}
+use lib.ListN.{length, take, drop}
 use Rattle.notation.specs.Features.{MAXIMAL}
 use Rattle.notation.specs.Numbers.{from_big_endian}
 use Rattle.notation.specs.Packed.{RECORD}

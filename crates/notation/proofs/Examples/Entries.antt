@@ -1,14 +1,13 @@
 -- Entries with their buffers: refused, too short, exact, with bytes to spare.
 use Prim.Native.Nat.{ℕ}
-use Prim.Native.String as S
 use Prim.Native.String.{String}
 use mathlib.Core.Path.{◌≡◌, refl}
-use mathlib.Core.Bool.{Bool, true, false}
+use mathlib.Core.Bool.{true}
 use mathlib.Core.List.{List, [], ◌∷◌, ◌++◌, map}
-use lib.ListN.{replicate, length, take}
+use lib.ListN.{replicate}
 use Rattle.notation.specs.Features.{MAXIMAL}
-use Rattle.notation.specs.Refusals.{Outcome, refusal, result, ◌>>=◌}
-use Rattle.notation.specs.Entries.{Lent, lend, parse_notation, reading, display_entry, seek_step, flatten_entry, inv_entry, count_steps, simplify_bytes, family, family_refusal, tree_in}
+use Rattle.notation.specs.Refusals.{Outcome, refusal, result}
+use Rattle.notation.specs.Entries.{Lent, parse_notation, reading, display_entry, seek_step, inv_entry, count_steps, simplify_bytes, family, family_refusal}
 use Rattle.notation.specs.Unroll.{copies}
 use Rattle.notation.specs.Marked.{ascii}
 use Rattle.notation.proofs.Opened.{opened}

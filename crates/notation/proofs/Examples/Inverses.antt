@@ -1,6 +1,5 @@
 -- Shallow and deep inverses, printed.
 use Prim.Native.Nat.{ℕ}
-use Prim.Native.String as S
 use Prim.Native.String.{String}
 use mathlib.Core.Path.{◌≡◌, refl}
 use mathlib.Core.List.{List, [], ◌∷◌, map}

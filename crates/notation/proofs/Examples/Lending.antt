@@ -1,9 +1,9 @@
 -- Lent buffers by themselves: two that are written together or not at all, and answers that hold a place in every case.
-use Prim.Native.Nat.{ℕ, ◌+◌, ◌*◌}
+use Prim.Native.Nat.{◌+◌, ◌*◌}
 use mathlib.Core.Path.{◌≡◌, refl}
-use mathlib.Core.List.{List, [], ◌∷◌}
+use mathlib.Core.List.{[], ◌∷◌}
 use Rattle.notation.specs.Refusals.{Outcome, refusal, result}
-use Rattle.notation.specs.Lending.{Both, LentBoth, lend_both, kept_both, Placed, beside, LentAt, lend_at}
+use Rattle.notation.specs.Lending.{Both, lend_both, kept_both, beside, lend_at}
 use Rattle.notation.specs.Host.{coded_place}
 
 -- two bytes for the first buffer and one for the second, answering 7

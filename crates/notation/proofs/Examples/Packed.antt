@@ -1,18 +1,17 @@
 -- Packing and unpacking, on single records and a small tree.
-use Prim.Native.Nat.{ℕ, ◌+◌}
+use Prim.Native.Nat.{◌+◌}
 use mathlib.Core.Path.{◌≡◌, refl}
 use mathlib.Core.Bool.{true, false}
-use mathlib.Core.List.{List, [], ◌∷◌, foldr}
+use mathlib.Core.List.{[], ◌∷◌, foldr}
 use mathlib.Core.Option.{none, some}
 use lib.IntN.{pos, negsuc}
 use lib.ListN.{length}
 use Rattle.notation.specs.Numbers.{positional, digits}
-use Rattle.notation.specs.Tree
-use Rattle.notation.specs.Tree.{Tree, span, leaf, block, group, binary_group, nil, cons, rotation, move, pause, pair, slash, megaminx, layer_set, layer_range, no_layers}
+use Rattle.notation.specs.Tree.{Tree, span, leaf, block, group, binary_group, nil, cons, move, pause, pair, slash, layer_set, layer_range}
 use Rattle.notation.specs.Counts.{count_node, count_body, count}
 use Rattle.notation.specs.Packed.{widths, RECORD, binary_head, head_record, leaf_record, pack, pack_node, pack_body, size, node_size, body_size, unpack, unpack_from, head_of, lay_out, cut}
-use Rattle.notation.specs.declared.common.GroupKind.TheVariants.{Simple, Niss}
-use Rattle.notation.specs.declared.common.BinaryGroupKind.TheVariants.{Commutator, Conjugate}
+use Rattle.notation.specs.declared.common.GroupKind.TheVariants.{Niss}
+use Rattle.notation.specs.declared.common.BinaryGroupKind.TheVariants.{Commutator}
 
 -- the widths add up to the size of a record
 size-of-a-record : foldr (λ a b. a + b) 0 widths ≡ RECORD

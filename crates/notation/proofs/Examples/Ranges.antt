@@ -1,6 +1,5 @@
 -- Layer ranges: each kind of prefix, ends out of range, negatives allowed and not, sorting and joining; and the layers that a tilde lights.
 use Prim.Native.Nat.{ℕ}
-use Prim.Native.String as S
 use Prim.Native.String.{String}
 use mathlib.Core.Path.{◌≡◌, refl}
 use mathlib.Core.Bool.{Bool, true, false}

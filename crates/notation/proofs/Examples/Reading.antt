@@ -1,20 +1,17 @@
 -- Texts read and printed again, texts refused, and what some leaves are.
 use Prim.Native.Nat.{ℕ}
-use Prim.Native.String as S
 use Prim.Native.String.{String}
 use mathlib.Core.Path.{◌≡◌, refl}
-use mathlib.Core.Bool.{Bool, true, false}
+use mathlib.Core.Bool.{true, false}
 use mathlib.Core.List.{List, [], ◌∷◌, ◌++◌, map}
 use mathlib.Core.Option.{none, some}
 use lib.IntN.{pos, negsuc}
-use lib.ListN.{length, replicate}
+use lib.ListN.{replicate}
 use Rattle.notation.specs.Features.{MINIMAL, WCA, MAXIMAL}
-use Rattle.notation.specs.Tree.{Tree, span, Leaf, leaf, nil, cons, rotation, move, megaminx, no_layers}
-use Rattle.notation.specs.Packed.{nowhere}
+use Rattle.notation.specs.Tree.{span, leaf, nil, cons, rotation, move, megaminx, no_layers}
 use Rattle.notation.specs.Refusals.{Outcome, refusal, result, ◌>>=◌}
 use Rattle.notation.specs.Print.{printed}
 use Rattle.notation.specs.Entries.{tree_in, refusal_number}
-use Rattle.notation.specs.declared.features.LayerFeatures.{LayerFeatures}
 use Rattle.notation.specs.declared.features.Features.{Features}
 use Rattle.notation.specs.declared.common.MegaminxScrambleMove.TheVariants.{Rpp}
 use Rattle.notation.proofs.Opened.{opened}

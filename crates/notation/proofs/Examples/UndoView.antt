@@ -1,6 +1,5 @@
 -- The undo view: what the shallow inverse plays, and the deep one after it was printed and read back.
 use Prim.Native.Nat.{ℕ}
-use Prim.Native.String as S
 use Prim.Native.String.{String}
 use mathlib.Core.Path.{◌≡◌, refl}
 use mathlib.Core.List.{List, [], ◌∷◌, map}

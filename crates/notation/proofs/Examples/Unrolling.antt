@@ -1,15 +1,13 @@
 -- Unrolled lists, and the refusals that unrolling meets.
 use Prim.Native.Nat.{ℕ}
-use Prim.Native.String as S
-use Prim.Native.String.{String}
 use mathlib.Core.Path.{◌≡◌, refl}
-use mathlib.Core.List.{List, [], ◌∷◌, ◌++◌, map, append-nil}
+use mathlib.Core.List.{[], ◌∷◌, ◌++◌, map, append-nil}
 use mathlib.Core.Bool.{Bool, false}
 use mathlib.Core.Option.{none}
 use native.Mathlib.Omega.{arith}
 use lib.IntN.{ℤ, pos, negsuc}
 use Rattle.notation.specs.Features.{MAXIMAL}
-use Rattle.notation.specs.Refusals.{Outcome, refusal, result, ◌>>=◌}
+use Rattle.notation.specs.Refusals.{refusal, result}
 use Rattle.notation.specs.Tree.{Leaf, move, pair, no_layers, span, Node, leaf, block, group, binary_group, nil, cons, Tree}
 use Rattle.notation.specs.Unroll.{copies}
 use Rattle.notation.specs.Reached.{Reached, here, later, inside, in_first, in_conjugate}

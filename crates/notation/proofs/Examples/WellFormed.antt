@@ -4,10 +4,10 @@ use mathlib.Core.Path.{◌≡◌, refl}
 use mathlib.Core.Bool.{Bool, true, false}
 use mathlib.Core.List.{List, [], ◌∷◌, ◌++◌, map}
 use mathlib.Core.Option.{none, some}
-use lib.IntN.{ℤ, pos, negsuc}
+use lib.IntN.{pos, negsuc}
 use lib.ListN.{take, set, replicate}
-use Rattle.notation.specs.Tree.{span, Leaf, Tree, Node, leaf, block, group, binary_group, nil, cons, rotation, move, pause, pair, slash, no_layers, single_layer, layer_range, layer_set}
-use Rattle.notation.specs.Packed.{head_record, Head, leaf_head, group_head, binary_head, pack}
+use Rattle.notation.specs.Tree.{span, Leaf, Tree, block, group, nil, cons, rotation, move, pause, pair, no_layers, single_layer, layer_range, layer_set}
+use Rattle.notation.specs.Packed.{head_record, leaf_head, group_head, binary_head, pack}
 use Rattle.notation.specs.WellFormed.{well_formed}
 use Rattle.notation.specs.Clauses.{clause_by_clause, clauses}
 use Rattle.notation.specs.declared.common.GroupKind.TheVariants.{Simple, Niss}

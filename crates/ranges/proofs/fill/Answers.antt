@@ -1,7 +1,7 @@
 -- `fill` meets its contract: one more range stands at the front after each turn.
-use Rattle.std.proofs.Common.{◌≡◌, ◌+◌, ◌<◌, List, length, set, ap, ap₂, ◌∙◌, arith}
+use Rattle.std.proofs.Common.{◌<◌, List, length, set, ap₂, ◌∙◌, arith}
 use Rattle.layer.specs.declared.range.LayerRange.{LayerRange}
-use Rattle.ranges.proofs.Front.{front, next-front}
+use Rattle.ranges.proofs.Front.{next-front}
 use Rattle.ranges.proofs.fill.Goals as goal
 
 pub loop-k-preserved : goal.loop-k-preserved

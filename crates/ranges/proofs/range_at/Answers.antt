@@ -1,5 +1,4 @@
 -- `ranges::range_at` meets its contract. Assumes nothing.
-use borrow.Author.Rules.{rules}
 use Rattle.ranges.proofs.range_at.Goals as goal
 
 pub returns : goal.returns

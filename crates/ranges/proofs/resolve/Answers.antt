@@ -1,5 +1,4 @@
 -- `ranges::resolve` meets its contract: each way out is one case of the rule. Assumes nothing.
-use borrow.Author.Rules.{rules}
 use Rattle.ranges.proofs.Answers.{resolved-refusal, resolved-full, resolved-value}
 use Rattle.ranges.proofs.resolve.Goals as goal
 

@@ -1,5 +1,5 @@
 -- `simplify` meets its contract: what `resolve` answers is filled in.
-use Rattle.std.proofs.Common.{◌≡◌, ◌++◌, ◌*◌, ◌≤◌, ℕ, List, map, length, drop, refl, ap, ◌∙◌, sym, subst}
+use Rattle.std.proofs.Common.{◌++◌, ℕ, List, map, drop, refl, ap, ◌∙◌}
 use Rattle.notation.specs.Entries.{lent}
 use Rattle.layer.specs.Meaning.{range}
 use Rattle.layer.specs.declared.range.LayerRange.{LayerRange}

@@ -2,7 +2,6 @@
 use mathlib.Core.Path.{refl, ap, ◌∙◌}
 use Prim.Native.Nat.{ℕ, ◌%◌}
 use native.Mathlib.Omega.{arith}
-use borrow.Author.Rules.{rules}
 use Rattle.record.specs.Meaning.{with_field, COUNT}
 use Rattle.record.proofs.KindTests.{group-low, no-group-high}
 use Rattle.tally.proofs.Counted.{group-fits, group-counts, group-adds, leaf-counts, leaf-adds}

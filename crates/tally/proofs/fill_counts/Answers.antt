@@ -3,7 +3,7 @@ use Prim.Native.Nat.{◌-◌}
 use mathlib.Core.Path.{refl}
 use native.Mathlib.Omega.{arith}
 use Rattle.notation.specs.Packed.{RECORD}
-use Rattle.tally.proofs.Filling.{Filling, filling-starts, filling-on, filling-ends, record-before, own_open, sums-capped}
+use Rattle.tally.proofs.Filling.{filling-starts, filling-on, filling-ends, record-before, own_open, sums-capped}
 use Rattle.tally.proofs.fill_counts.Goals as goal
 
 pub loop-at-init : goal.loop-at-init

@@ -1,9 +1,5 @@
 -- `fill_counts` meets its contract. Assumes nothing.
-use Prim.Native.Nat.{◌-◌}
-use mathlib.Core.Path.{refl}
-use native.Mathlib.Omega.{arith}
-use Rattle.notation.specs.Packed.{RECORD}
-use Rattle.tally.proofs.Filling.{Filling, filling-starts, filling-on, filling-ends, record-before, own_open, sums-capped}
+use Rattle.tally.proofs.Filling.{Filling}
 use Rattle.tally.proofs.fill_counts.Given as goal
 
 abbrev pub invariant-loop-at : goal.invariant-loop-at

@@ -1,7 +1,6 @@
 -- `group_count` meets its contract. Assumes nothing.
 use Prim.Native.Nat.{ℕ, ◌+◌}
 use mathlib.Core.Path.{refl, ap₂, ◌∙◌}
-use borrow.Author.Rules.{rules}
 use lib.ListN.{get_or}
 use Rattle.notation.specs.Numbers.{from_bits}
 use Rattle.counts.specs.Groups.{group_count}
@@ -14,6 +13,9 @@ of_group-count-requires c =
 
 pub returns : goal.returns
 returns c =
-    let a = c.args in record { value = c.of_group-count.ensures
+    let a = c.args in record {
+      value = c.of_group-count.ensures
           ∙ ap₂ (λ (k n : ℕ). group_count k (from_bits 32 n) (get_or a.sums.now (a.tally + 2) 0) (get_or a.sums.now (a.tally + 1) 0))
-          c.kind.ensures c.number.ensures; sums_after = refl }
+          c.kind.ensures c.number.ensures;
+      sums_after = refl;
+    }

@@ -3,7 +3,6 @@ use borrow.Author.Tests.{ne_eqb}
 use Rattle.charsets.proofs.Sets.{class-of}
 use mathlib.Core.Path.{◌∙◌, sym}
 use Rattle.notation.specs.Chars.{classify}
-use borrow.Author.Rules.{rules}
 use Rattle.charsets.proofs.chars.classify.Goals as goal
 
 pub returns-in-1 : goal.returns-in-1

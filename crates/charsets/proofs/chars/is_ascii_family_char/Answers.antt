@@ -1,6 +1,5 @@
 -- `charsets::chars::is_ascii_family_char` meets its contract: in ASCII no other family characters stand.
 use mathlib.Core.Path.{sym, ◌∙◌}
-use borrow.Author.Rules.{rules}
 use Rattle.charsets.proofs.Sets.{ascii-family}
 use Rattle.charsets.proofs.chars.is_ascii_family_char.Goals as goal
 

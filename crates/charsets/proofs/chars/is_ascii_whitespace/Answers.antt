@@ -1,6 +1,5 @@
 -- `charsets::chars::is_ascii_whitespace` meets its contract: nothing above the space, then the space, then the range that is left.
 use mathlib.Core.Path.{◌∙◌, sym}
-use borrow.Author.Rules.{rules}
 use Rattle.notation.specs.Basics.{one_of}
 use Rattle.notation.specs.Chars.{white_space}
 use Rattle.charsets.proofs.Spaces.{ascii, above-space}

@@ -1,5 +1,4 @@
 -- `charsets::chars::is_family_char` meets its contract: past ASCII every class but the primes.
-use borrow.Author.Rules.{rules}
 use borrow.Author.Tests.{not-true, not-false}
 use mathlib.Core.List.{[], ◌∷◌}
 use mathlib.Core.Path.{sym, ap, ◌∙◌}

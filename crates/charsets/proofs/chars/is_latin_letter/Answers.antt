@@ -1,6 +1,5 @@
 -- `charsets::chars::is_latin_letter` meets its contract: the two ranges in turn.
 use mathlib.Core.Path.{◌∙◌, sym}
-use borrow.Author.Rules.{rules}
 use Rattle.charsets.proofs.chars.is_latin_letter.Goals as goal
 
 pub returns-then-between : goal.returns-then-between

@@ -1,6 +1,5 @@
 -- `charsets::chars::is_prime` meets its contract: the apostrophe, then the two past the table.
 use mathlib.Core.Path.{sym, ◌∙◌}
-use borrow.Author.Rules.{rules}
 use borrow.Author.Tests.{eq-eqb, ne_eqb}
 use mathlib.Core.Logic.{inl}
 use Rattle.notation.specs.Basics.{one_of}

@@ -3,7 +3,6 @@ use Rattle.charsets.proofs.Spaces.{listed, separators, unlisted}
 use Rattle.charsets.proofs.Bools.{below, above}
 use mathlib.Core.Logic.{⊎_elim}
 use mathlib.Core.Path.{◌∙◌, sym}
-use borrow.Author.Rules.{rules}
 use Rattle.charsets.proofs.chars.is_whitespace.Goals as goal
 
 pub returns-in_default : goal.returns-in_default

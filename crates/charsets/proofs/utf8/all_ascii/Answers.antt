@@ -3,7 +3,6 @@ use native.Mathlib.Omega.{arith}
 use borrow.Author.Tests.{leb-true}
 use Rattle.charsets.proofs.Bools.{contra}
 use Rattle.charsets.proofs.Runs.{utf8-ascii}
-use borrow.Author.Rules.{rules}
 use Rattle.charsets.proofs.utf8.all_ascii.Goals as goal
 
 pub returns-then-s-at-lt8 : goal.returns-then-s-at-lt8

@@ -3,7 +3,6 @@ use Rattle.charsets.proofs.Texts.{in-text}
 use lib.ListN.{get_or-eq_default}
 use native.Mathlib.Omega.{arith}
 use mathlib.Core.Path.{sym}
-use borrow.Author.Rules.{rules}
 use Rattle.charsets.proofs.utf8.byte_at.Goals as goal
 
 pub overflow_cast-result : goal.overflow_cast-result

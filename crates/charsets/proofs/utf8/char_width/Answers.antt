@@ -4,8 +4,7 @@ use Rattle.notation.specs.Utf8.{char_width}
 use lib.ListN.{drop, drop_of_length-le}
 use borrow.Author.Tests.{le-leb, lt-leb}
 use mathlib.Core.Path.{◌≡◌, ◌∙◌, sym, refl}
-use mathlib.Core.Bool.{Bool, true, false}
-use borrow.Author.Rules.{rules}
+use mathlib.Core.Bool.{Bool, false}
 use Rattle.charsets.proofs.utf8.char_width.Goals as goal
 use Rattle.charsets.proofs.utf8.char_width.Goals.{After-is_four_bytes}
 

@@ -5,7 +5,6 @@ use native.Mathlib.Omega.{arith}
 use borrow.Author.Tests.{le-leb, lt-leb}
 use Rattle.charsets.proofs.Texts.{in-text}
 use Rattle.charsets.proofs.Widths.{Stands, stands, point_at}
-use borrow.Author.Rules.{rules}
 use Rattle.charsets.proofs.utf8.code_point.Goals as goal
 use Rattle.charsets.proofs.utf8.code_point.Goals.{Start}
 

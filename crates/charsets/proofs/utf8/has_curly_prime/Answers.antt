@@ -2,7 +2,6 @@
 use mathlib.Core.Path.{◌∙◌}
 use mathlib.Core.Bool.{false}
 use native.Mathlib.Omega.{arith}
-use borrow.Author.Rules.{rules}
 use lib.ListN.{drop, length-drop}
 use Rattle.charsets.proofs.Signs.{curly-is, curly-short, bytes-at}
 use Rattle.charsets.proofs.utf8.has_curly_prime.Goals as goal

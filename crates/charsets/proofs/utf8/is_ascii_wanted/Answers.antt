@@ -1,5 +1,4 @@
 -- `charsets::utf8::is_ascii_wanted` meets its contract: by either value of the flag.
-use borrow.Author.Rules.{rules}
 use Rattle.charsets.proofs.utf8.is_ascii_wanted.Goals as goal
 
 pub returns-then-white : goal.returns-then-white

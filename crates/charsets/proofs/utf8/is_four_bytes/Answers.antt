@@ -1,10 +1,8 @@
 -- `charsets::utf8::is_four_bytes` meets its contract: the first two tests meet in a flag, and the third follows.
 use mathlib.Core.Path.{◌≡◌, ◌∙◌, sym}
 use mathlib.Core.Bool.{◌&&◌}
-use mathlib.Core.Logic.{⊎_elim}
 use Rattle.notation.specs.Utf8.{continuation}
 use Rattle.charsets.proofs.Widths.{starts-four}
-use borrow.Author.Rules.{rules}
 use Rattle.charsets.proofs.utf8.is_four_bytes.Goals as goal
 use Rattle.charsets.proofs.utf8.is_four_bytes.Goals.{Joined-starts_four, else-starts_four, then-starts_four}
 

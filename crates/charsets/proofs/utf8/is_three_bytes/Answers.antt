@@ -1,6 +1,5 @@
 -- `charsets::utf8::is_three_bytes` meets its contract: the two tests in turn.
 use mathlib.Core.Path.{◌∙◌, sym}
-use borrow.Author.Rules.{rules}
 use Rattle.charsets.proofs.utf8.is_three_bytes.Goals as goal
 
 pub returns-then-starts_three : goal.returns-then-starts_three

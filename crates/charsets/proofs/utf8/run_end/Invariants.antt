@@ -1,12 +1,10 @@
 -- `charsets::utf8::run_end` meets its contract: by the laws of a walk along a run.
 use Prim.Native.Nat.{ℕ, ◌-◌}
 use mathlib.Core.Bool.{Bool}
-use native.Mathlib.Omega.{arith}
-use borrow.Author.Rules.{rules}
 use lib.ListN.{length}
 use Rattle.notation.specs.Basics.{pick}
 use Rattle.notation.specs.Chars.{is_family_char, white_space}
-use Rattle.charsets.proofs.Runs.{Reached, set_out, fits, goes_on, arrived, at-the-end}
+use Rattle.charsets.proofs.Runs.{Reached}
 use Rattle.charsets.proofs.utf8.run_end.Given as goal
 
 abbrev pub wanted : Bool → ℕ → Bool

@@ -1,6 +1,5 @@
 -- `charsets::utf8::starts_three` meets its contract: the two tests in turn, with the bounds that `pick` gives.
 use mathlib.Core.Path.{◌∙◌, sym}
-use borrow.Author.Rules.{rules}
 use Rattle.charsets.proofs.utf8.starts_three.Goals as goal
 
 pub returns-then-between : goal.returns-then-between

@@ -1,5 +1,4 @@
 -- `charsets::utf8::wide_width` meets its contract: by the laws of a width under a test.
-use borrow.Author.Rules.{rules}
 use Rattle.notation.specs.Basics.{pick}
 use Rattle.notation.specs.Chars.{is_family_char, white_space}
 use Rattle.charsets.proofs.Widths.{width-wide, width-none}

@@ -1,5 +1,4 @@
 -- `charsets::utf8::width` meets its contract: by the law of an ASCII character's width under a test.
-use borrow.Author.Rules.{rules}
 use Rattle.notation.specs.Basics.{pick}
 use Rattle.notation.specs.Chars.{is_family_char, white_space}
 use Rattle.charsets.proofs.Widths.{width-ascii}

@@ -2,7 +2,6 @@
 use Prim.Native.Nat.{ℕ}
 use mathlib.Core.Path.{ap}
 use Rattle.notation.specs.Tree.{Span}
-use borrow.Author.Rules.{rules}
 use Rattle.display.proofs.bound.allowance.Goals as goal
 
 pub returns : goal.returns

@@ -1,9 +1,6 @@
 -- `bound::fits` meets its contract: only where all records were counted off does it say that the text fits. Assumes nothing.
-use native.Mathlib.Omega.{arith}
-use borrow.Author.Rules.{rules}
 use lib.ListN.{length}
-use Rattle.laws.proofs.Bools.{false-true}
-use Rattle.display.proofs.Sure.{Going, going-starts, going-room, going_on, going-shorter, going-all}
+use Rattle.display.proofs.Sure.{Going}
 use Rattle.display.proofs.bound.fits.Given as goal
 
 abbrev pub invariant-loop-t : goal.invariant-loop-t

@@ -1,6 +1,5 @@
 -- One after the other. Assumes nothing.
 use Rattle.display.proofs.Writing.{wrote_then}
-use borrow.Author.Rules.{rules}
 use Rattle.display.proofs.common.put_closing.Goals as goal
 
 pub returns : goal.returns

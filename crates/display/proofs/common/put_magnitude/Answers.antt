@@ -1,7 +1,6 @@
 -- A magnitude of 1 is not printed. Assumes nothing.
 use Rattle.display.proofs.Writing.{wrote_none}
 use Rattle.display.proofs.Signs.{magnitude-one, magnitude-other}
-use borrow.Author.Rules.{rules}
 use Rattle.display.proofs.common.put_magnitude.Goals as goal
 
 pub returns-then-n-eq1 : goal.returns-then-n-eq1

@@ -2,7 +2,6 @@
 use mathlib.Core.Logic.{⊎_elim, inl, inr}
 use Rattle.display.proofs.Writing.{wrote_then}
 use Rattle.display.proofs.ByKind.{letter-is, sign-is, scrambled}
-use borrow.Author.Rules.{rules}
 use Rattle.display.proofs.common.put_megaminx.Goals as goal
 
 pub returns : goal.returns

@@ -1,6 +1,5 @@
 -- Each arm. Assumes nothing.
 use Rattle.display.proofs.ByKind.{simple-opened, macro-opened, simultaneous-opened, niss-opened}
-use borrow.Author.Rules.{rules}
 use Rattle.display.proofs.common.put_opening.Goals as goal
 
 pub returns-in-0 : goal.returns-in-0

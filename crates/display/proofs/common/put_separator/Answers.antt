@@ -1,6 +1,5 @@
 -- Each arm. Assumes nothing.
 use Rattle.display.proofs.ByKind.{commutator-separated, conjugate-separated}
-use borrow.Author.Rules.{rules}
 use Rattle.display.proofs.common.put_separator.Goals as goal
 
 pub returns-in-4 : goal.returns-in-4

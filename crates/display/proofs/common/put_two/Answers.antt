@@ -1,5 +1,4 @@
 -- One after the other. Assumes nothing.
-use borrow.Author.Rules.{rules}
 use Rattle.display.proofs.Writing.{wrote_then}
 use Rattle.display.proofs.common.put_two.Goals as goal
 

@@ -1,10 +1,7 @@
 -- The loop keeps what printing the rest of the part completes. Assumes nothing.
-use borrow.Author.Rules.{rules}
 use Prim.Native.Nat.{◌-◌}
-use mathlib.Core.Path.{sym, ◌∙◌}
-use native.Mathlib.Omega.{arith}
 use lib.ListN.{length}
-use Rattle.display.proofs.Squeezing.{Remaining, all-remains, byte_put, space-fits, space-passed, none-remains}
+use Rattle.display.proofs.Squeezing.{Remaining}
 use Rattle.display.proofs.constraints.put_squeezed.Given as goal
 
 abbrev pub invariant-loop-i : goal.invariant-loop-i

@@ -6,7 +6,6 @@ use borrow.Author.Tests.{ne_eqb}
 use lib.Dec.{eqb}
 use lib.ListN.{get_or-eq_default}
 use Rattle.charsets.proofs.Texts.{in-text}
-use borrow.Author.Rules.{rules}
 use Rattle.display.proofs.sets.is_comma.Goals as goal
 
 pub returns-then-at-part : goal.returns-then-at-part

@@ -1,7 +1,6 @@
 -- Read or not. Assumes nothing.
 use mathlib.Core.Path.{refl}
 use Rattle.display.proofs.Elements.{no-element, an-element}
-use borrow.Author.Rules.{rules}
 use Rattle.display.proofs.sets.put_element.Goals as goal
 
 pub returns-in_default : goal.returns-in_default

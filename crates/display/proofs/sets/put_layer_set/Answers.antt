@@ -13,7 +13,6 @@ use Rattle.charsets.proofs.Runs.{end-length}
 use Rattle.display.specs.Sets.{Following, PutItem}
 use Rattle.display.proofs.Writing.{wrote_then}
 use Rattle.display.proofs.Elements.{set_long, set-empty, set_first, item-end, put_item, not-put}
-use borrow.Author.Rules.{rules}
 use Rattle.display.proofs.sets.put_layer_set.Goals as goal
 use Rattle.display.proofs.sets.put_layer_set.Goals.{After-whitespace_end-first, In-Put}
 

@@ -1,6 +1,5 @@
 -- Each arm. Assumes nothing.
 use Rattle.display.proofs.Writing.{wrote_then}
-use borrow.Author.Rules.{rules}
 use Rattle.display.proofs.sets.put_layer_set_element.Goals as goal
 
 pub returns-in-Single : goal.returns-in-Single

@@ -1,21 +1,15 @@
 -- The loop keeps what printing the elements that are left completes. Assumes nothing.
-use borrow.Author.Rules.{rules}
-use Prim.Native.Nat.{◌+◌, ◌-◌, ◌≤◌, ◌<◌}
+use Prim.Native.Nat.{◌+◌, ◌≤◌, ◌<◌}
 use mathlib.Core.Path.{◌≡◌, refl, sym, ◌∙◌}
 use mathlib.Core.Bool.{true}
-use mathlib.Core.List.{List}
 use native.Mathlib.Omega.{arith}
 use lib.Dec.{eqb}
 use lib.ListN.{length}
 use Rattle.notation.specs.Chars.{white_space}
 use Rattle.notation.specs.Utf8.{byte_at}
-use Rattle.notation.specs.Layers.{LayerSetElement}
-use Rattle.notation.specs.Grammar.{layer_set_element}
 use Rattle.charsets.proofs.Runs.{end-length}
 use Rattle.parse.proofs.Bytes.{seen}
-use Rattle.display.specs.Written.{MOST}
-use Rattle.display.specs.Sets.{Following}
-use Rattle.display.proofs.Elements.{Sofar, sofar-none, sofar-all, sofar-never, sofar-more, item-end, put_item, not-put}
+use Rattle.display.proofs.Elements.{sofar-none, sofar-all, sofar-never, sofar-more, item-end, put_item, not-put}
 use Rattle.display.proofs.sets.put_more.Goals as goal
 use Rattle.display.proofs.sets.put_more.Goals.{After-whitespace_end-first, Then-is_comma}
 

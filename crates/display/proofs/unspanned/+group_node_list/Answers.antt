@@ -1,10 +1,7 @@
 -- `group` and `node_list` meet their contracts. A list's measure lies above that of the groups in it, which lies above that of the
 -- lists in the group. Assumes nothing.
-use borrow.Author.Rules.{rules}
-use Prim.Native.Nat.{◌+◌, ◌*◌}
 use mathlib.Core.Path.{refl, ap}
 use mathlib.Core.Logic.{⊎_elim}
-use mathlib.Core.List.{List}
 use native.Mathlib.Omega.{arith}
 use lib.Dec.{lit≤}
 use lib.ListN.{length}
@@ -120,11 +117,10 @@ pub node_list-node_end-end-requires : goal.node_list-node_end-end-requires
 node_list-node_end-end-requires t c = record { packed = c.loop-t.invariant.packed_left; list_nonzero = c.loop-t-test.true }
 
 pub node_list-group-next-requires : goal.node_list-group-next-requires
-node_list-group-next-requires t c =
-    (
-      node-less c.args.tree.now c.loop-t.t.now c.node_end-end.result _ c.loop-t.invariant.shorter c.decreases,
-      (c.loop-t.invariant.place, (first_good c.args.text.now c.node_end-end.ensures c.loop-t.invariant.ok, first-low c.node_end-end.ensures refl (no-leaf-low c.is_leaf.ensures c.if-is_leaf.false))),
-    )
+node_list-group-next-requires t c = (
+  node-less c.args.tree.now c.loop-t.t.now c.node_end-end.result _ c.loop-t.invariant.shorter c.decreases,
+  (c.loop-t.invariant.place, (first_good c.args.text.now c.node_end-end.ensures c.loop-t.invariant.ok, first-low c.node_end-end.ensures refl (no-leaf-low c.is_leaf.ensures c.if-is_leaf.false))),
+)
 
 -- after a node
 others : {t : ℕ} (c : node_list-Joined-is_leaf t) → Listing put_others c.args.text.now c.args.tree.now c.if-is_leaf.t.now c.args.out.now c.if-is_leaf.out c.args.at c.if-is_leaf.next × (length c.if-is_leaf.t.now < length c.loop-t.t.now)

@@ -1,7 +1,6 @@
 -- What stands from the start on is the whole text. Assumes nothing.
 use native.Mathlib.Omega.{arith}
 use Rattle.display.proofs.Writing.{wrote-whole}
-use borrow.Author.Rules.{rules}
 use Rattle.display.proofs.unspanned.display.Goals as goal
 
 pub returns : goal.returns

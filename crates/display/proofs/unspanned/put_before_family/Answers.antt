@@ -3,7 +3,6 @@ use mathlib.Core.Path.{◌∙◌}
 use native.Mathlib.Omega.{arith}
 use Rattle.display.proofs.Writing.{wrote_then}
 use Rattle.display.proofs.Leaves.{rotation-before, move-before, no-layers}
-use borrow.Author.Rules.{rules}
 use Rattle.display.proofs.unspanned.put_before_family.Goals as goal
 
 pub returns-then-kind-eq-ROTATION : goal.returns-then-kind-eq-ROTATION

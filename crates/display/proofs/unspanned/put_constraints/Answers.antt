@@ -2,7 +2,6 @@
 use native.Mathlib.Omega.{arith}
 use Rattle.display.proofs.Writing.{wrote_none}
 use Rattle.display.proofs.Leaves.{no-constraints, some-constraints, constraints-within, constraints-print}
-use borrow.Author.Rules.{rules}
 use Rattle.display.proofs.unspanned.put_constraints.Goals as goal
 
 pub put_squeezed-requires : goal.put_squeezed-requires

@@ -1,7 +1,6 @@
 -- Each arm. Assumes nothing.
 use Rattle.display.proofs.Writing.{wrote_none, wrote_then}
 use Rattle.display.proofs.Leaves.{layers-within, layers-set, layers-print}
-use borrow.Author.Rules.{rules}
 use Rattle.display.proofs.unspanned.put_layers.Goals as goal
 
 pub slice_bounds-put_layer_set-end : goal.slice_bounds-put_layer_set-end

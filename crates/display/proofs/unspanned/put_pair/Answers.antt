@@ -1,7 +1,6 @@
 -- One after the other. Assumes nothing.
 use Rattle.notation.specs.Print.{put_step}
 use Rattle.display.proofs.Writing.{wrote_then}
-use borrow.Author.Rules.{rules}
 use Rattle.display.proofs.unspanned.put_pair.Goals as goal
 
 pub returns : goal.returns

@@ -6,7 +6,6 @@ use native.Mathlib.Omega.{arith}
 use borrow.Author.Tests.{leb-true}
 use lib.ListN.{length, take, drop}
 use Rattle.display.proofs.Writing.{wrote_as}
-use borrow.Author.Rules.{rules}
 use Rattle.display.proofs.unspanned.put_part.Goals as goal
 
 pub put_between-requires : goal.put_between-requires

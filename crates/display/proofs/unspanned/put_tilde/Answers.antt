@@ -1,6 +1,5 @@
 -- Each arm. Assumes nothing.
 use Rattle.display.proofs.Writing.{wrote_none}
-use borrow.Author.Rules.{rules}
 use Rattle.display.proofs.unspanned.put_tilde.Goals as goal
 
 pub returns-then-inverted : goal.returns-then-inverted

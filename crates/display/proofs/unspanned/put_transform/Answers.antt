@@ -2,7 +2,6 @@
 use native.Mathlib.Omega.{arith}
 use Rattle.display.proofs.Writing.{wrote_then}
 use Rattle.display.proofs.Leaves.{family-ok, transform-as}
-use borrow.Author.Rules.{rules}
 use Rattle.display.proofs.unspanned.put_transform.Goals as goal
 
 pub put_part-middle-requires : goal.put_part-middle-requires

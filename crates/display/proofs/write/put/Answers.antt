@@ -1,5 +1,4 @@
 -- A byte is stored where it fits, and counted where it does not. Assumes nothing.
-use borrow.Author.Rules.{rules}
 use native.Mathlib.Omega.{arith}
 use Rattle.display.proofs.Writing.{wrote-byte, byte_past}
 use Rattle.display.proofs.write.put.Goals as goal

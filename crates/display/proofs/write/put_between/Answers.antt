@@ -1,8 +1,6 @@
 -- The loop copies byte by byte. Assumes nothing.
-use borrow.Author.Rules.{rules}
-use Prim.Native.Nat.{◌-◌}
 use native.Mathlib.Omega.{arith}
-use Rattle.display.proofs.Writing.{part-past, Copied, copied_none, copied-one, copied_all}
+use Rattle.display.proofs.Writing.{part-past, copied_none, copied-one, copied_all}
 use Rattle.display.proofs.write.put_between.Goals as goal
 
 pub returns-then-out-end : goal.returns-then-out-end

@@ -1,8 +1,6 @@
 -- The loop copies byte by byte. Assumes nothing.
-use borrow.Author.Rules.{rules}
 use Prim.Native.Nat.{◌-◌}
-use native.Mathlib.Omega.{arith}
-use Rattle.display.proofs.Writing.{part-past, Copied, copied_none, copied-one, copied_all}
+use Rattle.display.proofs.Writing.{Copied}
 use Rattle.display.proofs.write.put_between.Given as goal
 
 abbrev pub invariant-loop-i : goal.invariant-loop-i

@@ -4,7 +4,6 @@ use mathlib.Core.List.{List, ◌++◌}
 use Prim.Native.Nat.{ℕ}
 use Rattle.nodes.proofs.Nodes.{part-rest}
 use Rattle.display.proofs.Writing.{wrote_as}
-use borrow.Author.Rules.{rules}
 use Rattle.display.proofs.write.put_bytes.Goals as goal
 
 pub returns : goal.returns

@@ -3,7 +3,6 @@ use mathlib.Core.Path.{sym}
 use Rattle.notation.specs.Numbers.{show}
 use Rattle.display.proofs.Writing.{wrote_as}
 use Rattle.display.proofs.Decimals.{show-digit}
-use borrow.Author.Rules.{rules}
 use Rattle.display.proofs.write.put_number.Goals as goal
 
 pub returns-then-n-lt10 : goal.returns-then-n-lt10

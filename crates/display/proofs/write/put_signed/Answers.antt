@@ -2,7 +2,6 @@
 use Rattle.notation.specs.Numbers.{from_bits}
 use Rattle.display.proofs.Writing.{wrote_then}
 use Rattle.display.proofs.Signs.{signed-negative, signed-positive}
-use borrow.Author.Rules.{rules}
 use Rattle.display.proofs.write.put_signed.Goals as goal
 
 pub returns-then-is_negative : goal.returns-then-is_negative

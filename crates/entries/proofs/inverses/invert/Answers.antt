@@ -1,7 +1,6 @@
 -- `inverses::invert` meets its contract: each way out is one case of the rule. Assumes nothing.
 use mathlib.Core.Path.{sym, ap, ◌∙◌}
 use native.Mathlib.Omega.{arith}
-use borrow.Author.Rules.{rules}
 use lib.ListN.{length-take}
 use Rattle.notation.specs.Entries.{outcome}
 use Rattle.entries.proofs.Inverting.{inverting, inverse-unaccepted, inverse-refused, inverse-short, inverse-written}

@@ -1,5 +1,4 @@
 -- `inverses::refusal` meets its contract: one of the two. Assumes nothing.
-use borrow.Author.Rules.{rules}
 use Rattle.entries.proofs.inverses.refusal.Goals as goal
 
 pub returns-then-deep : goal.returns-then-deep

@@ -1,5 +1,4 @@
 -- `inverses::write` meets its contract: one of the two. Assumes nothing.
-use borrow.Author.Rules.{rules}
 use Rattle.entries.proofs.inverses.write.Goals as goal
 
 pub returns-then-deep : goal.returns-then-deep

@@ -1,6 +1,5 @@
 -- `parts::family` meets its contract: each way out is one case of the rule. Assumes nothing.
 use mathlib.Core.Path.{◌∙◌, sym, ap, subst}
-use borrow.Author.Rules.{rules}
 use borrow.Author.Tests.{leb-true}
 use Rattle.entries.specs.Parts.{part_outcome, Inside}
 use Rattle.entries.proofs.Naming.{family-part, family-empty}

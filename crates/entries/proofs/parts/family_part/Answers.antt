@@ -2,7 +2,6 @@
 use Prim.Native.Nat.{ℕ, ◌/◌, ◌≤◌, ◌<◌}
 use mathlib.Core.Path.{◌∙◌, refl, ap, sym, subst}
 use native.Mathlib.Omega.{arith}
-use borrow.Author.Rules.{rules}
 use lib.ListN.{length}
 use Rattle.notation.specs.Refusals.{result}
 use Rattle.notation.specs.Tree.{Span}
@@ -30,19 +29,31 @@ returns-then-tree-record c =
 pub returns-then-is_group : goal.returns-then-is_group
 returns-then-is_group c =
     let a = c.args in
-    let k = c.check-checked.ensures.found _ (ap outcome c.in-Value.is) in record { result_value = family-low (found a.tree.now a.«record») _ refl (group-low c.is_group.ensures c.if-is_group.true)
-          ∙ family-is a.text.now a.tree.now a.«record» k.accepted (omega (arith, c.if-tree-record.false)); inside = tt; fits = tt }
+    let k = c.check-checked.ensures.found _ (ap outcome c.in-Value.is) in record {
+      result_value = family-low (found a.tree.now a.«record») _ refl (group-low c.is_group.ensures c.if-is_group.true)
+          ∙ family-is a.text.now a.tree.now a.«record» k.accepted (omega (arith, c.if-tree-record.false));
+      inside = tt;
+      fits = tt;
+    }
 
 pub returns-then-kind-gt-MOVE : goal.returns-then-kind-gt-MOVE
 returns-then-kind-gt-MOVE c =
     let a = c.args in
-    let k = c.check-checked.ensures.found _ (ap outcome c.in-Value.is) in record { result_value = family-high (found a.tree.now a.«record») c.kind.result c.kind.ensures c.if-kind-gt-MOVE.true
-          ∙ family-is a.text.now a.tree.now a.«record» k.accepted (omega (arith, c.if-tree-record.false)); inside = tt; fits = tt }
+    let k = c.check-checked.ensures.found _ (ap outcome c.in-Value.is) in record {
+      result_value = family-high (found a.tree.now a.«record») c.kind.result c.kind.ensures c.if-kind-gt-MOVE.true
+          ∙ family-is a.text.now a.tree.now a.«record» k.accepted (omega (arith, c.if-tree-record.false));
+      inside = tt;
+      fits = tt;
+    }
 
 pub returns : goal.returns
 returns c =
     let a = c.args in
     let k = c.check-checked.ensures.found _ (ap outcome c.in-Value.is) in
     let less : a.«record» < length a.tree.now / RECORD = omega (arith, c.if-tree-record.false) in
-    let low = subst (λ (k : ℕ). 6 ≤ k) (sym c.kind.ensures) (no-group-high c.is_group.ensures c.if-is_group.false) in record { result_value = ap result c.family_of.ensures.result_value ∙ family-named (found a.tree.now a.«record») c.kind.result c.kind.ensures low c.if-kind-gt-MOVE.false ∙ family-is a.text.now a.tree.now a.«record» k.accepted less; inside = ap (λ (p : Span). inside a.text.now p) c.family_of.ensures.result_value
-            ∙ family-inside (found a.tree.now a.«record») c.kind.result c.kind.ensures a.text.now low c.if-kind-gt-MOVE.false (accepted-record a.text.now a.tree.now a.«record» k.accepted less); fits = c.family_of.ensures.fits_span }
+    let low = subst (λ (k : ℕ). 6 ≤ k) (sym c.kind.ensures) (no-group-high c.is_group.ensures c.if-is_group.false) in record {
+      result_value = ap result c.family_of.ensures.result_value ∙ family-named (found a.tree.now a.«record») c.kind.result c.kind.ensures low c.if-kind-gt-MOVE.false ∙ family-is a.text.now a.tree.now a.«record» k.accepted less;
+      inside = ap (λ (p : Span). inside a.text.now p) c.family_of.ensures.result_value
+          ∙ family-inside (found a.tree.now a.«record») c.kind.result c.kind.ensures a.text.now low c.if-kind-gt-MOVE.false (accepted-record a.text.now a.tree.now a.«record» k.accepted less);
+      fits = c.family_of.ensures.fits_span;
+    }

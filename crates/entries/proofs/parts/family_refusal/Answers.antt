@@ -1,6 +1,5 @@
 -- `parts::family_refusal` meets its contract: each way out is one case of the rule. Assumes nothing.
 use mathlib.Core.Path.{◌∙◌, sym, ap}
-use borrow.Author.Rules.{rules}
 use Rattle.entries.specs.Parts.{part_outcome}
 use Rattle.entries.proofs.Naming.{family-number}
 use Rattle.entries.proofs.parts.family_refusal.Goals as goal

@@ -1,6 +1,5 @@
 -- `parts::no_part` meets its contract: a refusal is handed on, and a value is none. Assumes nothing.
 use mathlib.Core.Path.{sym, ap, ◌∙◌}
-use borrow.Author.Rules.{rules}
 use Rattle.notation.specs.Entries.{outcome, refusal_number}
 use Rattle.laws.proofs.Bools.{no-refusal}
 use Rattle.entries.specs.declared.parts.PartAnswer.TheVariants.{Refused}

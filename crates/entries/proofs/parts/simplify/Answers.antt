@@ -3,7 +3,6 @@ use Prim.Native.Nat.{◌/◌, ◌<◌}
 use mathlib.Core.Path.{◌∙◌, ap, sym}
 use mathlib.Core.Bool.{Bool}
 use native.Mathlib.Omega.{arith}
-use borrow.Author.Rules.{rules}
 use lib.ListN.{length}
 use Rattle.notation.specs.Refusals.{result}
 use Rattle.notation.specs.Tree.{Span, Layers}
@@ -62,8 +61,12 @@ simplify-requires c =
     let a = c.args in
     let k = c.check-checked.ensures.found _ (ap outcome c.in-Value.is) in
     let less : a.«record» < length a.tree.now / RECORD = omega (arith, c.if-tree-record.false) in
-    let ok = accepted-record a.text.now a.tree.now a.«record» k.accepted less in record { layer = record { low = omega (arith, c.if-max_layer-eq0.false); high = c.if-max_layer-gt-MAX_LAYER.false }; text_len_bound = k.accepted.short; layers_value = ap (λ (l : Layers Span). layers_ok a.text.now l) c.layers-layers.ensures
-            ∙ layers-inside (found a.tree.now a.«record») c.kind.result c.kind.ensures a.text.now c.if-kind-ne-MOVE.false ok }
+    let ok = accepted-record a.text.now a.tree.now a.«record» k.accepted less in record {
+      layer = record { low = omega (arith, c.if-max_layer-eq0.false); high = c.if-max_layer-gt-MAX_LAYER.false };
+      text_len_bound = k.accepted.short;
+      layers_value = ap (λ (l : Layers Span). layers_ok a.text.now l) c.layers-layers.ensures
+          ∙ layers-inside (found a.tree.now a.«record») c.kind.result c.kind.ensures a.text.now c.if-kind-ne-MOVE.false ok;
+    }
 
 pub returns : goal.returns
 returns c =

@@ -1,12 +1,10 @@
 -- `count::count` meets its contract. Assumes nothing.
-use borrow.Author.Rules.{rules}
 use native.Mathlib.Omega.{arith}
 use lib.Dec.{lit≤}
-use lib.ListN.{length}
 use Rattle.notation.specs.Packed.{RECORD}
 use Rattle.nodes.proofs.Nodes.{record-room, rest-less, first_of, first_leaf}
 use Rattle.expand.proofs.Shapes.{first-steps, leaf-steps}
-use Rattle.expand.proofs.Counting.{Counting, counting-starts, left-few, counted-few, counting-goes-on, counted}
+use Rattle.expand.proofs.Counting.{counting-starts, left-few, counted-few, counting-goes-on, counted}
 use Rattle.expand.proofs.count.count.Goals as goal
 
 pub loop-t-init : goal.loop-t-init

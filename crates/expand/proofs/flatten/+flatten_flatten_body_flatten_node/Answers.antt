@@ -1,41 +1,13 @@
 -- `flatten::flatten`, `flatten::flatten_node` and `flatten::flatten_body` meet their contracts. What ends them is the length of what they are given: a list
 -- hands on its nodes, a node itself, and a body its lists, which are shorter. Assumes nothing.
-use Prim.Native.Nat.{ℕ, ◌+◌, ◌*◌, ◌<◌}
 use mathlib.Core.Logic.{⊎_elim}
-use borrow.Author.Rules.{rules}
 use native.Mathlib.Omega.{arith}
 use lib.Dec.{lit≤}
 use lib.ListN.{length}
 use Rattle.notation.specs.Packed.{RECORD}
 use Rattle.nodes.proofs.Nodes.{part_length, record-room, node-room, rest-less, first_leaf, leaf-record}
 use Rattle.expand.proofs.Shapes.{group_of}
-use Rattle.expand.proofs.Flattening.{
-  Flattening,
-  flattening-starts,
-  flattening-goes-on,
-  flattening-passes,
-  flattening-carried,
-  flattened,
-  leaf-fits,
-  node-fits,
-  node-steps,
-  next_fits,
-  wrote-fits,
-  node-written,
-  leaf_room,
-  leaf-written,
-  first-room,
-  second-room,
-  group-steps,
-  group-written,
-  binary-pair,
-  binary-steps,
-  binary-written,
-  body-room,
-  total-fits,
-  repeat-room,
-  repeats-written,
-}
+use Rattle.expand.proofs.Flattening.{flattening-starts, flattening-goes-on, flattening-passes, flattening-carried, flattened, leaf-fits, node-fits, node-steps, next_fits, wrote-fits, node-written, leaf_room, leaf-written, first-room, second-room, group-steps, group-written, binary-pair, binary-steps, binary-written, body-room, total-fits, repeat-room, repeats-written}
 use Rattle.expand.proofs.flatten.+flatten_flatten_body_flatten_node.Goals as goal
 
 pub flatten-loop-t-init : goal.flatten-loop-t-init
@@ -75,14 +47,13 @@ flatten-loop-t-preserved-then-is_leaf t c =
     flattening-goes-on c.loop-t.invariant leaf.first (leaf-written leaf c.copy_record.ensures) c.copy_record.auto.out
 
 pub flatten-flatten_node-size-requires : goal.flatten-flatten_node-size-requires
-flatten-flatten_node-size-requires t c =
-    (
-      omega (arith, part_length 0 c.node_end-end.result c.loop-t.t.now, c.loop-t.invariant.shorter, c.decreases),
-      (
-        group_of c.node_end-end.ensures c.is_leaf.ensures c.if-is_leaf.false,
-        (node-steps c.loop-t.invariant c.node_end-end.ensures c.count.ensures c.if-count-ne0.true, node-fits c.loop-t.invariant c.node_end-end.ensures),
-      ),
-    )
+flatten-flatten_node-size-requires t c = (
+  omega (arith, part_length 0 c.node_end-end.result c.loop-t.t.now, c.loop-t.invariant.shorter, c.decreases),
+  (
+    group_of c.node_end-end.ensures c.is_leaf.ensures c.if-is_leaf.false,
+    (node-steps c.loop-t.invariant c.node_end-end.ensures c.count.ensures c.if-count-ne0.true, node-fits c.loop-t.invariant c.node_end-end.ensures),
+  ),
+)
 
 pub flatten-overflow_add-at-then-count-ne0 : goal.flatten-overflow_add-at-then-count-ne0
 flatten-overflow_add-at-then-count-ne0 t c =
@@ -113,11 +84,10 @@ flatten_body-first_end-middle-requires t c =
     (c.requires.group.node, c.requires.group.is_node)
 
 pub flatten_body-flatten-a-requires : goal.flatten_body-flatten-a-requires
-flatten_body-flatten-a-requires t c =
-    (
-      omega (arith, part_length RECORD c.first_end-middle.result c.args.node.now, node-room c.requires.group.is_node, c.decreases),
-      (c.first_end-middle.ensures.packed_first, first-room c.requires.group c.first_end-middle.ensures c.requires.node_in_bounds),
-    )
+flatten_body-flatten-a-requires t c = (
+  omega (arith, part_length RECORD c.first_end-middle.result c.args.node.now, node-room c.requires.group.is_node, c.decreases),
+  (c.first_end-middle.ensures.packed_first, first-room c.requires.group c.first_end-middle.ensures c.requires.node_in_bounds),
+)
 
 pub flatten_body-turn_if-requires : goal.flatten_body-turn_if-requires
 flatten_body-turn_if-requires t c =
@@ -134,11 +104,10 @@ pub flatten_body-slice_bounds-flatten-start-3 : goal.flatten_body-slice_bounds-f
 flatten_body-slice_bounds-flatten-start-3 t c = wrote-fits c.flatten-a.ensures
 
 pub flatten_body-flatten-b-requires : goal.flatten_body-flatten-b-requires
-flatten_body-flatten-b-requires t c =
-    (
-      omega (arith, part_length c.first_end-middle.result (length c.args.node.now) c.args.node.now, c.first_end-middle.ensures.least, node-room c.requires.group.is_node, c.decreases),
-      (c.first_end-middle.ensures.packed_second, second-room c.requires.group c.first_end-middle.ensures c.kind-kind.ensures c.flatten-a.ensures c.requires.node_in_bounds),
-    )
+flatten_body-flatten-b-requires t c = (
+  omega (arith, part_length c.first_end-middle.result (length c.args.node.now) c.args.node.now, c.first_end-middle.ensures.least, node-room c.requires.group.is_node, c.decreases),
+  (c.first_end-middle.ensures.packed_second, second-room c.requires.group c.first_end-middle.ensures c.kind-kind.ensures c.flatten-a.ensures c.requires.node_in_bounds),
+)
 
 pub flatten_body-complete_binary-size-requires : goal.flatten_body-complete_binary-size-requires
 flatten_body-complete_binary-size-requires t c =

@@ -1,41 +1,8 @@
 -- `flatten::flatten`, `flatten::flatten_node` and `flatten::flatten_body` meet their contracts. What ends them is the length of what they are given: a list
 -- hands on its nodes, a node itself, and a body its lists, which are shorter. Assumes nothing.
-use Prim.Native.Nat.{ℕ, ◌+◌, ◌*◌, ◌<◌}
-use mathlib.Core.Logic.{⊎_elim}
-use borrow.Author.Rules.{rules}
-use native.Mathlib.Omega.{arith}
-use lib.Dec.{lit≤}
+use Prim.Native.Nat.{◌+◌, ◌*◌}
 use lib.ListN.{length}
-use Rattle.notation.specs.Packed.{RECORD}
-use Rattle.nodes.proofs.Nodes.{part_length, record-room, node-room, rest-less, first_leaf, leaf-record}
-use Rattle.expand.proofs.Shapes.{group_of}
-use Rattle.expand.proofs.Flattening.{
-  Flattening,
-  flattening-starts,
-  flattening-goes-on,
-  flattening-passes,
-  flattening-carried,
-  flattened,
-  leaf-fits,
-  node-fits,
-  node-steps,
-  next_fits,
-  wrote-fits,
-  node-written,
-  leaf_room,
-  leaf-written,
-  first-room,
-  second-room,
-  group-steps,
-  group-written,
-  binary-pair,
-  binary-steps,
-  binary-written,
-  body-room,
-  total-fits,
-  repeat-room,
-  repeats-written,
-}
+use Rattle.expand.proofs.Flattening.{Flattening}
 use Rattle.expand.proofs.flatten.+flatten_flatten_body_flatten_node.Given as goal
 
 abbrev pub decreases-flatten : goal.decreases-flatten

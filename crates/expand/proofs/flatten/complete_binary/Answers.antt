@@ -13,7 +13,6 @@ use Rattle.expand.proofs.Completing.{
   commutator-written,
   conjugate-written,
 }
-use borrow.Author.Rules.{rules}
 use Rattle.expand.proofs.flatten.complete_binary.Goals as goal
 
 pub overflow_add-size : goal.overflow_add-size

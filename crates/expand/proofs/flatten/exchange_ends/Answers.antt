@@ -1,6 +1,5 @@
 -- `flatten::exchange_ends` meets its contract. Assumes nothing.
 use Rattle.expand.proofs.Turning.{front-starts, back-starts, ends-exchanged}
-use borrow.Author.Rules.{rules}
 use Rattle.expand.proofs.flatten.exchange_ends.Goals as goal
 
 pub undo_record-requires : goal.undo_record-requires

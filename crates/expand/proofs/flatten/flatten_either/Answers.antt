@@ -1,5 +1,4 @@
 -- `flatten::flatten_either` meets its contract. Assumes nothing.
-use borrow.Author.Rules.{rules}
 use Rattle.expand.proofs.Flattening.{list_steps, list_written}
 use Rattle.expand.proofs.flatten.flatten_either.Goals as goal
 

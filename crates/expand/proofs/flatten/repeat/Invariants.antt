@@ -1,7 +1,6 @@
 -- `flatten::repeat` meets its contract. Assumes nothing.
 use Prim.Native.Nat.{◌-◌}
-use native.Mathlib.Omega.{arith}
-use Rattle.expand.proofs.Repeating.{Repeating, repeating-starts, repeating-goes-on, repeated}
+use Rattle.expand.proofs.Repeating.{Repeating}
 use Rattle.expand.proofs.flatten.repeat.Given as goal
 
 abbrev pub invariant-loop-i : goal.invariant-loop-i

@@ -1,7 +1,5 @@
 -- `flatten::turn` meets its contract. Assumes nothing.
-use Prim.Native.Nat.{◌-◌}
-use borrow.Author.Rules.{rules}
-use Rattle.expand.proofs.Turning.{Turning, turning-starts, two-long, ends-start, turning-goes-on, only-starts, turned-odd, turned-even}
+use Rattle.expand.proofs.Turning.{turning-starts, two-long, ends-start, turning-goes-on, only-starts, turned-odd, turned-even}
 use Rattle.expand.proofs.flatten.turn.Goals as goal
 
 pub loop-from-init : goal.loop-from-init

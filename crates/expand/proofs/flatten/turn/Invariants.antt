@@ -1,7 +1,6 @@
 -- `flatten::turn` meets its contract. Assumes nothing.
 use Prim.Native.Nat.{◌-◌}
-use borrow.Author.Rules.{rules}
-use Rattle.expand.proofs.Turning.{Turning, turning-starts, two-long, ends-start, turning-goes-on, only-starts, turned-odd, turned-even}
+use Rattle.expand.proofs.Turning.{Turning}
 use Rattle.expand.proofs.flatten.turn.Given as goal
 
 abbrev pub invariant-loop-from : goal.invariant-loop-from

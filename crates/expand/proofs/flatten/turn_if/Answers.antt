@@ -1,5 +1,4 @@
 -- `flatten::turn_if` meets its contract. Assumes nothing.
-use borrow.Author.Rules.{rules}
 use Rattle.expand.proofs.Completing.{contents-as_steps, turned-written, kept-written}
 use Rattle.expand.proofs.flatten.turn_if.Goals as goal
 

@@ -1,6 +1,5 @@
 -- `seek::both_count` meets its contract. Assumes nothing.
 use native.Mathlib.Omega.{arith}
-use borrow.Author.Rules.{rules}
 use Rattle.expand.proofs.seek.both_count.Goals as goal
 
 pub returns-then-commutator : goal.returns-then-commutator

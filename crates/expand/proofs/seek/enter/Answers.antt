@@ -5,7 +5,6 @@ use mathlib.Core.Bool.{Bool}
 use mathlib.Core.Option.{Option}
 use Rattle.notation.specs.Tree.{Leaf}
 use mathlib.Core.Logic.{⊎_elim}
-use borrow.Author.Rules.{rules}
 use native.Mathlib.Omega.{arith}
 use Rattle.notation.specs.Counts.{count}
 use Rattle.notation.specs.Entries.{MAX-STEPS}

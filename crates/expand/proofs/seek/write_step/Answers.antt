@@ -1,6 +1,5 @@
 -- `seek::write_step` meets its contract. Assumes nothing.
 use Rattle.expand.proofs.Seeking.{step-copied, step-turned, copy-starts}
-use borrow.Author.Rules.{rules}
 use Rattle.expand.proofs.seek.write_step.Goals as goal
 
 pub undo_record-requires : goal.undo_record-requires

@@ -2,7 +2,6 @@
 use Prim.Native.Nat.{ℕ}
 use mathlib.Core.Path.{ap, ap₂, ◌∙◌}
 use mathlib.Core.List.{List}
-use borrow.Author.Rules.{rules}
 use Rattle.notation.specs.Entries.{parse_notation, inv_entry, display_entry, count_steps, seek_step}
 use Rattle.hypuz_notation.proofs.Agreeing.{agreed, seek-same}
 use Rattle.hypuz_notation.proofs.agreement.agree.Goals as goal

@@ -1,8 +1,7 @@
 -- `agreement::from_end` meets its contract: a place past the end counts as the last. Assumes nothing.
 use Prim.Native.Nat.{ℕ}
-use mathlib.Core.Path.{◌≡◌, ap}
+use mathlib.Core.Path.{ap}
 use native.Mathlib.Omega.{arith}
-use borrow.Author.Rules.{rules}
 use Rattle.notation.specs.Entries.{outcome, value}
 use Rattle.notation.specs.declared.answer.Answer.{Answer}
 use Rattle.hypuz_notation.proofs.agreement.from_end.Goals as goal

@@ -1,8 +1,7 @@
 -- `agreement::front` meets its contract: a number past the end takes the whole buffer. Assumes nothing.
 use Prim.Native.Nat.{ℕ, ◌-◌}
-use mathlib.Core.Path.{◌≡◌, ap, sym, ◌∙◌}
+use mathlib.Core.Path.{◌≡◌, ap, sym}
 use native.Mathlib.Omega.{arith}
-use borrow.Author.Rules.{rules}
 use lib.ListN.{take}
 use lib.Seq.{take_all}
 use Rattle.notation.specs.Entries.{outcome, value}

@@ -1,6 +1,5 @@
 -- `host::code` meets its contract: each case by its rule. Assumes nothing.
 use mathlib.Core.Path.{ap}
-use borrow.Author.Rules.{rules}
 use Rattle.notation.specs.Entries.{outcome}
 use Rattle.hypuz_notation.proofs.Handing.{value-coded, refusal-coded}
 use Rattle.hypuz_notation.proofs.host.code.Goals as goal

@@ -1,6 +1,5 @@
 -- `host::hypuz_count_steps` meets its contract: it hands over what the entry answers. Assumes nothing.
 use mathlib.Core.Path.{ap, ◌∙◌}
-use borrow.Author.Rules.{rules}
 use Rattle.notation.specs.Host.{coded}
 use Rattle.hypuz_notation.proofs.host.hypuz_count_steps.Goals as goal
 

@@ -1,6 +1,5 @@
 -- `host::hypuz_family` meets its contract: each case by its rule. Assumes nothing.
 use mathlib.Core.Path.{sym, ap, subst, ◌∙◌}
-use borrow.Author.Rules.{rules}
 use Rattle.entries.specs.Parts.{part_outcome, Fits}
 use Rattle.hypuz_notation.proofs.Handing.{part-coded, no-part-coded}
 use Rattle.hypuz_notation.proofs.host.hypuz_family.Goals as goal

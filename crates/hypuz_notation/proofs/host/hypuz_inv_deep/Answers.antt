@@ -1,5 +1,4 @@
 -- `host::hypuz_inv_deep` meets its contract: it hands over what the entry answers. Assumes nothing.
-use borrow.Author.Rules.{rules}
 use Rattle.hypuz_notation.proofs.Handing.{hands}
 use Rattle.hypuz_notation.proofs.host.hypuz_inv_deep.Goals as goal
 

@@ -1,6 +1,5 @@
 -- `host::hypuz_parse_notation` meets its contract: it hands over what the entry answers under the setting that the bits name. Assumes nothing.
 use mathlib.Core.Path.{ap, ◌∙◌}
-use borrow.Author.Rules.{rules}
 use Rattle.notation.specs.Entries.{parse_notation}
 use Rattle.notation.specs.declared.features.Features.{Features}
 use Rattle.hypuz_notation.proofs.Handing.{hands}

@@ -2,7 +2,6 @@
 use mathlib.Core.Path.{sym, ◌∙◌}
 use Rattle.nodes.proofs.Nodes.{node-room}
 use Rattle.invert.proofs.Nodes.{group-inner, conjugate-inner}
-use borrow.Author.Rules.{rules}
 use Rattle.invert.proofs.parts.inner_start.Goals as goal
 
 pub kind-requires : goal.kind-requires

@@ -1,8 +1,7 @@
 -- `invert::refusal::pair_refusal` meets its contract: the law of its one test. Assumes nothing.
-use mathlib.Core.Path.{sym, ap, ◌∙◌}
-use mathlib.Core.Bool.{Bool, true, false}
+use mathlib.Core.Path.{sym, ◌∙◌}
+use mathlib.Core.Bool.{true, false}
 use Rattle.invert.proofs.Refusing.{by-test}
-use borrow.Author.Rules.{rules}
 use Rattle.invert.proofs.refusal.pair_refusal.Goals as goal
 
 pub returns-then-overflows : goal.returns-then-overflows

@@ -1,5 +1,4 @@
 -- One after the other. Assumes nothing.
-use borrow.Author.Rules.{rules}
 use mathlib.Core.Path.{refl}
 use mathlib.Core.List.{[]}
 use Rattle.notation.specs.Numbers.{show}

@@ -1,5 +1,4 @@
 -- The record that is found is printed as a tree of one leaf. Assumes nothing.
-use borrow.Author.Rules.{rules}
 use Prim.Native.Nat.{ℕ}
 use mathlib.Core.Path.{refl}
 use mathlib.Core.List.{[]}

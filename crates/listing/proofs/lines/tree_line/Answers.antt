@@ -1,5 +1,4 @@
 -- A refusal, or a tree that is printed. Assumes nothing.
-use borrow.Author.Rules.{rules}
 use mathlib.Core.Path.{ap}
 use native.Mathlib.Omega.{arith}
 use Rattle.notation.specs.Packed.{unpack}

@@ -1,5 +1,4 @@
 -- Measured, and then written where it fits. Assumes nothing.
-use borrow.Author.Rules.{rules}
 use native.Mathlib.Omega.{arith}
 use Rattle.notation.specs.Lister.{lister}
 use Rattle.listing.proofs.Lending.{measured-short, measured-written}

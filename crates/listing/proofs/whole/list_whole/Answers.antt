@@ -1,5 +1,4 @@
 -- Every listing fits. Assumes nothing.
-use borrow.Author.Rules.{rules}
 use native.Mathlib.Omega.{arith}
 use Rattle.notation.specs.Lister.{lister}
 use Rattle.size_laws.proofs.Listing.{listing-fits}

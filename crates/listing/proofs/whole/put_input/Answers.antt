@@ -1,5 +1,4 @@
 -- Each first line. Assumes nothing.
-use borrow.Author.Rules.{rules}
 use mathlib.Core.Path.{sym, ◌∙◌}
 use Rattle.notation.specs.Lister.{lister}
 use Rattle.nodes.proofs.Nodes.{part-rest}

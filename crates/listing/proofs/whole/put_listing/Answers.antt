@@ -1,5 +1,4 @@
 -- The tree fits: it has at most a record for each byte of its text. Assumes nothing.
-use borrow.Author.Rules.{rules}
 use Prim.Native.Nat.{ℕ}
 use mathlib.Core.Path.{ap}
 use native.Mathlib.Omega.{arith}

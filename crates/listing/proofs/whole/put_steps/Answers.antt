@@ -1,5 +1,4 @@
 -- The count and the lines after it, or a refusal. Assumes nothing.
-use borrow.Author.Rules.{rules}
 use mathlib.Core.Path.{ap}
 use mathlib.Core.Bool.{false}
 use mathlib.Core.List.{[], ◌++◌}

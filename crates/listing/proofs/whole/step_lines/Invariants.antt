@@ -1,14 +1,10 @@
 -- Each turn puts a line of what is left. Assumes nothing.
 use Prim.Native.Nat.{◌-◌, ◌≤◌}
 use mathlib.Core.Bool.{false}
-use native.Mathlib.Omega.{arith}
-use borrow.Author.Rules.{rules}
 use Rattle.notation.specs.Packed.{unpack}
 use Rattle.notation.specs.Invert.{undo}
 use Rattle.laws.specs.Unrolled.{flat}
-use Rattle.laws.proofs.Counting.{count-is}
-use Rattle.checked.proofs.Played.{there}
-use Rattle.listing.proofs.StepLoop.{Listed, listed-starts, listed-goes-on, listed-all}
+use Rattle.listing.proofs.StepLoop.{Listed}
 use Rattle.listing.proofs.whole.step_lines.Given as goal
 
 abbrev pub invariant-loop-place : goal.invariant-loop-place

@@ -1,9 +1,7 @@
 -- `halves::middle` meets its contract. Assumes nothing.
-use borrow.Author.Rules.{rules}
 use native.Mathlib.Omega.{arith}
-use lib.ListN.{length}
 use Rattle.nodes.proofs.Nodes.{rest-less}
-use Rattle.nodes.proofs.Parting.{Parting, parting-starts, parting-long, parting-goes-on, parting-stops, parting-ends}
+use Rattle.nodes.proofs.Parting.{parting-starts, parting-long, parting-goes-on, parting-stops, parting-ends}
 use Rattle.nodes.proofs.halves.middle.Goals as goal
 
 pub loop-t-init : goal.loop-t-init

@@ -1,9 +1,6 @@
 -- `halves::middle` meets its contract. Assumes nothing.
-use borrow.Author.Rules.{rules}
-use native.Mathlib.Omega.{arith}
 use lib.ListN.{length}
-use Rattle.nodes.proofs.Nodes.{rest-less}
-use Rattle.nodes.proofs.Parting.{Parting, parting-starts, parting-long, parting-goes-on, parting-stops, parting-ends}
+use Rattle.nodes.proofs.Parting.{Parting}
 use Rattle.nodes.proofs.halves.middle.Given as goal
 
 abbrev pub invariant-loop-t : goal.invariant-loop-t

@@ -3,7 +3,6 @@ use mathlib.Core.Path.{sym, ap, subst, ◌∙◌}
 use Rattle.notation.specs.Packed.{RECORD}
 use Rattle.nodes.specs.Nodes.{Lists}
 use Rattle.nodes.proofs.Nodes.{node-room, lists_of}
-use borrow.Author.Rules.{rules}
 use Rattle.nodes.proofs.walk.first_end.Goals as goal
 
 pub first-requires : goal.first-requires

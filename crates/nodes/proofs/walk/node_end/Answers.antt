@@ -2,7 +2,6 @@ use Prim.Native.Nat.{ℕ, ◌+◌, ◌*◌}
 use mathlib.Core.Path.{sym, ap₂, subst, ◌∙◌}
 use Rattle.notation.specs.Packed.{RECORD}
 use Rattle.nodes.specs.Nodes.{FirstNode}
-use borrow.Author.Rules.{rules}
 use Rattle.nodes.proofs.Nodes.{record-room, first_of}
 use Rattle.nodes.proofs.walk.node_end.Goals as goal
 

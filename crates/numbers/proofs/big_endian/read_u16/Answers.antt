@@ -1,4 +1,4 @@
-use Rattle.std.proofs.Common.{◌+◌, sym, arith, rules}
+use Rattle.std.proofs.Common.{◌+◌, sym, arith}
 use Rattle.numbers.proofs.BigEndian.{two_bytes}
 use Rattle.numbers.proofs.big_endian.read_u16.Goals as goal
 

@@ -1,4 +1,4 @@
-use Rattle.std.proofs.Common.{sym, rules}
+use Rattle.std.proofs.Common.{sym}
 use Rattle.numbers.proofs.BigEndian.{one_byte}
 use Rattle.numbers.proofs.big_endian.read_u8.Goals as goal
 

@@ -1,4 +1,4 @@
-use Rattle.std.proofs.Common.{arith, length-set, rules}
+use Rattle.std.proofs.Common.{arith, length-set}
 use Rattle.numbers.proofs.BigEndian.{store_two}
 use Rattle.numbers.proofs.big_endian.write_u16.Goals as goal
 

@@ -1,4 +1,4 @@
-use Rattle.std.proofs.Common.{ℕ, ◌+◌, ◌/◌, ◌%◌, List, ap, ◌∙◌, rules}
+use Rattle.std.proofs.Common.{ℕ, ◌+◌, ◌/◌, ◌%◌, List, ap, ◌∙◌}
 use lib.Seq.{sets}
 use Rattle.notation.specs.Numbers.{big_endian}
 use Rattle.numbers.proofs.BigEndian.{last_byte, store-parts}

@@ -1,4 +1,4 @@
-use Rattle.std.proofs.Common.{arith, rules}
+use Rattle.std.proofs.Common.{arith}
 use Rattle.numbers.proofs.BigEndian.{store-one}
 use Rattle.numbers.proofs.big_endian.write_u8.Goals as goal
 

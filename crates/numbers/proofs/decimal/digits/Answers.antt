@@ -1,11 +1,7 @@
 -- `digits` meets its contract: what the digits from `i` on give after `value` is what all of them give, and the run's end stays the same.
 -- Assumes nothing.
-use Rattle.std.proofs.Common.{◌≡◌, ℕ, ◌+◌, ◌-◌, ◌≤◌, length, get_or, drop, sym, refl, ◌∙◌, arith, rules}
-use Rattle.notation.specs.Numbers.{digit_run}
+use Rattle.std.proofs.Common.{refl, arith, rules}
 use Rattle.numbers.proofs.DigitRuns as runs
-use Rattle.numbers.proofs.decimal.digits.Reads as reads
-use Rattle.numbers.proofs.decimal.digits.Lts as lts
-use Rattle.numbers.proofs.decimal.next_value.Reads as next-value-reads
 use Rattle.numbers.proofs.decimal.digits.Goals as goal
 
 -- src/decimal.rt:46:5

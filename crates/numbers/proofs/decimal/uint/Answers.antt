@@ -1,9 +1,6 @@
 -- `uint` meets its contract: each way out is one case of the rule, from what `digits` ensures. Assumes nothing.
-use Rattle.std.proofs.Common.{sym, arith, rules}
+use Rattle.std.proofs.Common.{sym, rules}
 use Rattle.numbers.proofs.DigitRuns as runs
-use Rattle.numbers.proofs.decimal.uint.Reads as reads
-use Rattle.numbers.proofs.decimal.uint.Lts as lts
-use Rattle.numbers.proofs.decimal.digits.Reads as digits-reads
 use Rattle.numbers.proofs.decimal.uint.Goals as goal
 
 -- src/decimal.rt:68:9

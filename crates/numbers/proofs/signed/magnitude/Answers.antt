@@ -1,4 +1,4 @@
-use Rattle.std.proofs.Common.{rules, le-ltb, lt-ltb}
+use Rattle.std.proofs.Common.{le-ltb, lt-ltb}
 use Rattle.numbers.proofs.signed.magnitude.Goals as goal
 
 pub returns-then-bits-lt-MIN : goal.returns-then-bits-lt-MIN

@@ -1,4 +1,4 @@
-use Rattle.std.proofs.Common.{arith, rules}
+use Rattle.std.proofs.Common.{arith}
 use Rattle.numbers.proofs.TwosComplement.{opposite}
 use Rattle.numbers.proofs.signed.negate.Goals as goal
 

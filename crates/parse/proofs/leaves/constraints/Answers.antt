@@ -10,7 +10,6 @@ use Rattle.notation.specs.Grammar.{read}
 use Rattle.parse.proofs.Past.{within}
 use Rattle.parse.proofs.Rules.{takes-forget, takes-constraint_set}
 use Rattle.parse.proofs.LeafReaders.{unopened, no-constraints, some-constraints}
-use borrow.Author.Rules.{rules}
 use Rattle.parse.proofs.leaves.constraints.Goals as goal
 
 pub returns-in_default : goal.returns-in_default

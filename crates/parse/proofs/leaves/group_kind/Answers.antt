@@ -2,7 +2,6 @@
 use mathlib.Core.Path.{sym, ◌∙◌}
 use native.Mathlib.Omega.{arith}
 use Rattle.parse.proofs.Bytes.{just-is, just-not}
-use borrow.Author.Rules.{rules}
 use Rattle.parse.proofs.leaves.group_kind.Goals as goal
 
 pub returns-then-has : goal.returns-then-has

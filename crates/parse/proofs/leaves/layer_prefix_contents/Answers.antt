@@ -9,7 +9,6 @@ use Rattle.notation.specs.Grammar.{read}
 use Rattle.parse.proofs.Past.{within}
 use Rattle.parse.proofs.Rules.{takes-forget, takes-layer_set}
 use Rattle.parse.proofs.LayerSets.{unopened, opened-none, a-set}
-use borrow.Author.Rules.{rules}
 use Rattle.parse.proofs.leaves.layer_prefix_contents.Goals as goal
 
 pub returns-in_default : goal.returns-in_default

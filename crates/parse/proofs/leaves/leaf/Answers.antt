@@ -4,13 +4,12 @@ use mathlib.Core.Path.{sym, ap, ◌∙◌}
 use mathlib.Core.List.{List}
 use mathlib.Core.Logic.{⊎_elim}
 use Prim.Native.Nat.{ℕ, ◌+◌}
-use borrow.Author.Tests.{eq-eqb, eqb-true, eqb-false}
+use borrow.Author.Tests.{eq-eqb}
 use lib.ListN.{drop}
 use Rattle.charsets.proofs.Texts.{in-text}
 use Rattle.notation.specs.Grammar.{read}
 use Rattle.parse.proofs.Rules.{leaf-within}
 use Rattle.parse.proofs.FirstBytes.{is-pause, is-rotation, is-parenthesis, is-slash, is-other, is-end}
-use borrow.Author.Rules.{rules}
 use Rattle.parse.proofs.leaves.leaf.Goals as goal
 
 pub returns-then-byte-eq46 : goal.returns-then-byte-eq46

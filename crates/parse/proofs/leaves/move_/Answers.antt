@@ -2,7 +2,7 @@
 use mathlib.Core.Path.{ap, ◌∙◌}
 use mathlib.Core.List.{List}
 use native.Mathlib.Omega.{arith}
-use Prim.Native.Nat.{ℕ, ◌-◌}
+use Prim.Native.Nat.{ℕ}
 use lib.ListN.{drop}
 use Rattle.notation.specs.Chars.{is_family_char}
 use Rattle.notation.specs.Grammar.{read}
@@ -10,7 +10,6 @@ use Rattle.charsets.proofs.Runs.{end-length}
 use Rattle.parse.proofs.Past.{within}
 use Rattle.parse.proofs.Rules.{takes-tilde, takes-layers, takes-constraints}
 use Rattle.parse.proofs.LeafReaders.{no_move, a_move}
-use borrow.Author.Rules.{rules}
 use Rattle.parse.proofs.leaves.move_.Goals as goal
 
 pub layer_prefix_contents-prefix-requires : goal.layer_prefix_contents-prefix-requires

@@ -2,7 +2,6 @@
 use native.Mathlib.Omega.{arith}
 use Rattle.numbers.proofs.Bounds.{negated, not-negated}
 use Rattle.parse.proofs.LeafReaders.{positive, negative}
-use borrow.Author.Rules.{rules}
 use Rattle.parse.proofs.leaves.multiplier.Goals as goal
 
 pub returns-then-next-times : goal.returns-then-next-times

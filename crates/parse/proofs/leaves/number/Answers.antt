@@ -5,7 +5,6 @@ use lib.ListN.{drop}
 use Rattle.numbers.proofs.Bounds.{number}
 use Rattle.parse.proofs.Past.{within, takes-uint}
 use Rattle.parse.proofs.LeafReaders.{no_number, a-number}
-use borrow.Author.Rules.{rules}
 use Rattle.parse.proofs.leaves.number.Goals as goal
 
 pub returns-in_default : goal.returns-in_default

@@ -5,7 +5,6 @@ use lib.ListN.{drop}
 use Rattle.numbers.proofs.Bounds.{number}
 use Rattle.parse.proofs.LayerSets.{after-hyphen, no-layers, one-layer, upward, downward}
 use Rattle.parse.proofs.Past.{within, takes-uint}
-use borrow.Author.Rules.{rules}
 use Rattle.parse.proofs.leaves.numbered_layers.Goals as goal
 
 pub returns-in_default : goal.returns-in_default

@@ -1,7 +1,6 @@
 -- `prime_end` meets its contract: the apostrophe, then what the flag admits. Assumes nothing.
 use mathlib.Core.Path.{sym, ◌∙◌}
 use Rattle.parse.proofs.LeafReaders.{an-apostrophe, no-apostrophe, no-curly, a-curly}
-use borrow.Author.Rules.{rules}
 use Rattle.parse.proofs.leaves.prime_end.Goals as goal
 
 pub returns-then-has : goal.returns-then-has

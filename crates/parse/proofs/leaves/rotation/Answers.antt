@@ -2,7 +2,7 @@
 use mathlib.Core.Path.{ap, ◌∙◌}
 use mathlib.Core.List.{List}
 use native.Mathlib.Omega.{arith}
-use Prim.Native.Nat.{ℕ, ◌+◌, ◌-◌}
+use Prim.Native.Nat.{ℕ, ◌+◌}
 use lib.ListN.{drop}
 use Rattle.notation.specs.Chars.{is_family_char}
 use Rattle.notation.specs.Grammar.{read}
@@ -10,7 +10,6 @@ use Rattle.charsets.proofs.Runs.{end-length}
 use Rattle.parse.proofs.Past.{within}
 use Rattle.parse.proofs.Rules.{takes-constraints}
 use Rattle.parse.proofs.LeafReaders.{rotations-off, a-rotation}
-use borrow.Author.Rules.{rules}
 use Rattle.parse.proofs.leaves.rotation.Goals as goal
 
 pub family_span-family-requires : goal.family_span-family-requires

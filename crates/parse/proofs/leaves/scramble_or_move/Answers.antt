@@ -3,7 +3,6 @@ use mathlib.Core.Path.{sym, ap₂, ◌∙◌}
 use mathlib.Core.Bool.{◌&&◌}
 use mathlib.Core.Logic.{⊎_elim}
 use Rattle.parse.proofs.LeafReaders.{a-scramble, no-scramble}
-use borrow.Author.Rules.{rules}
 use Rattle.parse.proofs.leaves.scramble_or_move.Goals as goal
 
 pub megaminx_scramble_move-requires : goal.megaminx_scramble_move-requires

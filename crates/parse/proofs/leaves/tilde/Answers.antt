@@ -4,7 +4,6 @@ use native.Mathlib.Omega.{arith}
 use lib.ListN.{drop}
 use Rattle.parse.proofs.Bytes.{just-is, just-not}
 use Rattle.parse.proofs.LeafReaders.{tilde-off, no-tilde, a-tilde}
-use borrow.Author.Rules.{rules}
 use Rattle.parse.proofs.leaves.tilde.Goals as goal
 
 pub returns-then-has : goal.returns-then-has

@@ -6,7 +6,6 @@ use borrow.Author.Tests.{ne_eqb}
 use Rattle.charsets.proofs.Texts.{in-text}
 use lib.ListN.{get_or-eq_default}
 use Prim.Native.Nat.{ℕ}
-use borrow.Author.Rules.{rules}
 use Rattle.parse.proofs.look.has.Goals as goal
 
 pub returns-then-at-text : goal.returns-then-at-text

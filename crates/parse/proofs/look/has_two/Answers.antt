@@ -1,6 +1,5 @@
 -- `has_two` meets its contract, byte by byte. Assumes nothing.
 use mathlib.Core.Path.{sym, ◌∙◌}
-use borrow.Author.Rules.{rules}
 use Rattle.parse.proofs.look.has_two.Goals as goal
 
 pub returns-then-has : goal.returns-then-has

@@ -1,9 +1,6 @@
 -- `spanned::count` meets its contract: those seen so far and those of the rest are all. Assumes nothing.
-use Prim.Native.Nat.{◌-◌}
 use native.Mathlib.Omega.{arith}
-use borrow.Author.Rules.{rules}
-use lib.ListN.{length}
-use Rattle.parse.proofs.NestingScan.{BracketsCounted, count-start, count-on, count-end}
+use Rattle.parse.proofs.NestingScan.{count-start, count-on, count-end}
 use Rattle.parse.proofs.nesting.count.Goals as goal
 
 pub loop-at-init : goal.loop-at-init

@@ -1,8 +1,6 @@
 -- `spanned::nesting_ok` meets its contract: what stands before is allowed, and the rest decides. Assumes nothing.
 use native.Mathlib.Omega.{arith}
-use borrow.Author.Rules.{rules}
-use lib.ListN.{length}
-use Rattle.parse.proofs.NestingScan.{Blocks, block-length, blocks_start, blocks-on, blocks_end}
+use Rattle.parse.proofs.NestingScan.{block-length, blocks_start, blocks-on, blocks_end}
 use Rattle.parse.proofs.nesting.nesting_ok.Goals as goal
 
 pub loop-t-init : goal.loop-t-init

@@ -1,12 +1,9 @@
 -- `spanned::scan_ok` meets its contract: the brackets seen so far are allowed, and the rest decides. Assumes nothing.
-use Prim.Native.Nat.{◌-◌}
 use mathlib.Core.Path.{refl, sym, ◌∙◌}
 use native.Mathlib.Nat.{add-zero}
 use native.Mathlib.Omega.{arith}
 use mathlib.Core.Logic.{⊎_elim}
-use borrow.Author.Rules.{rules}
-use lib.ListN.{length}
-use Rattle.parse.proofs.NestingScan.{Scanned, opening, closing, neither, scan-start, scan-end, scan-on, scan-refused}
+use Rattle.parse.proofs.NestingScan.{opening, closing, neither, scan-start, scan-end, scan-on, scan-refused}
 use Rattle.parse.proofs.nesting.scan_ok.Goals as goal
 
 pub loop-at-init : goal.loop-at-init

@@ -2,15 +2,12 @@
 -- group of either sort at the same place, that on a group, and a group on lists further on. So the measure is the bytes left, five times, and
 -- 4 for a list, 3 for a node, 2 for a group of either sort, 1 for a group. The facts of each place go to the lemmas of Turns, Blocks and Arms.
 -- Assumes nothing.
-use Prim.Native.Nat.{ℕ, ◌+◌, ◌*◌, ◌-◌, ◌<◌}
 use mathlib.Core.Path.{sym, ◌∙◌}
 use native.Mathlib.Omega.{arith}
-use borrow.Author.Rules.{rules}
-use lib.ListN.{length}
 use Rattle.parse.proofs.Bytes.{seen}
 use Rattle.parse.proofs.Past.{within}
 use Rattle.parse.proofs.Groups.{takes-kind, stands-first, signed}
-use Rattle.parse.proofs.Turns.{Going, going_start, going_on, list-ends, list-stops, some-records}
+use Rattle.parse.proofs.Turns.{going_start, going_on, list-ends, list-stops, some-records}
 use Rattle.parse.proofs.Blocks.{no-group, open-group, closed-group, unsigned-group, open-binary, closed-binary}
 use Rattle.parse.proofs.Arms.{none-at-end, none-opened, a-group, a-bracket, leaf_first, group-instead, no-bracket-byte}
 use Rattle.record.specs.Meaning.{listed}

@@ -1,6 +1,5 @@
 -- `nodes::binary_group_kind` meets its contract: each way out is one case of the rule. Assumes nothing.
 use mathlib.Core.Path.{sym, ◌∙◌}
-use borrow.Author.Rules.{rules}
 use Rattle.parse.proofs.Groups.{signs-comma, signs-colon, signs-none}
 use Rattle.parse.proofs.node.binary_group_kind.Goals as goal
 

@@ -1,7 +1,6 @@
 -- `nodes::close` meets its contract. Assumes nothing.
 use mathlib.Core.Path.{◌≡◌, sym, ◌∙◌}
 use native.Mathlib.Omega.{arith}
-use borrow.Author.Rules.{rules}
 use borrow.Author.Tests.{eqb-true}
 use Rattle.charsets.proofs.Texts.{is_byte}
 use Rattle.notation.specs.Utf8.{byte_at}

@@ -1,5 +1,4 @@
 -- `nodes::leaf_node` meets its contract: what `leaf` reads is a leaf, and its record is written. Assumes nothing.
-use borrow.Author.Rules.{rules}
 use Rattle.record.specs.Meaning.{listed}
 use Rattle.parse.proofs.LeafNodes.{leaf-rejected, leaf-read}
 use Rattle.parse.proofs.node.leaf_node.Goals as goal

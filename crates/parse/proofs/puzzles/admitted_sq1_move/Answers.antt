@@ -1,7 +1,6 @@
 -- `admitted_sq1_move` meets its contract. Assumes nothing.
 use lib.ListN.{drop}
 use Rattle.parse.proofs.LeafReaders.{sq1-on, sq1-off}
-use borrow.Author.Rules.{rules}
 use Rattle.parse.proofs.puzzles.admitted_sq1_move.Goals as goal
 
 pub returns-then-features : goal.returns-then-features

@@ -6,7 +6,6 @@ use mathlib.Core.List.{List}
 use native.Mathlib.Omega.{arith}
 use lib.Dec.{eqb}
 use Rattle.notation.specs.Utf8.{byte_at}
-use borrow.Author.Rules.{rules}
 use Rattle.parse.proofs.puzzles.is_scramble.Goals as goal
 
 -- the third byte is the one after the second

@@ -9,7 +9,6 @@ use Rattle.notation.specs.Grammar.{read}
 use Rattle.notation.specs.declared.common.MegaminxScrambleMove.{MegaminxScrambleMove}
 use Rattle.parse.specs.Meaning.{scramble_kind}
 use Rattle.parse.proofs.LeafReaders.{scramble-stands}
-use borrow.Author.Rules.{rules}
 use Rattle.parse.proofs.puzzles.megaminx_scramble_move.Goals as goal
 
 pub returns : goal.returns

@@ -6,7 +6,6 @@ use Rattle.charsets.proofs.Runs.{end-length}
 use Rattle.parse.proofs.Past.{within}
 use Rattle.parse.proofs.Rules.{takes-sint}
 use Rattle.parse.proofs.LeafReaders.{padded-none, padded-some}
-use borrow.Author.Rules.{rules}
 use Rattle.parse.proofs.puzzles.padded_number.Goals as goal
 
 pub sint-requires : goal.sint-requires

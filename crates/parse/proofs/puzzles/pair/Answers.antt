@@ -7,7 +7,6 @@ use Rattle.notation.specs.Grammar.{read}
 use native.Mathlib.Omega.{arith}
 use Rattle.parse.proofs.Bytes.{seen}
 use Rattle.parse.proofs.LeafReaders.{no-u, no-comma, no-d, a_pair, no-close}
-use borrow.Author.Rules.{rules}
 use Rattle.parse.proofs.puzzles.pair.Goals as goal
 
 pub returns-in_default : goal.returns-in_default

@@ -5,7 +5,6 @@ use Prim.Native.Nat.{ℕ, ◌+◌}
 use lib.ListN.{drop}
 use Rattle.notation.specs.Grammar.{read}
 use Rattle.parse.proofs.LeafReaders.{a-slash, from-parenthesis, no-sq1}
-use borrow.Author.Rules.{rules}
 use Rattle.parse.proofs.puzzles.sq1_move.Goals as goal
 
 pub returns-then-has : goal.returns-then-has

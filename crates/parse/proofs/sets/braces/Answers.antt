@@ -1,6 +1,5 @@
 -- `braces` meets its contract: without a brace there is no set. Assumes nothing.
 use mathlib.Core.Path.{sym, ◌∙◌}
-use borrow.Author.Rules.{rules}
 use borrow.Author.Tests.{eqb-true}
 use Rattle.parse.specs.Meaning.{element_of}
 use Rattle.parse.proofs.InBraces.{no-brace}

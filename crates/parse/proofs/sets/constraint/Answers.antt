@@ -6,7 +6,6 @@ use lib.ListN.{length}
 use Rattle.notation.specs.Chars.{is_family_char, white_space}
 use Rattle.charsets.proofs.Runs.{end-length}
 use Rattle.parse.proofs.Families.{sign-inside, no-constraint, alone, first-only, both-families}
-use borrow.Author.Rules.{rules}
 use Rattle.parse.proofs.sets.constraint.Goals as goal
 use Rattle.parse.proofs.sets.constraint.Goals.{Else-to-at, Then-is_sign}
 

@@ -1,7 +1,6 @@
 -- `element_end` meets its contract: of an element only the end is told. Assumes nothing.
 use mathlib.Core.Path.{ap}
 use Rattle.parse.specs.Meaning.{forget}
-use borrow.Author.Rules.{rules}
 use Rattle.parse.proofs.sets.element_end.Goals as goal
 
 pub returns-in_default : goal.returns-in_default

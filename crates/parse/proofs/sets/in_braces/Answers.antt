@@ -1,15 +1,12 @@
 -- `in_braces` meets its contract: at each mark that the loop comes to, what follows decides the whole. Assumes nothing.
 use mathlib.Core.Path.{sym, ◌∙◌}
 use native.Mathlib.Omega.{arith}
-use Prim.Native.Nat.{◌+◌, ◌-◌}
-use borrow.Author.Rules.{rules}
-use lib.ListN.{length, drop}
+use Prim.Native.Nat.{◌+◌}
 use Rattle.notation.specs.Chars.{white_space}
-use Rattle.notation.specs.Grammar.{braces}
 use Rattle.charsets.proofs.Runs.{end-length}
-use Rattle.parse.specs.Meaning.{forget, element_of}
+use Rattle.parse.specs.Meaning.{element_of}
 use Rattle.parse.proofs.Rules.{takes-element}
-use Rattle.parse.proofs.InBraces.{Marked, opened, marks, closes}
+use Rattle.parse.proofs.InBraces.{opened, marks, closes}
 use Rattle.parse.proofs.sets.in_braces.Goals as goal
 
 pub loop-next-init : goal.loop-next-init

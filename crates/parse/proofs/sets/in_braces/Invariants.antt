@@ -1,15 +1,9 @@
 -- `in_braces` meets its contract: at each mark that the loop comes to, what follows decides the whole. Assumes nothing.
-use mathlib.Core.Path.{sym, ◌∙◌}
-use native.Mathlib.Omega.{arith}
-use Prim.Native.Nat.{◌+◌, ◌-◌}
-use borrow.Author.Rules.{rules}
+use Prim.Native.Nat.{◌-◌}
 use lib.ListN.{length, drop}
-use Rattle.notation.specs.Chars.{white_space}
 use Rattle.notation.specs.Grammar.{braces}
-use Rattle.charsets.proofs.Runs.{end-length}
 use Rattle.parse.specs.Meaning.{forget, element_of}
-use Rattle.parse.proofs.Rules.{takes-element}
-use Rattle.parse.proofs.InBraces.{Marked, opened, marks, closes}
+use Rattle.parse.proofs.InBraces.{Marked}
 use Rattle.parse.proofs.sets.in_braces.Given as goal
 
 abbrev pub invariant-loop-next : goal.invariant-loop-next

@@ -1,6 +1,5 @@
 -- `is_sign` meets its contract: each sign is looked for. Assumes nothing.
 use mathlib.Core.Path.{sym, ◌∙◌}
-use borrow.Author.Rules.{rules}
 use Rattle.parse.proofs.sets.is_sign.Goals as goal
 
 pub returns-then-has_two : goal.returns-then-has_two

@@ -2,7 +2,6 @@
 use mathlib.Core.Path.{sym, ◌∙◌}
 use native.Mathlib.Omega.{arith}
 use Rattle.parse.proofs.Bytes.{word-is, word-not, two-inside}
-use borrow.Author.Rules.{rules}
 use Rattle.parse.proofs.sets.layer_after_dots.Goals as goal
 
 pub sint-requires : goal.sint-requires

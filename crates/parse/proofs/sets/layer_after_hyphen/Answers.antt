@@ -2,7 +2,6 @@
 use mathlib.Core.Path.{sym, ◌∙◌}
 use native.Mathlib.Omega.{arith}
 use Rattle.parse.proofs.Bytes.{seen, just-is, just-not}
-use borrow.Author.Rules.{rules}
 use Rattle.parse.proofs.sets.layer_after_hyphen.Goals as goal
 
 pub uint-requires : goal.uint-requires

@@ -2,7 +2,6 @@
 use mathlib.Core.Path.{◌∙◌}
 use lib.ListN.{drop}
 use Rattle.parse.proofs.InBraces.{layer-set-ends}
-use borrow.Author.Rules.{rules}
 use Rattle.parse.proofs.sets.layer_set.Goals as goal
 
 pub returns : goal.returns

@@ -6,7 +6,6 @@ use Rattle.notation.specs.Grammar.{layer_set_element}
 use Rattle.parse.proofs.LayerSets.{no-element, dots-range, no-dots, no-range}
 use Rattle.parse.proofs.Past.{within}
 use Rattle.parse.proofs.Rules.{takes-sint}
-use borrow.Author.Rules.{rules}
 use Rattle.parse.proofs.sets.layer_set_element.Goals as goal
 
 pub returns-in_default : goal.returns-in_default

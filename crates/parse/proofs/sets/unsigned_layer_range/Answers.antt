@@ -1,10 +1,8 @@
 -- `unsigned_layer_range` meets its contract: a `-` before the first number leaves it by itself. Assumes nothing.
 use mathlib.Core.Path.{sym, ◌∙◌}
-use Rattle.parse.proofs.Bytes.{other}
 use Rattle.parse.proofs.LayerSets.{negative-single, hyphen-single, hyphen-range}
 use Rattle.parse.proofs.Past.{within}
 use Rattle.parse.proofs.Rules.{takes-sint}
-use borrow.Author.Rules.{rules}
 use Rattle.parse.proofs.sets.unsigned_layer_range.Goals as goal
 
 pub returns-then-has : goal.returns-then-has

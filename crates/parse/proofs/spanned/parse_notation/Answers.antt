@@ -1,7 +1,5 @@
 -- `spanned::parse_notation` meets its contract: each way out is one case of the rule. Assumes nothing.
 use mathlib.Core.Path.{sym, ◌∙◌}
-use borrow.Author.Rules.{rules}
-use borrow.Author.Tests.{not-true, not-false}
 use Rattle.parse.proofs.Entry.{too_long, not-utf8, too-nested, not-notation, no_room, wrote-tallies, wrote-tree}
 use Rattle.parse.proofs.spanned.parse_notation.Goals as goal
 
@@ -32,8 +30,7 @@ returns-then-tree-size c =
 
 pub fill_counts-requires : goal.fill_counts-requires
 fill_counts-requires c =
-    let a = c.args in
-    (
+    let a = c.args in (
       c.node_list-measured.ensures.tree,
       wrote-tallies a.features a.text.now a.tree.now c.if-text-gt-MAX_TEXT.false (sym c.is_utf8.ensures ∙ c.if-not-is_utf8.false) (sym c.nesting_ok.ensures ∙ c.if-not-nesting_ok.false) _ c.node_list-measured.result.next c.node_list-measured.result.slot c.node_list-measured.ensures c.if-measured-text.false
           c.if-tree-size.false _ c.node_list.result.next c.node_list.result.slot c.node_list.ensures,

@@ -1,5 +1,4 @@
 -- `Reader::multiplier` meets its contract: what `parse` read, and the cursor behind it.
-use Rattle.std.proofs.Common.{◌≡◌}
 use Rattle.reader.proofs.Ends.{multiplier-moves}
 use Rattle.reader.proofs.Reader.multiplier.Goals as goal
 

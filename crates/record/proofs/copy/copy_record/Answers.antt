@@ -1,5 +1,5 @@
 -- `record::copy::copy_record` meets its contract: the bytes of its own have the length of a record.
-use Rattle.std.proofs.Common.{ap, sym, ◌∙◌, arith, length, length-take}
+use Rattle.std.proofs.Common.{ap, arith, length, length-take}
 use Rattle.record.proofs.copy.copy_record.Goals as goal
 
 pub copy_from_slice-requires-2 : goal.copy_from_slice-requires-2

@@ -1,4 +1,3 @@
-use borrow.Author.Rules.{rules}
 use mathlib.Core.Path.{ap, ◌∙◌}
 use Rattle.notation.specs.Tree as tree
 use Rattle.notation.specs.Packed.{family_at}

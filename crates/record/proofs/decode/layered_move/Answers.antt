@@ -1,4 +1,3 @@
-use borrow.Author.Rules.{rules}
 use Rattle.record.proofs.decode.layered_move.Goals as goal
 
 pub returns : goal.returns

@@ -1,4 +1,3 @@
-use borrow.Author.Rules.{rules}
 use native.Mathlib.Omega.{arith}
 use Rattle.numbers.proofs.TwosComplement.{to_bits-from_bits}
 use Rattle.record.proofs.Packed.{binary_number-lt}

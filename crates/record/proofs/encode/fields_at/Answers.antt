@@ -1,5 +1,4 @@
 -- `encode::fields_at` meets its contract: each field where it stands. Assumes nothing.
-use borrow.Author.Rules.{rules}
 use Rattle.record.proofs.Same.{all-fields}
 use Rattle.record.proofs.encode.fields_at.Goals as goal
 

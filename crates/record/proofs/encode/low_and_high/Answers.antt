@@ -1,4 +1,3 @@
-use borrow.Author.Rules.{rules}
 use Rattle.record.proofs.encode.low_and_high.Goals as goal
 
 pub returns-in-Single : goal.returns-in-Single

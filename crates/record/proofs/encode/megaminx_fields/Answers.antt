@@ -1,4 +1,3 @@
-use borrow.Author.Rules.{rules}
 use native.Mathlib.Omega.{arith}
 use Rattle.record.proofs.Packed.{megaminx_number-lt}
 use Rattle.record.proofs.encode.megaminx_fields.Goals as goal

@@ -1,4 +1,3 @@
-use borrow.Author.Rules.{rules}
 use Rattle.record.proofs.encode.or_nowhere.Goals as goal
 
 pub returns-in-None : goal.returns-in-None

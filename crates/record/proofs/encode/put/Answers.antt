@@ -1,4 +1,3 @@
-use borrow.Author.Rules.{rules}
 use mathlib.Core.Path.{refl}
 use Rattle.record.specs.Meaning.{listed}
 use Rattle.record.proofs.Packed.{stored}

@@ -2,7 +2,6 @@
 use mathlib.Core.Path.{◌∙◌}
 use lib.ListN.{drop}
 use Rattle.record.specs.Meaning.{uncounted}
-use borrow.Author.Rules.{rules}
 use Rattle.record.proofs.Same.{differs, after-five}
 use Rattle.record.proofs.encode.same_fields.Goals as goal
 

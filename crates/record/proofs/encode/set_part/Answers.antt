@@ -1,4 +1,3 @@
-use borrow.Author.Rules.{rules}
 use Rattle.record.proofs.encode.set_part.Goals as goal
 
 pub returns-in-None : goal.returns-in-None

@@ -1,4 +1,3 @@
-use borrow.Author.Rules.{rules}
 use mathlib.Core.Path.{refl}
 use Rattle.numbers.proofs.BigEndian.{slice-below}
 use Rattle.record.proofs.Packed.{two-as-one}

@@ -1,4 +1,3 @@
-use borrow.Author.Rules.{rules}
 use Rattle.record.proofs.fields.constraints_present.Goals as goal
 
 pub returns : goal.returns

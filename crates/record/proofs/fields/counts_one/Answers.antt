@@ -1,4 +1,3 @@
-use borrow.Author.Rules.{rules}
 use mathlib.Core.Path.{refl}
 use Rattle.record.proofs.Packed.{more-than-one, one-by-low}
 use Rattle.record.proofs.fields.counts_one.Goals as goal

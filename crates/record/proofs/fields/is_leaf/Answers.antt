@@ -1,8 +1,6 @@
 -- `record::fields::is_leaf` meets its contract: a test of the kind. Assumes nothing.
-use Prim.Native.Nat.{ℕ}
 use mathlib.Core.Path.{ap}
 use lib.Dec.{ltb}
-use borrow.Author.Rules.{rules}
 use Rattle.record.proofs.fields.is_leaf.Goals as goal
 
 pub returns : goal.returns

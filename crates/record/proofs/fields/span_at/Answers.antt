@@ -1,4 +1,3 @@
-use borrow.Author.Rules.{rules}
 use mathlib.Core.Path.{ap₂}
 use native.Mathlib.Omega.{arith}
 use Rattle.notation.specs.Tree.{span}
@@ -11,5 +10,8 @@ returns c =
     let a = c.args in
     let s = a.t.now in
     let below = slice-below s c.type_inv.t in
-    let room = c.requires in record { result_value = ap₂ span (first-of-two s a.at below room c.read_u32-head.result c.read_u16-tail.result c.read_u32-head.ensures c.read_u16-tail.ensures)
-          (second-of-two s a.at below room c.read_u32-head.result c.read_u16-tail.result c.read_u32-head.ensures c.read_u16-tail.ensures); fits_span = record { offset = omega arith; size = omega arith } }
+    let room = c.requires in record {
+      result_value = ap₂ span (first-of-two s a.at below room c.read_u32-head.result c.read_u16-tail.result c.read_u32-head.ensures c.read_u16-tail.ensures)
+          (second-of-two s a.at below room c.read_u32-head.result c.read_u16-tail.result c.read_u32-head.ensures c.read_u16-tail.ensures);
+      fits_span = record { offset = omega arith; size = omega arith };
+    }

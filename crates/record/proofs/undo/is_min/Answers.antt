@@ -1,5 +1,4 @@
 -- `record::undo::is_min` meets its contract: the first byte tells, or all four do. Assumes nothing.
-use borrow.Author.Rules.{rules}
 use mathlib.Core.Path.{ap}
 use lib.Dec.{eqb}
 use Prim.Native.Nat.{ℕ}

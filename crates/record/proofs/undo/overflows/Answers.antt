@@ -1,5 +1,4 @@
 -- `record::undo::overflows` meets its contract: the three ways of its test. Assumes nothing.
-use borrow.Author.Rules.{rules}
 use mathlib.Core.Path.{◌∙◌, sym, ap}
 use Prim.Native.Nat.{ℕ}
 use lib.Dec.{eqb, lit<}

@@ -1,6 +1,5 @@
 -- `record::undo::undo_record` meets its contract: each way through it by its law. Assumes nothing.
 use Rattle.record.proofs.Undoing.{number-undone, pair-undone, kind-undone}
-use borrow.Author.Rules.{rules}
 use Rattle.record.proofs.undo.undo_record.Goals as goal
 
 pub returns-then-kind-eq-PAIR : goal.returns-then-kind-eq-PAIR

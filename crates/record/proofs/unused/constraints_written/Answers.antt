@@ -1,4 +1,3 @@
-use borrow.Author.Rules.{rules}
 use mathlib.Core.Path.{sym, ◌∙◌}
 use Rattle.record.proofs.Zeros.{first-passed, second-asked}
 use Rattle.record.proofs.unused.constraints_written.Goals as goal

@@ -1,4 +1,3 @@
-use borrow.Author.Rules.{rules}
 use mathlib.Core.Path.{sym, ◌∙◌}
 use Rattle.record.proofs.Zeros.{both-passed, first-failed}
 use Rattle.record.proofs.unused.parts_written.Goals as goal

@@ -1,5 +1,4 @@
 -- `simplify_around` meets its contract: the layers beside a range are those that it leaves over. Assumes nothing.
-use borrow.Author.Rules.{rules}
 use borrow.Author.Tests.{le-leb, lt-leb}
 use Prim.Native.Nat.{◌+◌, ◌-◌}
 use mathlib.Core.Path.{◌≡◌, ◌∙◌}

@@ -1,11 +1,8 @@
 -- `count_runs` meets its contract. The invariant: those counted and those from `low` on are all, and one begins at `low`. Assumes nothing.
 use Prim.Native.Nat.{◌+◌, ◌≤◌, ◌<◌, ◌-◌}
-use mathlib.Core.Path.{◌≡◌, ap}
-use native.Mathlib.Omega.{arith}
+use mathlib.Core.Path.{◌≡◌}
 use lib.ListN.{length, get_or}
-use borrow.Author.Rules.{rules}
 use Rattle.simplify.specs.Reach.{runs_from}
-use Rattle.simplify.proofs.Sweep.{next-run, no-runs}
 use Rattle.simplify.proofs.reach.count_runs.Given as goal
 
 abbrev pub invariant-loop-low : goal.invariant-loop-low

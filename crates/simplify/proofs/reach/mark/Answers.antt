@@ -1,5 +1,4 @@
 -- `mark` meets its contract: a range that reaches no further than the entry changes nothing. Assumes nothing.
-use borrow.Author.Rules.{rules}
 use Rattle.simplify.proofs.Sweep.{marks, marks-nothing}
 use Rattle.simplify.proofs.reach.mark.Goals as goal
 

@@ -1,10 +1,7 @@
 -- `next_start` meets its contract. The invariant: from `at` and from `i` on the runs are the same. Assumes nothing.
-use Prim.Native.Nat.{◌≤◌, ◌-◌}
-use mathlib.Core.Path.{◌≡◌, ◌∙◌}
+use mathlib.Core.Path.{◌∙◌}
 use native.Mathlib.Omega.{arith}
-use lib.ListN.{length}
 use borrow.Author.Rules.{rules}
-use Rattle.simplify.specs.Reach.{runs_from}
 use Rattle.simplify.proofs.Sweep.{positive, skipped}
 use Rattle.simplify.proofs.reach.next_start.Goals as goal
 

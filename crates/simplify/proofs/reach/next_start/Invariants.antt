@@ -1,11 +1,8 @@
 -- `next_start` meets its contract. The invariant: from `at` and from `i` on the runs are the same. Assumes nothing.
 use Prim.Native.Nat.{◌≤◌, ◌-◌}
-use mathlib.Core.Path.{◌≡◌, ◌∙◌}
-use native.Mathlib.Omega.{arith}
+use mathlib.Core.Path.{◌≡◌}
 use lib.ListN.{length}
-use borrow.Author.Rules.{rules}
 use Rattle.simplify.specs.Reach.{runs_from}
-use Rattle.simplify.proofs.Sweep.{positive, skipped}
 use Rattle.simplify.proofs.reach.next_start.Given as goal
 
 abbrev pub invariant-loop-i : goal.invariant-loop-i

@@ -1,13 +1,11 @@
 -- `run_end` meets its contract. The invariant: the run from `low` to `high` and the entries from `i` on join to the runs from `low`
 -- on, and no entry beyond the layer after the run was passed. Assumes nothing.
-use Prim.Native.Nat.{◌+◌, ◌≤◌, ◌<◌, ◌-◌, max}
+use Prim.Native.Nat.{max}
 use mathlib.Core.Path.{◌≡◌, ◌∙◌, sym}
 use mathlib.Core.Logic.{⊎_elim}
 use native.Mathlib.Omega.{arith}
-use lib.ListN.{length, get_or}
-use borrow.Author.Rules.{rules}
-use Rattle.simplify.specs.Reach.{runs_from}
-use Rattle.simplify.proofs.Sweep.{open-run, opens, grows, ends, ends-with-table}
+use lib.ListN.{get_or}
+use Rattle.simplify.proofs.Sweep.{opens, grows, ends, ends-with-table}
 use Rattle.simplify.proofs.reach.run_end.Goals as goal
 
 pub loop-i-init : goal.loop-i-init

@@ -1,5 +1,4 @@
 -- `write_range` meets its contract: two fields, one after the other. Assumes nothing.
-use borrow.Author.Rules.{rules}
 use Rattle.simplify.proofs.Sweep.{two_fields}
 use Rattle.simplify.proofs.reach.write_range.Goals as goal
 

@@ -1,11 +1,8 @@
 -- `write_runs` meets its contract. The invariant: with the runs from `low` on written from `at` on, the bytes are those asked for. Assumes nothing.
 use Prim.Native.Nat.{◌+◌, ◌*◌, ◌≤◌, ◌<◌, ◌-◌}
-use mathlib.Core.Path.{◌≡◌, refl, ◌∙◌, sym, ap}
-use native.Mathlib.Omega.{arith}
+use mathlib.Core.Path.{◌≡◌}
 use lib.ListN.{length, get_or}
-use borrow.Author.Rules.{rules}
-use Rattle.simplify.specs.Reach.{range_from, runs_from, written}
-use Rattle.simplify.proofs.Sweep.{none_written, all-written, one_written, next-run, no-runs}
+use Rattle.simplify.specs.Reach.{runs_from, written}
 use Rattle.simplify.proofs.reach.write_runs.Given as goal
 
 abbrev pub invariant-loop-low : goal.invariant-loop-low

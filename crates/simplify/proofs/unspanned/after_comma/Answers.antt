@@ -1,5 +1,4 @@
 -- `after_comma` meets its contract: white space, the comma or not, white space. Assumes nothing.
-use borrow.Author.Rules.{rules}
 use Rattle.simplify.proofs.SetElements.{with-comma, without-comma, at-the-end}
 use Rattle.simplify.proofs.unspanned.after_comma.Goals as goal
 

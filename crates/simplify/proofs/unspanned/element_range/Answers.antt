@@ -1,5 +1,4 @@
 -- `element_range` meets its contract: the rule goes by the same cases. Assumes nothing.
-use borrow.Author.Rules.{rules}
 use mathlib.Core.Path.{ap}
 use Rattle.parse.specs.Meaning.{layer_set_element_of}
 use Rattle.simplify.proofs.ElementRanges.{single-range, range-range, single-is, range-is}
@@ -17,23 +16,32 @@ signed_layer-requires-in-Range-2 c = (range-is _ _ (ap layer_set_element_of c.in
 
 pub returns-in-Some : goal.returns-in-Some
 returns-in-Some c =
-    record { result_value = single-range c.args.axis.max_layer c.args.axis.allow_negatives (layer_set_element_of c.args.element) _ _ _
+    record {
+      result_value = single-range c.args.axis.max_layer c.args.axis.allow_negatives (layer_set_element_of c.args.element) _ _ _
           (ap layer_set_element_of c.in-Single.is)
           c.signed_layer.ensures.result_value
-          (rw c.in-Some.is at c.resolve.ensures.result_value); each = let here = rw c.in-Some.is at c.resolve.ensures.each in
-          record { low = here.low; ordered = omega arith; high = here.high } }
+          (rw c.in-Some.is at c.resolve.ensures.result_value);
+      each = let here = rw c.in-Some.is at c.resolve.ensures.each in
+          record { low = here.low; ordered = omega arith; high = here.high };
+    }
 
 pub returns-in-None : goal.returns-in-None
 returns-in-None c =
-    record { result_value = single-range c.args.axis.max_layer c.args.axis.allow_negatives (layer_set_element_of c.args.element) _ _ _
+    record {
+      result_value = single-range c.args.axis.max_layer c.args.axis.allow_negatives (layer_set_element_of c.args.element) _ _ _
           (ap layer_set_element_of c.in-Single.is)
           c.signed_layer.ensures.result_value
-          (rw c.in-None.is at c.resolve.ensures.result_value); each = tt }
+          (rw c.in-None.is at c.resolve.ensures.result_value);
+      each = tt;
+    }
 
 pub returns-in-Range : goal.returns-in-Range
 returns-in-Range c =
-    record { result_value = range-range c.args.axis.max_layer c.args.axis.allow_negatives (layer_set_element_of c.args.element) _ _ _ _ _
+    record {
+      result_value = range-range c.args.axis.max_layer c.args.axis.allow_negatives (layer_set_element_of c.args.element) _ _ _ _ _
           (ap layer_set_element_of c.in-Range.is)
           c.signed_layer-in-Range.ensures.result_value
           c.signed_layer-in-Range-2.ensures.result_value
-          c.resolve_range.ensures.result_value; each = c.resolve_range.ensures.each }
+          c.resolve_range.ensures.result_value;
+      each = c.resolve_range.ensures.each;
+    }

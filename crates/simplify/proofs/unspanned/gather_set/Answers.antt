@@ -1,5 +1,4 @@
 -- `gather_set` meets its contract: the table of the set, turned over where there is a tilde. Assumes nothing.
-use borrow.Author.Rules.{rules}
 use Prim.Native.Nat.{ℕ, ◌+◌}
 use mathlib.Core.Path.{ap}
 use native.Mathlib.Omega.{arith}

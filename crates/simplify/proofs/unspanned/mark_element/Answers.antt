@@ -1,5 +1,4 @@
 -- `mark_element` meets its contract: an element that names no layer of the axis marks nothing. Assumes nothing.
-use borrow.Author.Rules.{rules}
 use mathlib.Core.Path.{ap, ◌∙◌}
 use mathlib.Core.Option.{Option}
 use native.Mathlib.Omega.{arith}

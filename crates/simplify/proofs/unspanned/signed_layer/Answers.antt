@@ -1,5 +1,4 @@
 -- `signed_layer` meets its contract: a number is its sign and its magnitude. Assumes nothing.
-use borrow.Author.Rules.{rules}
 use native.Mathlib.Omega.{arith}
 use Rattle.notation.specs.Numbers.{from_bits}
 use Rattle.simplify.proofs.ElementRanges.{sign-and-magnitude}

@@ -1,5 +1,4 @@
 -- `simplify_no_set` meets its contract. Assumes nothing.
-use borrow.Author.Rules.{rules}
 use Rattle.simplify.proofs.unspanned.simplify_no_set.Goals as goal
 
 pub returns-then-inverted : goal.returns-then-inverted

@@ -1,5 +1,4 @@
 -- `simplify_range` meets its contract: one range or none, which stays as it is. Assumes nothing.
-use borrow.Author.Rules.{rules}
 use mathlib.Core.Path.{refl}
 use mathlib.Core.List.{[]}
 use native.Mathlib.Omega.{arith}

@@ -1,5 +1,4 @@
 -- `simplify_set` meets its contract: the runs of the table are the simplified ranges. Assumes nothing.
-use borrow.Author.Rules.{rules}
 use native.Mathlib.Omega.{arith}
 use Rattle.simplify.proofs.Answers.{answered, refused}
 use Rattle.simplify.proofs.unspanned.simplify_set.Goals as goal

@@ -1,5 +1,4 @@
 -- `simplify_set_of_few` meets its contract: the front of the cleared table is empty. Assumes nothing.
-use borrow.Author.Rules.{rules}
 use Prim.Native.Nat.{◌+◌}
 use native.Mathlib.Omega.{arith}
 use Rattle.simplify.proofs.Answers.{take-zeros, length-zeros}

@@ -1,6 +1,5 @@
 -- `vectors::agreement::agreed` is safe: every call gives back buffers of the length that it got. Assumes nothing.
 use native.Mathlib.Omega.{arith}
-use borrow.Author.Rules.{rules}
 use Rattle.vectors.proofs.agreement.agreed.Goals as goal
 
 pub put_answers-at-requires : goal.put_answers-at-requires

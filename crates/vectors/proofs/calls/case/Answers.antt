@@ -1,7 +1,6 @@
 -- `vectors::calls::case` is safe: the text and the tree end within their buffers. Assumes nothing.
 use native.Mathlib.Omega.{arith}
 use Rattle.vectors.proofs.Limits.{value-at-most}
-use borrow.Author.Rules.{rules}
 use Rattle.vectors.proofs.calls.case.Goals as goal
 
 pub slice_bounds-asked-end : goal.slice_bounds-asked-end

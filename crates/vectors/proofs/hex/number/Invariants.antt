@@ -1,6 +1,5 @@
 -- `vectors::hex::number` is safe and ends: the value stays below 2^64. Assumes nothing.
 use Prim.Native.Nat.{◌≤◌, ◌-◌}
-use borrow.Author.Rules.{rules}
 use lib.ListN.{length}
 use Rattle.vectors.proofs.hex.number.Given as goal
 

@@ -1,9 +1,6 @@
 -- `vectors::line::put` is safe, ends, and answers where the piece ends. Assumes nothing.
-use Prim.Native.Nat.{◌≤◌, ◌-◌}
-use borrow.Author.Rules.{rules}
 use native.Mathlib.Omega.{arith}
-use mathlib.Core.Path.{◌≡◌}
-use lib.ListN.{length, length-set}
+use lib.ListN.{length-set}
 use Rattle.vectors.proofs.line.put.Goals as goal
 
 pub loop-i-preserved : goal.loop-i-preserved

@@ -1,7 +1,5 @@
 -- `vectors::pieces::lines_end` is safe, ends, and answers an index up to the length. Assumes nothing.
-use Prim.Native.Nat.{◌≤◌, ◌-◌}
-use borrow.Author.Rules.{rules}
-use mathlib.Core.Path.{◌≡◌}
+use Prim.Native.Nat.{◌≤◌}
 use lib.ListN.{length}
 use Rattle.vectors.proofs.pieces.lines_end.Given as goal
 

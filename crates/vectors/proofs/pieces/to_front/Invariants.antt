@@ -1,6 +1,5 @@
 -- `vectors::pieces::to_front` is safe and ends. Assumes nothing.
 use Prim.Native.Nat.{◌≤◌, ◌-◌}
-use borrow.Author.Rules.{rules}
 use mathlib.Core.Path.{◌≡◌}
 use lib.ListN.{length}
 use Rattle.vectors.proofs.pieces.to_front.Given as goal

@@ -1,7 +1,6 @@
 -- `vectors::reading::case` is safe: the text ends within its buffer, and the features' bits fit. Assumes nothing.
 use native.Mathlib.Omega.{arith}
 use Rattle.vectors.proofs.Limits.{value-at-most}
-use borrow.Author.Rules.{rules}
 use Rattle.vectors.proofs.reading.case.Goals as goal
 
 pub slice_bounds-parsed-end : goal.slice_bounds-parsed-end

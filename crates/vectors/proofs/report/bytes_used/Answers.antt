@@ -1,7 +1,6 @@
 -- `vectors::report::bytes_used` is safe, and stays within the room. Assumes nothing.
 use native.Mathlib.Omega.{arith}
 use Rattle.vectors.proofs.Limits.{product-at-most}
-use borrow.Author.Rules.{rules}
 use Rattle.vectors.proofs.report.bytes_used.Goals as goal
 
 -- src/report.rt:32:5

@@ -1,7 +1,5 @@
 -- `vectors::report::checksum` is safe and ends: the total stays below 2^24. Assumes nothing.
 use Prim.Native.Nat.{◌≤◌, ◌<◌, ◌-◌}
-use borrow.Author.Rules.{rules}
-use native.Mathlib.Omega.{arith}
 use lib.ListN.{length}
 use Rattle.vectors.proofs.report.checksum.Given as goal
 

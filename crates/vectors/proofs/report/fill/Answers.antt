@@ -1,9 +1,6 @@
 -- `vectors::report::fill` is safe, ends, and keeps the buffer's length. Assumes nothing.
-use Prim.Native.Nat.{◌≤◌, ◌-◌}
-use borrow.Author.Rules.{rules}
 use native.Mathlib.Omega.{arith}
-use mathlib.Core.Path.{◌≡◌}
-use lib.ListN.{length, length-set}
+use lib.ListN.{length-set}
 use Rattle.vectors.proofs.report.fill.Goals as goal
 
 pub loop-i-smaller : goal.loop-i-smaller

@@ -1,9 +1,7 @@
 -- `vectors::report::fill` is safe, ends, and keeps the buffer's length. Assumes nothing.
 use Prim.Native.Nat.{◌≤◌, ◌-◌}
-use borrow.Author.Rules.{rules}
-use native.Mathlib.Omega.{arith}
 use mathlib.Core.Path.{◌≡◌}
-use lib.ListN.{length, length-set}
+use lib.ListN.{length}
 use Rattle.vectors.proofs.report.fill.Given as goal
 
 abbrev pub invariant-loop-i : goal.invariant-loop-i

@@ -1,6 +1,5 @@
 -- `vectors::report::is_untouched` is safe and ends. Assumes nothing.
 use Prim.Native.Nat.{◌≤◌, ◌-◌}
-use borrow.Author.Rules.{rules}
 use lib.ListN.{length}
 use Rattle.vectors.proofs.report.is_untouched.Given as goal
 

@@ -1,6 +1,5 @@
 -- `vectors::text::find` is safe, ends, and answers an index from `from` to the length. Assumes nothing.
 use Prim.Native.Nat.{◌≤◌, ◌-◌}
-use borrow.Author.Rules.{rules}
 use lib.ListN.{length}
 use Rattle.vectors.proofs.text.find.Given as goal
 

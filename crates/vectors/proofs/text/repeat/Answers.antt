@@ -1,9 +1,6 @@
 -- `vectors::text::repeat` is safe, ends, and fills no more than there is: the test by division bounds the product. Assumes nothing.
-use Prim.Native.Nat.{◌≤◌, ◌-◌}
-use borrow.Author.Rules.{rules}
 use native.Mathlib.Omega.{arith}
-use mathlib.Core.Path.{◌≡◌}
-use lib.ListN.{length, length-set}
+use lib.ListN.{length-set}
 use Rattle.vectors.proofs.Limits.{product-at-most}
 use Rattle.vectors.proofs.text.repeat.Goals as goal
 

@@ -1,7 +1,6 @@
 -- `vectors::text::segment` is safe, and answers no more than `text` has. Assumes nothing.
 use native.Mathlib.Omega.{arith}
 use Rattle.vectors.proofs.Limits.{value-at-most, at-most-more}
-use borrow.Author.Rules.{rules}
 use Rattle.vectors.proofs.text.segment.Goals as goal
 
 pub repeat-requires : goal.repeat-requires

@@ -1,10 +1,7 @@
 -- `vectors::text::spell` is safe, ends, since each segment ends after it starts, and answers no more than `text` has. Assumes nothing.
-use Prim.Native.Nat.{◌+◌, ◌≤◌, ◌-◌}
-use borrow.Author.Rules.{rules}
-use native.Mathlib.Omega.{arith}
+use Prim.Native.Nat.{◌≤◌, ◌-◌}
 use mathlib.Core.Path.{◌≡◌}
 use lib.ListN.{length}
-use Rattle.vectors.proofs.Limits.{value-at-most, length_rest}
 use Rattle.vectors.proofs.text.spell.Given as goal
 
 abbrev pub invariant-loop-at : goal.invariant-loop-at

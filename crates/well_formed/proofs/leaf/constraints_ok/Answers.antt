@@ -1,5 +1,4 @@
 -- `constraints_ok` meets its contract, by cases. Assumes nothing.
-use borrow.Author.Rules.{rules}
 use Rattle.well_formed.proofs.leaf.constraints_ok.Goals as goal
 
 pub returns-in-Some : goal.returns-in-Some

@@ -1,6 +1,5 @@
 -- `layers_ok` meets its contract, by cases. Assumes nothing.
 use mathlib.Core.Path.{◌∙◌}
-use borrow.Author.Rules.{rules}
 use Rattle.well_formed.proofs.Tests as tests
 use Rattle.well_formed.proofs.leaf.layers_ok.Goals as goal
 

@@ -2,7 +2,6 @@
 use mathlib.Core.Path.{◌≡◌, ◌∙◌, sym}
 use mathlib.Core.Bool.{◌&&◌}
 use mathlib.Core.Logic.{⊎_elim}
-use borrow.Author.Rules.{rules}
 use Rattle.notation.specs.WellFormed.{family_ok, constraints_ok, layers_ok, leaf_ok}
 use Rattle.record.specs.Meaning.{span, span_option, layers}
 use Rattle.well_formed.proofs.leaf.move_ok.Goals as goal

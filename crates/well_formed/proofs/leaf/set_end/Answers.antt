@@ -1,5 +1,4 @@
 -- `set_end` meets its contract: the flag tells which reader is asked. Assumes nothing.
-use borrow.Author.Rules.{rules}
 use Rattle.well_formed.proofs.leaf.set_end.Goals as goal
 
 pub returns-then-layers : goal.returns-then-layers

@@ -1,5 +1,4 @@
 -- `to_end` meets its contract: nothing is left after an end at or past the part's. Assumes nothing.
-use borrow.Author.Rules.{rules}
 use Rattle.well_formed.proofs.Tests as tests
 use Rattle.well_formed.proofs.leaf.to_end.Goals as goal
 

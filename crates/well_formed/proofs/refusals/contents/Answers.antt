@@ -1,4 +1,3 @@
-use borrow.Author.Rules.{rules}
 use mathlib.Core.Path.{ap, ◌∙◌}
 use Rattle.laws.specs.Unrolled.{first}
 use Rattle.well_formed.specs.Refusing.{refusal_of, refuses}

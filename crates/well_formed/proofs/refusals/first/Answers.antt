@@ -1,4 +1,3 @@
-use borrow.Author.Rules.{rules}
 use Rattle.well_formed.proofs.Refusing.{first_taken}
 use Rattle.well_formed.proofs.refusals.first.Goals as goal
 

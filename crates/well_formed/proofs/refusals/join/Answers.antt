@@ -1,4 +1,3 @@
-use borrow.Author.Rules.{rules}
 use Rattle.well_formed.proofs.Refusing.{either_way}
 use Rattle.well_formed.proofs.refusals.join.Goals as goal
 

@@ -1,9 +1,6 @@
 -- `refusals::of_group` meets its contract: each way out is one case of the rule. Assumes nothing.
-use borrow.Author.Rules.{rules}
-use mathlib.Core.Path.{sym, ap, ◌∙◌}
+use mathlib.Core.Path.{ap, ◌∙◌}
 use Prim.Native.Nat.{ℕ}
-use mathlib.Core.Bool.{Bool}
-use mathlib.Core.Option.{Option}
 use Rattle.notation.specs.Numbers.{from_bits}
 use Rattle.record.specs.Meaning.{field, NUMBER}
 use Rattle.well_formed.specs.Refusing.{refuses, group_refuses}

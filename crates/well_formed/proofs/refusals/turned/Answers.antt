@@ -1,4 +1,3 @@
-use borrow.Author.Rules.{rules}
 use mathlib.Core.Path.{sym, ◌∙◌}
 use Rattle.notation.specs.Numbers.{from_bits}
 use Rattle.well_formed.proofs.Refusing.{turned_round, turned-not}

@@ -1,20 +1,16 @@
 -- The proof of the cycle of calls {visit_group, visit_list}: a list calls on its groups, a group on its lists with one level less. Assumes nothing.
-use Prim.Native.Nat.{ℕ, ◌+◌, ◌*◌, ◌≤◌, ◌<◌}
-use mathlib.Core.Path.{◌≡◌, refl, sym, ap, subst, ◌∙◌}
+use Prim.Native.Nat.{ℕ, ◌<◌}
+use mathlib.Core.Path.{refl, sym, ap, subst, ◌∙◌}
 use mathlib.Core.Bool.{false}
 use mathlib.Core.Option.{some}
 use native.Mathlib.Omega.{arith}
 use borrow.Author.Rules.{rules}
 use lib.ListN.{length}
-use Rattle.notation.specs.Packed.{RECORD, unpack}
+use Rattle.notation.specs.Packed.{RECORD}
 use Rattle.well_formed.specs.Meaning.{step_count as answer}
 use Rattle.well_formed.proofs.Refusing.{none-met}
 use Rattle.numbers.proofs.BigEndian.{slice-below}
-use Rattle.well_formed.proofs.Turns.{
-  GroupTold, group-told, counted, too_short, too_long, bad-node, no_more, all-met, refused, Left, at_first, shorter, past-group, past-leaf,
-  group-not, group-capped, sum_room, no-group, no-level, group-refused, group-meets, FirstRead, first-refused, first-capped, first-met, none-second,
-  SecondRead, no_second, second-list-refused, second-capped, second-met, group-found
-}
+use Rattle.well_formed.proofs.Turns.{GroupTold, group-told, counted, too_short, too_long, bad-node, no_more, all-met, refused, at_first, shorter, past-group, past-leaf, group-not, group-capped, sum_room, no-group, no-level, group-refused, group-meets, FirstRead, first-refused, first-capped, first-met, none-second, SecondRead, no_second, second-list-refused, second-capped, second-met, group-found}
 use Rattle.record.specs.Meaning.{kind_at}
 use Rattle.record.proofs.KindTests.{group-low, no-group-high}
 use Rattle.well_formed.proofs.walk.+visit_group_visit_list.Goals as goal
@@ -115,9 +111,9 @@ visit_group-returns-then-kind-lt-COMMUTATOR t c =
     let in-a = c.in-Steps.in_a in
     let met = first-met one (c.visit_list.result) in-a c.in-Steps.is (c.visit_list.ensures.meets) in
     let found = group-found (no_second one low) 0 refl c.kind-kind.ensures c.number-number.ensures c.count.ensures c.of_group.ensures
-        c.compared.result c.of_group-then-kind-lt-COMMUTATOR.result
-        (group-meets a.text.now a.depth a.t.now one.told c.of_group-then-kind-lt-COMMUTATOR.result in-a none-met c.kind-kind.ensures refl met (none-second one low) c.of_group-then-kind-lt-COMMUTATOR.ensures)
-        c.compared.ensures in
+    c.compared.result c.of_group-then-kind-lt-COMMUTATOR.result
+    (group-meets a.text.now a.depth a.t.now one.told c.of_group-then-kind-lt-COMMUTATOR.result in-a none-met c.kind-kind.ensures refl met (none-second one low) c.of_group-then-kind-lt-COMMUTATOR.ensures)
+    c.compared.ensures in
     record { result_value = found.0; meets_node = found.1 }
 
 pub visit_group-returns-in_default-visit_list : goal.visit_group-returns-in_default-visit_list
@@ -145,16 +141,19 @@ visit_group-returns-in-Steps-visit_list t c =
     let met = first-met both.one (c.visit_list.result) in-a c.in-Steps.is (c.visit_list.ensures.meets) in
     let met' = second-met both c.visit_list-then-group_record_ok.result in_b c.in-Steps-visit_list.is c.visit_list-then-group_record_ok.ensures.meets in
     let found = group-found both c.in-Steps-visit_list.b (ap answer c.in-Steps-visit_list.is) c.kind-kind.ensures c.number-number.ensures c.count-then-group_record_ok.ensures c.of_group-then-group_record_ok.ensures
-        c.compared-then-group_record_ok.result c.of_group-then-group_record_ok-2.result
-        (group-meets a.text.now a.depth a.t.now both.one.told c.of_group-then-group_record_ok-2.result in-a in_b c.kind-kind.ensures refl met met' c.of_group-then-group_record_ok-2.ensures)
-        c.compared-then-group_record_ok.ensures in
+    c.compared-then-group_record_ok.result c.of_group-then-group_record_ok-2.result
+    (group-meets a.text.now a.depth a.t.now both.one.told c.of_group-then-group_record_ok-2.result in-a in_b c.kind-kind.ensures refl met met' c.of_group-then-group_record_ok-2.ensures)
+    c.compared-then-group_record_ok.ensures in
     record { result_value = found.0; meets_node = found.1 }
 
 pub visit_group-returns-else-group_record_ok : goal.visit_group-returns-else-group_record_ok
 visit_group-returns-else-group_record_ok t c =
     let a = c.args in
-    record { result_value = no-group a.text.now a.depth a.t.now
-    (group-refused a.text.now a.depth a.t.now (told (goal.at.visit_group-returns-else-group_record_ok t c).After-shared_slice_known-2-1) c.group_record_ok.result c.group_record_ok.ensures c.if-group_record_ok.false); meets_node = tt }
+    record {
+      result_value = no-group a.text.now a.depth a.t.now
+          (group-refused a.text.now a.depth a.t.now (told (goal.at.visit_group-returns-else-group_record_ok t c).After-shared_slice_known-2-1) c.group_record_ok.result c.group_record_ok.ensures c.if-group_record_ok.false);
+      meets_node = tt;
+    }
 
 pub visit_list-loop-t-init : goal.visit_list-loop-t-init
 visit_list-loop-t-init t c =
@@ -163,15 +162,21 @@ visit_list-loop-t-init t c =
 pub visit_list-returns-then-t-lt-RECORD : goal.visit_list-returns-then-t-lt-RECORD
 visit_list-returns-then-t-lt-RECORD t c =
     let a = c.args in
-    record { result_value = refused a.text.now a.depth a.list.now c.loop-t.t.now _ _ c.loop-t.invariant
-    (too_short a.text.now a.depth c.loop-t.t.now c.loop-t.invariant.below c.loop-t-test.true c.if-t-lt-RECORD.true); meets = tt }
+    record {
+      result_value = refused a.text.now a.depth a.list.now c.loop-t.t.now _ _ c.loop-t.invariant
+          (too_short a.text.now a.depth c.loop-t.t.now c.loop-t.invariant.below c.loop-t-test.true c.if-t-lt-RECORD.true);
+      meets = tt;
+    }
 
 pub visit_list-returns-then-t-end : goal.visit_list-returns-then-t-end
 visit_list-returns-then-t-end t c =
     let a = c.args in
-    record { result_value = refused a.text.now a.depth a.list.now c.loop-t.t.now _ _ c.loop-t.invariant
-    (too_long a.text.now a.depth c.loop-t.t.now c.loop-t.invariant.below c.loop-t-test.true _ c.if-t-lt-RECORD.false
-    (counted c.loop-t.t.now c.first.ensures c.second.ensures) c.if-t-end.true); meets = tt }
+    record {
+      result_value = refused a.text.now a.depth a.list.now c.loop-t.t.now _ _ c.loop-t.invariant
+          (too_long a.text.now a.depth c.loop-t.t.now c.loop-t.invariant.below c.loop-t-test.true _ c.if-t-lt-RECORD.false
+          (counted c.loop-t.t.now c.first.ensures c.second.ensures) c.if-t-end.true);
+      meets = tt;
+    }
 
 pub visit_list-visit_group-requires : goal.visit_list-visit_group-requires
 visit_list-visit_group-requires t c =
@@ -180,9 +185,12 @@ visit_list-visit_group-requires t c =
 pub visit_list-returns-in_default : goal.visit_list-returns-in_default
 visit_list-returns-in_default t c =
     let a = c.args in
-    record { result_value = refused a.text.now a.depth a.list.now c.loop-t.t.now _ _ c.loop-t.invariant
-    (bad-node a.text.now a.depth c.loop-t.t.now c.loop-t.invariant.below c.loop-t-test.true false
-    (group-not a.text.now a.depth c.loop-t.t.now c.in_default.is c.visit_group.ensures.result_value) refl); meets = tt }
+    record {
+      result_value = refused a.text.now a.depth a.list.now c.loop-t.t.now _ _ c.loop-t.invariant
+          (bad-node a.text.now a.depth c.loop-t.t.now c.loop-t.invariant.below c.loop-t-test.true false
+          (group-not a.text.now a.depth c.loop-t.t.now c.in_default.is c.visit_group.ensures.result_value) refl);
+      meets = tt;
+    }
 
 pub visit_list-sum-count-requires : goal.visit_list-sum-count-requires
 visit_list-sum-count-requires t c =
@@ -220,8 +228,11 @@ visit_list-loop-t-preserved t c =
 pub visit_list-returns-else-leaf : goal.visit_list-returns-else-leaf
 visit_list-returns-else-leaf t c =
     let a = c.args in
-    record { result_value = refused a.text.now a.depth a.list.now c.loop-t.t.now _ _ c.loop-t.invariant
-    (bad-node a.text.now a.depth c.loop-t.t.now c.loop-t.invariant.below c.loop-t-test.true c.visit_leaf-leaf.result.ok (c.visit_leaf-leaf.ensures.by_index a.depth) c.if-leaf.false); meets = tt }
+    record {
+      result_value = refused a.text.now a.depth a.list.now c.loop-t.t.now _ _ c.loop-t.invariant
+          (bad-node a.text.now a.depth c.loop-t.t.now c.loop-t.invariant.below c.loop-t-test.true c.visit_leaf-leaf.result.ok (c.visit_leaf-leaf.ensures.by_index a.depth) c.if-leaf.false);
+      meets = tt;
+    }
 
 pub visit_list-returns : goal.visit_list-returns
 visit_list-returns t c =

@@ -1,7 +1,6 @@
 -- `group_record_ok` meets its contract. Assumes nothing.
 use mathlib.Core.Path.{sym, subst}
 use Prim.Native.Nat.{ℕ, ◌<◌}
-use borrow.Author.Rules.{rules}
 use Rattle.numbers.proofs.BigEndian.{slice-below}
 use Rattle.well_formed.proofs.Heads.{group-says}
 use Rattle.well_formed.proofs.Turns.{GroupRead, group-written, multiplier-read, multiplier-refused, second-refused}

@@ -1,5 +1,4 @@
 -- `visit` meets its contract: that of a list at 64 levels. Assumes nothing.
-use borrow.Author.Rules.{rules}
 use Rattle.notation.specs.WellFormed.{well_formed}
 use Rattle.well_formed.specs.Formed.{formed}
 use Rattle.well_formed.proofs.walk.visit.Goals as goal

@@ -1,11 +1,9 @@
 -- `visit_leaf` meets its contract, by the kinds. Assumes nothing.
-use Prim.Native.Nat.{◌/◌}
 use mathlib.Core.Path.{refl, sym, subst, ◌∙◌}
 use native.Mathlib.Omega.{arith}
-use borrow.Author.Rules.{rules}
-use borrow.Author.Tests.{eqb-true, not-true, not-false}
+use borrow.Author.Tests.{eqb-true}
 use Rattle.numbers.proofs.BigEndian.{slice-below}
-use Rattle.record.specs.Meaning.{field, rotation_leaf, move_leaf, kind_at}
+use Rattle.record.specs.Meaning.{rotation_leaf, move_leaf, kind_at}
 use Rattle.record.proofs.Packed.{head_at-kind}
 use Rattle.laws.proofs.Bools.{false-true}
 use Rattle.well_formed.proofs.Refusing.{no-pair}
@@ -39,8 +37,11 @@ told c = subst (LeafRead c.args.t.now) (sym c.kind.ensures) (counted-at-After-ki
 
 pub returns-then-not-counts_one : goal.returns-then-not-counts_one
 returns-then-not-counts_one c =
-    record { by_index = leaf-not-one _ c.args.t.now (slice-below c.args.t.now c.type_inv.t) c.requires.in_bounds c.requires.bound
-          c.counts_one.result c.counts_one.ensures (c.if-not-counts_one.true); overflow = λ e. absurd (false-true e) }
+    record {
+      by_index = leaf-not-one _ c.args.t.now (slice-below c.args.t.now c.type_inv.t) c.requires.in_bounds c.requires.bound
+          c.counts_one.result c.counts_one.ensures (c.if-not-counts_one.true);
+      overflow = λ e. absurd (false-true e);
+    }
 
 pub leaf_written-requires : goal.leaf_written-requires
 leaf_written-requires c =
@@ -53,14 +54,20 @@ returns-then-not-leaf_written c =
 pub returns-in-7 : goal.returns-in-7
 returns-in-7 c =
     let bs = c.args.t.now in
-    let is = c.in-7.is in record { by_index = leaf-passed (told (goal.at.returns-in-7 c).After-kind) _ c.leaf_written.result c.leaf_written.ensures (move_leaf c.layered_move.result)
-          (c.layered_move.ensures ∙ sym (head_at-kind bs 7 (sym is ∙ c.kind.ensures))) (c.if-not-leaf_written.false) c.move_ok.result c.move_ok.ensures; overflow = λ e. no-pair bs c.kind.ensures (λ z. omega arith) }
+    let is = c.in-7.is in record {
+      by_index = leaf-passed (told (goal.at.returns-in-7 c).After-kind) _ c.leaf_written.result c.leaf_written.ensures (move_leaf c.layered_move.result)
+          (c.layered_move.ensures ∙ sym (head_at-kind bs 7 (sym is ∙ c.kind.ensures))) (c.if-not-leaf_written.false) c.move_ok.result c.move_ok.ensures;
+      overflow = λ e. no-pair bs c.kind.ensures (λ z. omega arith);
+    }
 
 pub returns-in-6 : goal.returns-in-6
 returns-in-6 c =
     let bs = c.args.t.now in
-    let is = c.in-6.is in record { by_index = leaf-passed (told (goal.at.returns-in-6 c).After-kind) _ c.leaf_written.result c.leaf_written.ensures (rotation_leaf c.rotation.result)
-          (c.rotation.ensures ∙ sym (head_at-kind bs 6 (sym is ∙ c.kind.ensures))) (c.if-not-leaf_written.false) c.rotation_ok.result c.rotation_ok.ensures; overflow = λ e. no-pair bs c.kind.ensures (λ z. omega arith) }
+    let is = c.in-6.is in record {
+      by_index = leaf-passed (told (goal.at.returns-in-6 c).After-kind) _ c.leaf_written.result c.leaf_written.ensures (rotation_leaf c.rotation.result)
+          (c.rotation.ensures ∙ sym (head_at-kind bs 6 (sym is ∙ c.kind.ensures))) (c.if-not-leaf_written.false) c.rotation_ok.result c.rotation_ok.ensures;
+      overflow = λ e. no-pair bs c.kind.ensures (λ z. omega arith);
+    }
 
 pub returns-in-9 : goal.returns-in-9
 returns-in-9 c =

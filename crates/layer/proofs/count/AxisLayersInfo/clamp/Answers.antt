@@ -1,5 +1,4 @@
 -- `layer::count::AxisLayersInfo::clamp` meets its contract: by the variants of the end.
-use borrow.Author.Rules.{rules}
 use mathlib.Core.Path.{ap}
 use mathlib.Core.Option.{some}
 use native.Mathlib.Omega.{arith}

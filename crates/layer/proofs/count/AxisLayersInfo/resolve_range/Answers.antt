@@ -5,7 +5,6 @@ use mathlib.Core.Path.{◌≡◌, refl, sym, ◌∙◌, ap}
 use mathlib.Core.Bool.{Bool}
 use mathlib.Core.Option.{Option, none, some}
 use native.Mathlib.Omega.{arith}
-use borrow.Author.Rules.{rules}
 use Rattle.notation.specs.Basics.{pick}
 use Rattle.notation.specs.Layers as rule
 use Rattle.notation.specs.Layers.{range_between}
@@ -36,16 +35,22 @@ new-requires c = omega (arith, layers c, c.requires.layer)
 
 pub returns-in-Some-clamp : goal.returns-in-Some-clamp
 returns-in-Some-clamp c =
-    let found = layers (goal.at.returns-in-Some-clamp c).In-Some-clamp in record { result_value = ap some c.new.ensures.result_value
+    let found = layers (goal.at.returns-in-Some-clamp c).In-Some-clamp in record {
+      result_value = ap some c.new.ensures.result_value
           ∙ by-steps (goal.at.returns-in-Some-clamp c).After-beyond_same_side c.if-beyond_same_side.false
           (rw c.in-Some.is at c.clamp.ensures.result_value)
-          (rw c.in-Some-clamp.is at c.clamp-in-Some.ensures.result_value); each = rw c.new.ensures.result_value (range-up-to _ _ _ found.0 found.1) }
+          (rw c.in-Some-clamp.is at c.clamp-in-Some.ensures.result_value);
+      each = rw c.new.ensures.result_value (range-up-to _ _ _ found.0 found.1);
+    }
 
 pub returns-in-None-clamp : goal.returns-in-None-clamp
 returns-in-None-clamp c =
-    record { result_value = by-steps (goal.at.returns-in-None-clamp c).After-beyond_same_side c.if-beyond_same_side.false
+    record {
+      result_value = by-steps (goal.at.returns-in-None-clamp c).After-beyond_same_side c.if-beyond_same_side.false
           (rw c.in-Some.is at c.clamp.ensures.result_value)
-          (rw c.in-None-clamp.is at c.clamp-in-Some.ensures.result_value); each = tt }
+          (rw c.in-None-clamp.is at c.clamp-in-Some.ensures.result_value);
+      each = tt;
+    }
 
 pub returns-in-None : goal.returns-in-None
 returns-in-None c =

@@ -2,7 +2,6 @@
 -- by what `resolve` finds, and where it finds none by the sign.
 use mathlib.Core.Path.{◌≡◌, refl, sym, ◌∙◌}
 use mathlib.Core.Bool.{Bool}
-use borrow.Author.Rules.{rules}
 use Rattle.notation.specs.Basics.{pick}
 use Rattle.layer.specs.Meaning.{signed, resolve_unclamped}
 use Rattle.layer.specs.declared.count.UnclampedLayer.TheVariants.{BeyondShallowest, BeyondDeepest, Invalid}

@@ -1,5 +1,4 @@
 -- `layer::range::LayerRange::new` meets its contract: the ends are what `shallower` and `deeper` ensure.
-use borrow.Author.Rules.{rules}
 use native.Mathlib.Omega.{arith}
 use Rattle.layer.proofs.Laws.{range-is}
 use Rattle.layer.proofs.range.LayerRange.new.Goals as goal

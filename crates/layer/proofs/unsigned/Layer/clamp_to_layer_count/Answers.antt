@@ -1,6 +1,5 @@
 -- `layer::unsigned::Layer::clamp_to_layer_count` meets its contract:
 -- below the deepest layer it is the new layer of that number, else the layer itself.
-use borrow.Author.Rules.{rules}
 use mathlib.Core.Path.{◌∙◌}
 use native.Mathlib.Omega.{arith}
 use Rattle.layer.proofs.Laws.{clamped-down, clamped-kept, clamped-up-to}
