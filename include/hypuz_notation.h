@@ -5,7 +5,7 @@
  * names and where its family stands. This header is all that a host author has to read; examples/card.c is a host to copy
  * from.
  *
- * Linking. `rt staticlib hypuz_notation`, where rt is the command of the Rattle toolchain, makes the archive
+ * Linking. `tools/archive.sh`, which calls rt, the command of the Rattle toolchain, makes the archive
  * target/staticlib/libhypuz_notation.a for x86-64, which may also be linked into a shared library. Of its platform it asks for
  * memcpy and memset and nothing else: no library, no heap, no start-up call. The functions keep no state and may be called from
  * any number of threads, each with its own buffers. A stack of 256 KB is enough. The header needs C99 or C++11.

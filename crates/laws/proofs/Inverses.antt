@@ -129,6 +129,10 @@ unfolding inverted
 inverted-twice nil = refl
 inverted-twice (cons n l) = reversed-twice inverted inverted_node refl (λ n l. refl) n l (inverted_node-twice n) (inverted-twice l)
 
+pub inverted-append : (a b : Tree) → inverted (append a b) ≡ append (inverted b) (inverted a)
+unfolding inverted
+inverted-append = reversed-append inverted inverted_node refl (λ n l. refl)
+
 mutual
   unfolding deeply_node deeply_body deeply
 

@@ -97,7 +97,7 @@ step-negatable text slash = refl
 step-negatable text (megaminx k) = refl
 
 -- Numbers of 32 bits negated: all but −2147483648 stay in 32 bits, and none becomes it.
-neg-fits : (u : ℤ) → is_min u ≡ false → fits_bits 32 u ≡ true → fits_bits 32 (neg_ℤ u) ≡ true
+pub neg-fits : (u : ℤ) → is_min u ≡ false → fits_bits 32 u ≡ true → fits_bits 32 (neg_ℤ u) ≡ true
 neg-fits u h f = negated_fits u (not-min-ok u h f)
 
 neg-not-min : (u : ℤ) → fits_bits 32 u ≡ true → is_min (neg_ℤ u) ≡ false
@@ -107,7 +107,7 @@ neg-not-min (pos (suc n)) f =
     ne_eqb n 2147483647 (λ h. omega arith)
 neg-not-min (negsuc n) f = refl
 
-pair_fits : (u d : ℤ) → not (is_min u || is_min d) ≡ true → (fits_bits 32 u && fits_bits 32 d) ≡ true →
+pub pair_fits : (u d : ℤ) → not (is_min u || is_min d) ≡ true → (fits_bits 32 u && fits_bits 32 d) ≡ true →
     (fits_bits 32 (neg_ℤ u) && fits_bits 32 (neg_ℤ d)) ≡ true
 pair_fits u d n h =
     let e = or-false (is_min u) (is_min d) (not-true (is_min u || is_min d) n) in
@@ -140,7 +140,7 @@ inverted-fits text (cons n l) h r f =
     (node-records text n (and_left _ _ h) (first-right (inv_refusal l) _ r) f.0)
 
 -- a group whose contents are inverted has no refusal in them
-unrefused-group : (k : GroupKind) (q : Option ℕ) → niss_first k q ≡ none → q ≡ none
+pub unrefused-group : (k : GroupKind) (q : Option ℕ) → niss_first k q ≡ none → q ≡ none
 unrefused-group Niss q r = no-some r
 unrefused-group Simple q r = r
 unrefused-group Macro q r = r

@@ -44,6 +44,7 @@ pub mod Tidy
 pub mod PrintedBack
 -- Inverses of accepted trees, demand 3, and the undo view.
 pub mod KeptByInverses
+pub mod KeptNumbers
 pub mod InverseAgrees
 pub mod DemandThree
 pub mod Harmless

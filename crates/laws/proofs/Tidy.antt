@@ -45,8 +45,12 @@ tidy f text t a =
 pub tidy-fits : {f : Features} {text : List ℕ} {t : Tree} → Tidy f text t → FitsTree t
 tidy-fits {text = text} {t} p = tree-fits text p.accepted.short t p.in_bounds p.fits p.small
 
--- A tree over an accepted text, such as the tree that was read and its inverses, that is in bounds, fits its records and is no deeper than 64
--- groups passes the check.
+-- Trees over an accepted text, such as the tree that was read and its inverses: one that is in bounds and as large fits its records,
+pub fits-over : {f : Features} {text : List ℕ} {t : Tree} → Tidy f text t → (i : Tree) → tree_ok text i ≡ true → tree_fits i ≡ true →
+    size i ≡ size t → FitsTree i
+fits-over {text = text} p i ok fits large = tree-fits text p.accepted.short i ok fits (omega (arith, p.small))
+
+-- and one that is in bounds, fits its records and is no deeper than 64 groups passes the check.
 pub checks-over : {f : Features} {text : List ℕ} {t : Tree} → Accepted f text t → (i : Tree) → tree_ok text i ≡ true → FitsTree i →
     depth i ≤ MAX-NESTING → checked text (pack i) ≡ result i
 checks-over {text = text} a i ok fits deep =

@@ -1,6 +1,5 @@
-// Layer ranges into a lent run of ranges, each low and high: the Rust's `Vec<LayerRange>`. The checker covers no
-// function that takes a slice of structs, so `fill` and `simplify` are proved by a walk of their MIR, by hand, and hold
-// as little as can be: the work is done on bytes.
+// Layer ranges into a lent run of ranges, each low and high: the Rust's `Vec<LayerRange>`. The work is done on bytes, and
+// `fill` puts what they say into the run.
 
 #![tactic(auto)]
 
