@@ -7,25 +7,24 @@ use borrow.Author.Tests.{le-leb, ne_eqb}
 use lib.Dec.{eqb, leb}
 use Rattle.notation.specs.declared.char_set.CharSet.{CharSet}
 use Rattle.notation.specs.declared.char_set.CharSet.TheVariants.{LowercaseLatin, UppercaseLatin, UppercaseGreek, TallLowercaseGreek, ShortLowercaseGreek, Underscore, Prime}
-use Rattle.notation.specs.declared.char_set.Class.{Class}
-use Rattle.notation.specs.declared.char_set.Class.TheVariants.{In, Outside}
+use Rattle.std.specs.Prelude.{Option, Some, None}
 use Rattle.notation.specs.Basics.{pick, between, one_of, every}
 use Rattle.notation.specs.Chars.{classify, class_number, set_number, is_family_class, is_family_char, is_prime_class, is_prime, is_latin_letter, uppercase_greek, tall_lowercase_greek, short_lowercase_greek, curly_prime_codes}
 use Rattle.charsets.proofs.Bools.{contra}
 use Rattle.charsets.proofs.Among.{apart}
 
 -- the class that a number of the table stands for
-abbrev pub class_of : ℕ → Class
+abbrev pub class_of : ℕ → Option CharSet
 class_of n =
-    pick (eqb n 1) (In LowercaseLatin)
-    (pick (eqb n 2) (In UppercaseLatin)
-    (pick (eqb n 3) (In UppercaseGreek)
-    (pick (eqb n 4) (In TallLowercaseGreek)
-    (pick (eqb n 5) (In ShortLowercaseGreek)
-    (pick (eqb n 6) (In Underscore)
-    (pick (eqb n 7) (In Prime) Outside))))))
+    pick (eqb n 1) (Some LowercaseLatin)
+    (pick (eqb n 2) (Some UppercaseLatin)
+    (pick (eqb n 3) (Some UppercaseGreek)
+    (pick (eqb n 4) (Some TallLowercaseGreek)
+    (pick (eqb n 5) (Some ShortLowercaseGreek)
+    (pick (eqb n 6) (Some Underscore)
+    (pick (eqb n 7) (Some Prime) None))))))
 
-set-of : (q : CharSet) → class_of (set_number q) ≡ In q
+set-of : (q : CharSet) → class_of (set_number q) ≡ Some q
 set-of LowercaseLatin = refl
 set-of UppercaseLatin = refl
 set-of UppercaseGreek = refl
@@ -34,21 +33,21 @@ set-of ShortLowercaseGreek = refl
 set-of Underscore = refl
 set-of Prime = refl
 
-pub class-of : (q : Class) (n : ℕ) → n ≡ class_number q → class_of n ≡ q
-class-of Outside n e = rw e
-class-of (In q) n e = rw e (set-of q)
+pub class-of : (q : Option CharSet) (n : ℕ) → n ≡ class_number q → class_of n ≡ q
+class-of None n e = rw e
+class-of (Some q) n e = rw e (set-of q)
 
 -- a family holds the characters of all classes but the number 7, the primes
-pub family-number : (q : Class) → one_of (0 ∷ 7 ∷ []) (class_number q) ≡ not (is_family_class q)
+pub family-number : (q : Option CharSet) → one_of (0 ∷ 7 ∷ []) (class_number q) ≡ not (is_family_class q)
 unfolding one_of
-family-number Outside = refl
-family-number (In LowercaseLatin) = refl
-family-number (In UppercaseLatin) = refl
-family-number (In UppercaseGreek) = refl
-family-number (In TallLowercaseGreek) = refl
-family-number (In ShortLowercaseGreek) = refl
-family-number (In Underscore) = refl
-family-number (In Prime) = refl
+family-number None = refl
+family-number (Some LowercaseLatin) = refl
+family-number (Some UppercaseLatin) = refl
+family-number (Some UppercaseGreek) = refl
+family-number (Some TallLowercaseGreek) = refl
+family-number (Some ShortLowercaseGreek) = refl
+family-number (Some Underscore) = refl
+family-number (Some Prime) = refl
 
 -- the primes are three
 pub prime-is : (c : ℕ) → one_of (0x27 ∷ curly_prime_codes) c ≡ is_prime c
@@ -57,8 +56,8 @@ prime-is c = go (is_prime c) refl
   where
     one : (l u x y z e p : Bool) →
         is_prime_class
-        (pick l (In LowercaseLatin) (pick u (In UppercaseLatin) (pick x (In UppercaseGreek) (pick y (In TallLowercaseGreek)
-        (pick z (In ShortLowercaseGreek) (pick e (In Underscore) (pick p (In Prime) Outside))))))) ≡ true → p ≡ true
+        (pick l (Some LowercaseLatin) (pick u (Some UppercaseLatin) (pick x (Some UppercaseGreek) (pick y (Some TallLowercaseGreek)
+        (pick z (Some ShortLowercaseGreek) (pick e (Some Underscore) (pick p (Some Prime) None))))))) ≡ true → p ≡ true
     one true u x y z e p h = contra h
     one false true x y z e p h = contra h
     one false false true y z e p h = contra h
@@ -83,7 +82,7 @@ no-letter p c u t s h l m n =
     rw (l, m, apart p uppercase_greek c u h, apart p tall_lowercase_greek c t h, apart p short_lowercase_greek c s h, ne_eqb c 0x5f n)
     (go (one_of (0x27 ∷ curly_prime_codes) c))
   where
-    go : (t : Bool) → class_number (pick t (In Prime) Outside) ≡ pick t 7 0
+    go : (t : Bool) → class_number (pick t (Some Prime) None) ≡ pick t 7 0
     go true = refl
     go false = refl
 
@@ -97,9 +96,9 @@ greek_set ShortLowercaseGreek = true
 greek_set Underscore = false
 greek_set Prime = false
 
-abbrev pub greek : Class → Bool
-greek Outside = false
-greek (In q) = greek_set q
+abbrev pub greek : Option CharSet → Bool
+greek None = false
+greek (Some q) = greek_set q
 
 -- in ASCII a family character is a Latin letter or the underscore
 pub ascii-family : (c : ℕ) → c ≤ 0x7f → is_family_char c ≡ (is_latin_letter c || eqb c 0x5f)
@@ -109,7 +108,7 @@ ascii-family c h =
     rw (apart (λ x. leb x 0x7f) uppercase_greek c refl a, apart (λ x. leb x 0x7f) tall_lowercase_greek c refl a, apart (λ x. leb x 0x7f) short_lowercase_greek c refl a)
     (go (between 0x61 0x7a c) (between 0x41 0x5a c) (eqb c 0x5f) (one_of (0x27 ∷ curly_prime_codes) c))
   where
-    go : (l u e p : Bool) → is_family_class (pick l (In LowercaseLatin) (pick u (In UppercaseLatin) (pick e (In Underscore) (pick p (In Prime) Outside)))) ≡ (l || u || e)
+    go : (l u e p : Bool) → is_family_class (pick l (Some LowercaseLatin) (pick u (Some UppercaseLatin) (pick e (Some Underscore) (pick p (Some Prime) None)))) ≡ (l || u || e)
     go true u e p = refl
     go false true e p = refl
     go false false true p = refl

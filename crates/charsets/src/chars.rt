@@ -6,7 +6,7 @@ ghost use Rattle.notation.specs.Basics.{between, one_of};
 ghost use Rattle.notation.specs.Chars.{class_number, classify, curly_prime_codes, is_family_char, is_latin_letter, is_prime, white_space};
 
 use crate::classes::CLASSES;
-use notation::char_set::{CharSet, Class};
+use notation::char_set::CharSet;
 
 // The primes past the table's end, which word processors write for an apostrophe.
 fn is_curly_prime(c: u32) -> bool
@@ -30,18 +30,18 @@ fn class_number(c: u32) -> u8
 
 // The class of a character: `classify` of the Rust's charsets.rs, with which tests/oracle/characters.sh compares it over
 // all code points. Reading tells classes by the functions below.
-pub fn classify(c: u32) -> Class
+pub fn classify(c: u32) -> Option<CharSet>
     ensures { result ≡ classify c }
 {
     match class_number(c) {
-        1 => Class::In(CharSet::LowercaseLatin),
-        2 => Class::In(CharSet::UppercaseLatin),
-        3 => Class::In(CharSet::UppercaseGreek),
-        4 => Class::In(CharSet::TallLowercaseGreek),
-        5 => Class::In(CharSet::ShortLowercaseGreek),
-        6 => Class::In(CharSet::Underscore),
-        7 => Class::In(CharSet::Prime),
-        _ => Class::Outside,
+        1 => Some(CharSet::LowercaseLatin),
+        2 => Some(CharSet::UppercaseLatin),
+        3 => Some(CharSet::UppercaseGreek),
+        4 => Some(CharSet::TallLowercaseGreek),
+        5 => Some(CharSet::ShortLowercaseGreek),
+        6 => Some(CharSet::Underscore),
+        7 => Some(CharSet::Prime),
+        _ => None,
     }
 }
 

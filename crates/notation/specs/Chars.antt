@@ -12,8 +12,7 @@ use Rattle.notation.specs.declared.char_set.CharSet.TheVariants.{
   Underscore,
   Prime,
 }
-use Rattle.notation.specs.declared.char_set.Class.{Class}
-use Rattle.notation.specs.declared.char_set.Class.TheVariants.{In, Outside}
+use Rattle.std.specs.Prelude.{Option, Some, None}
 
 -- Γ Δ Θ Λ Ξ Π Σ Φ Ψ Ω
 abbrev pub uppercase_greek : List ℕ
@@ -31,15 +30,15 @@ short_lowercase_greek = map (λ n. 0x300 + n) (0xb5 ∷ 0xb7 ∷ 0xba ∷ 0xbc �
 abbrev pub curly_prime_codes : List ℕ
 curly_prime_codes = 0x2019 ∷ 0x2032 ∷ []
 
-unfoldable pub classify : ℕ → Class
+unfoldable pub classify : ℕ → Option CharSet
 classify c =
-    pick (between 0x61 0x7a c) (In LowercaseLatin)
-    (pick (between 0x41 0x5a c) (In UppercaseLatin)
-    (pick (one_of uppercase_greek c) (In UppercaseGreek)
-    (pick (one_of tall_lowercase_greek c) (In TallLowercaseGreek)
-    (pick (one_of short_lowercase_greek c) (In ShortLowercaseGreek)
-    (pick (eqb c 0x5f) (In Underscore)
-    (pick (one_of (0x27 ∷ curly_prime_codes) c) (In Prime) Outside))))))
+    pick (between 0x61 0x7a c) (Some LowercaseLatin)
+    (pick (between 0x41 0x5a c) (Some UppercaseLatin)
+    (pick (one_of uppercase_greek c) (Some UppercaseGreek)
+    (pick (one_of tall_lowercase_greek c) (Some TallLowercaseGreek)
+    (pick (one_of short_lowercase_greek c) (Some ShortLowercaseGreek)
+    (pick (eqb c 0x5f) (Some Underscore)
+    (pick (one_of (0x27 ∷ curly_prime_codes) c) (Some Prime) None))))))
 
 -- how the table of 1,024 entries writes a class
 abbrev pub set_number : CharSet → ℕ
@@ -51,9 +50,9 @@ set_number ShortLowercaseGreek = 5
 set_number Underscore = 6
 set_number Prime = 7
 
-abbrev pub class_number : Class → ℕ
-class_number Outside = 0
-class_number (In s) = set_number s
+abbrev pub class_number : Option CharSet → ℕ
+class_number None = 0
+class_number (Some s) = set_number s
 
 -- the classes of which a family name is made: all but the primes
 abbrev pub family_set : CharSet → Bool
@@ -65,9 +64,9 @@ family_set ShortLowercaseGreek = true
 family_set Underscore = true
 family_set Prime = false
 
-abbrev pub is_family_class : Class → Bool
-is_family_class Outside = false
-is_family_class (In s) = family_set s
+abbrev pub is_family_class : Option CharSet → Bool
+is_family_class None = false
+is_family_class (Some s) = family_set s
 
 abbrev pub is_family_char : ℕ → Bool
 is_family_char c = is_family_class (classify c)
@@ -81,9 +80,9 @@ prime_set ShortLowercaseGreek = false
 prime_set Underscore = false
 prime_set Prime = true
 
-abbrev pub is_prime_class : Class → Bool
-is_prime_class Outside = false
-is_prime_class (In s) = prime_set s
+abbrev pub is_prime_class : Option CharSet → Bool
+is_prime_class None = false
+is_prime_class (Some s) = prime_set s
 
 abbrev pub is_prime : ℕ → Bool
 is_prime c = is_prime_class (classify c)

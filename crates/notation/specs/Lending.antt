@@ -1,17 +1,43 @@
 -- Answers, and what an entry leaves in the buffers that a caller lends. A refusal keeps every buffer; what does not fit is refused 5 and
 -- keeps them too; else what is written takes the front of its buffer and the rest stays.
-use Rattle.std.specs.Prelude.{ℕ, ◌/◌, Bool, ◌&&◌, List, ◌++◌, leb, length, drop}
+use Rattle.std.specs.Prelude.{ℕ, ◌/◌, Bool, ◌&&◌, List, ◌++◌, leb, length, drop, Result, Ok, Err}
 use Rattle.notation.specs.Basics.{Bytes, pick}
+use Rattle.notation.specs.Refusals as by
 use Rattle.notation.specs.Refusals.{Outcome, refusal, result, ◌>>=◌, ◌>>◌, NO-ROOM}
-use Rattle.notation.specs.declared.answer.Answer.{Answer}
-use Rattle.notation.specs.declared.answer.Answer.TheVariants.{Value, Refused}
-use Rattle.notation.specs.declared.answer.PlaceAnswer.{PlaceAnswer}
-use Rattle.notation.specs.declared.answer.PlaceAnswer.TheVariants as places
+use Rattle.notation.specs.declared.refusals.Refusal.{Refusal}
+use Rattle.notation.specs.declared.refusals.Refusal.TheVariants as refused
+use Rattle.notation.specs.declared.refusals.NotMoved.{NotMoved}
 
--- Answers. The code's enum says an outcome; document 01's fields are the refusal's number (0 for none) and the value (0 where refused).
-abbrev pub outcome : Answer → Outcome ℕ
-outcome (Value v) = result v
-outcome (Refused r) = refusal r
+-- Answers. The code's `Refusal` says a refusal's number.
+abbrev pub number : Refusal → ℕ
+number refused.TooLong = by.TOO-LONG
+number refused.NotUtf8 = by.NOT-UTF8
+number refused.TooNested = by.TOO-NESTED
+number refused.NotNotation = by.NOT-NOTATION
+number refused.NoRoom = by.NO-ROOM
+number refused.NotWellFormed = by.NOT-WELL-FORMED
+number refused.Niss = by.NISS
+number refused.Overflow = by.OVERFLOW
+number refused.TooManySteps = by.TOO-MANY-STEPS
+number refused.NoSuchPlace = by.NO-SUCH-PLACE
+number refused.NoSuchLayerCount = by.NO-SUCH-LAYER-COUNT
+number refused.NoSuchRecord = by.NO-SUCH-RECORD
+number refused.StepTooWide = by.STEP-TOO-WIDE
+number refused.NoSuchCube = by.NO-SUCH-CUBE
+number refused.BreaksRegulations = by.BREAKS-REGULATIONS
+number refused.TooManyToReplay = by.TOO-MANY-TO-REPLAY
+number refused.NotSq1 = by.NOT-SQ1
+number refused.BlockedSlash = by.BLOCKED-SLASH
+number refused.NotConvertible = by.NOT-CONVERTIBLE
+number refused.FamilyInUse = by.FAMILY-IN-USE
+number refused.AtEnd = by.AT-END
+number refused.AtStart = by.AT-START
+number refused.NoSuchLeaf = by.NO-SUCH-LEAF
+
+-- The code's `Result` says an outcome; document 01's fields are the refusal's number (0 for none) and the value (0 where refused).
+abbrev pub outcome : {A : Type 0} → Result A Refusal → Outcome A
+outcome (Ok v) = result v
+outcome (Err r) = refusal (number r)
 
 abbrev pub refusal_number : {A : Type 0} → Outcome A → ℕ
 refusal_number (refusal r) = r
@@ -27,7 +53,7 @@ pub record Lent (A : Type 0) : Type 0 where
   pub buffer : List A
 
 -- an answer of the code and the buffer after it
-abbrev pub lent : {A : Type 0} → Answer → List A → Lent A
+abbrev pub lent : {A : Type 0} → Result ℕ Refusal → List A → Lent A
 lent a buffer = record { answer = outcome a; buffer = buffer }
 
 abbrev pub kept : {A : Type 0} → ℕ → List A → Lent A
@@ -64,7 +90,7 @@ pub record LentBoth : Type 0 where
   pub second : Bytes
 
 -- an answer of the code and the buffers after it
-abbrev pub lent_both : Answer → (first second : Bytes) → LentBoth
+abbrev pub lent_both : Result ℕ Refusal → (first second : Bytes) → LentBoth
 lent_both a first second = record { answer = outcome a; first = first; second = second }
 
 abbrev pub kept_both : ℕ → (first second : Bytes) → LentBoth
@@ -83,10 +109,10 @@ pub record Placed : Type 0 where
   pub number : ℕ  -- of the refusal, 0 for none
   pub place : ℕ
 
--- what the code's enum says
-abbrev pub placed : PlaceAnswer → Placed
-placed (places.At p) = record { number = 0; place = p }
-placed (places.Refused r p) = record { number = r; place = p }
+-- what the code's `Result` says
+abbrev pub placed : Result ℕ NotMoved → Placed
+placed (Ok p) = record { number = 0; place = p }
+placed (Err r) = record { number = number r.refusal; place = r.place }
 
 abbrev pub beside : (place : ℕ) → Outcome ℕ → Placed
 beside place (refusal r) = record { number = r; place = place }
@@ -96,7 +122,7 @@ pub record LentAt : Type 0 where
   pub answer : Placed
   pub buffer : Bytes
 
-abbrev pub lent_at : PlaceAnswer → (buffer : Bytes) → LentAt
+abbrev pub lent_at : Result ℕ NotMoved → (buffer : Bytes) → LentAt
 lent_at a buffer = record { answer = placed a; buffer = buffer }
 
 -- the rule gives the next place and what is written, which is lent as by `lend`

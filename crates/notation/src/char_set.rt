@@ -1,7 +1,7 @@
 // The sets of characters: `CharSet` of the Rust's charsets.rs, six sets of which family names are made, and the primes.
 // The crate `charsets` has the functions.
 
-#[derive(Drop)]
+#[derive(Clone, Copy, Debug, PartialEq, Eq)]
 pub enum CharSet {
     // a-z
     LowercaseLatin,
@@ -17,11 +17,4 @@ pub enum CharSet {
     Underscore,
     // The signs that negate a multiplier: the apostrophe, U+2019, U+2032. No family name may hold one.
     Prime,
-}
-
-// The Rust's `Option<CharSet>`: the set of a character, or none.
-#[derive(Drop)]
-pub enum Class {
-    In(CharSet),
-    Outside,
 }

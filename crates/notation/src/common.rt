@@ -1,6 +1,6 @@
 // Kinds of groups and of scramble moves: the Rust's common.rs.
 
-#[derive(Drop)]
+#[derive(Clone, Copy, Debug, PartialEq, Eq)]
 pub enum GroupKind {
     Simple,
     // `!`
@@ -11,7 +11,7 @@ pub enum GroupKind {
     Niss,
 }
 
-#[derive(Drop)]
+#[derive(Clone, Copy, Debug, PartialEq, Eq)]
 pub enum BinaryGroupKind {
     // `[A, B]`
     Commutator,
@@ -19,7 +19,7 @@ pub enum BinaryGroupKind {
     Conjugate,
 }
 
-#[derive(Drop)]
+#[derive(Clone, Copy, Debug, PartialEq, Eq)]
 pub enum MegaminxScrambleMove {
     Rpp,
     Rmm,

@@ -3,7 +3,6 @@
 
 #![tactic(auto)]
 
-pub mod answer;
 pub mod char_set;
 pub mod common;
 pub mod features;

@@ -3,58 +3,82 @@
 //   Reading: 1, 2, 3, 4, 5.
 //   Trees: 1, 2, 6; then 11, 12, 14, 19, 20, 23; then 7 or 8, whichever the walk meets first; then 9; then 10 (and
 //   beside it 21, 22), 13, 15, 16, 17, 18; then the 8 of a step that is taken back; then 5.
+ghost use Rattle.std.specs.Prelude.{◌≡◌};
+ghost use Rattle.notation.specs.Lending as rule;
 
-pub const TOO_LONG: u8 = 1;
+// Why an entry does nothing. Each has a number of its own, by which a host that calls from C is told.
+#[derive(Clone, Copy, Debug, PartialEq, Eq)]
+pub enum Refusal {
+    TooLong,
+    NotUtf8,
+    TooNested,
+    NotNotation,
+    NoRoom,
+    NotWellFormed,
+    Niss,
+    Overflow,
+    TooManySteps,
+    NoSuchPlace,
+    NoSuchLayerCount,
+    NoSuchRecord,
+    // A step's printed text is wider than a line of the sheet.
+    StepTooWide,
+    // No cube has so many layers.
+    NoSuchCube,
+    // A step breaks the regulations.
+    BreaksRegulations,
+    TooManyToReplay,
+    // A step is none of Square-1.
+    NotSq1,
+    BlockedSlash,
+    // A move to be converted has a tilde or layers.
+    NotConvertible,
+    // A move has a family that converting writes.
+    FamilyInUse,
+    // Forward at the end.
+    AtEnd,
+    // Back at the start.
+    AtStart,
+    // No such record, or that of a group.
+    NoSuchLeaf,
+}
 
-pub const NOT_UTF8: u8 = 2;
+impl Refusal {
+    // The refusal's number in the table.
+    pub fn number(self) -> u8
+        ensures { result ≡ rule.number self }
+    {
+        match self {
+            Refusal::TooLong => 1,
+            Refusal::NotUtf8 => 2,
+            Refusal::TooNested => 3,
+            Refusal::NotNotation => 4,
+            Refusal::NoRoom => 5,
+            Refusal::NotWellFormed => 6,
+            Refusal::Niss => 7,
+            Refusal::Overflow => 8,
+            Refusal::TooManySteps => 9,
+            Refusal::NoSuchPlace => 10,
+            Refusal::NoSuchLayerCount => 11,
+            Refusal::NoSuchRecord => 12,
+            Refusal::StepTooWide => 13,
+            Refusal::NoSuchCube => 14,
+            Refusal::BreaksRegulations => 15,
+            Refusal::TooManyToReplay => 16,
+            Refusal::NotSq1 => 17,
+            Refusal::BlockedSlash => 18,
+            Refusal::NotConvertible => 19,
+            Refusal::FamilyInUse => 20,
+            Refusal::AtEnd => 21,
+            Refusal::AtStart => 22,
+            Refusal::NoSuchLeaf => 23,
+        }
+    }
+}
 
-pub const TOO_NESTED: u8 = 3;
-
-pub const NOT_NOTATION: u8 = 4;
-
-pub const NO_ROOM: u8 = 5;
-
-pub const NOT_WELL_FORMED: u8 = 6;
-
-pub const NISS: u8 = 7;
-
-pub const OVERFLOW: u8 = 8;
-
-pub const TOO_MANY_STEPS: u8 = 9;
-
-pub const NO_SUCH_PLACE: u8 = 10;
-
-pub const NO_SUCH_LAYER_COUNT: u8 = 11;
-
-pub const NO_SUCH_RECORD: u8 = 12;
-
-// A step's printed text is wider than a line of the sheet.
-pub const STEP_TOO_WIDE: u8 = 13;
-
-// No cube has so many layers.
-pub const NO_SUCH_CUBE: u8 = 14;
-
-// A step breaks the regulations.
-pub const BREAKS_REGULATIONS: u8 = 15;
-
-pub const TOO_MANY_TO_REPLAY: u8 = 16;
-
-// A step is none of Square-1.
-pub const NOT_SQ1: u8 = 17;
-
-pub const BLOCKED_SLASH: u8 = 18;
-
-// A move to be converted has a tilde or layers.
-pub const NOT_CONVERTIBLE: u8 = 19;
-
-// A move has a family that converting writes.
-pub const FAMILY_IN_USE: u8 = 20;
-
-// Forward at the end.
-pub const AT_END: u8 = 21;
-
-// Back at the start.
-pub const AT_START: u8 = 22;
-
-// No such record, or that of a group.
-pub const NO_SUCH_LEAF: u8 = 23;
+// Why a call that moves a place does nothing, and the place that was handed in.
+#[derive(Clone, Copy, Debug, PartialEq, Eq)]
+pub struct NotMoved {
+    pub refusal: Refusal,
+    pub place: u64,
+}

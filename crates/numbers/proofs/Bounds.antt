@@ -4,6 +4,9 @@ use Prim.Native.Char.{Char, code}
 use Rattle.notation.specs.Basics.{pick, choose}
 use Rattle.notation.specs.Numbers.{digit_run, decimal, is_digit, from_bits, to_bits}
 use Rattle.notation.specs.Grammar.{Reading, rejected, read, and_then, or_else, done, uint, sint, just}
+use Rattle.std.specs.Prelude.{Option, Some, None}
+use Rattle.parsed.specs.declared.Parsed.{Parsed}
+use Rattle.parsed.specs.Reading.{reading}
 use Rattle.numbers.proofs.DigitRuns.{run-low}
 use Rattle.numbers.proofs.TwosComplement.{opposite-magnitude, from_bits-to_bits, opposite-fits}
 
@@ -100,3 +103,8 @@ module _ (low high at : ℕ) (s : List ℕ) where
   positive-read value next rest h r =
       let small : value ≤ 2147483647 = omega (arith, number low high at s value next rest (sym r)) in
       rw (← r, not-negated value small)
+
+  pub positive-reading : (text : List ℕ) (r : Option (Parsed ℕ)) → high < 2147483648 → reading (λ n. n) text r ≡ uint low high at s →
+      reading (from_bits 32) text r ≡ and_then (uint low high at s) (λ n. done (pos n))
+  positive-reading text None h e = rw (← e)
+  positive-reading text (Some p) h e = positive-read p.value p.next (drop p.next text) h e

@@ -1,5 +1,5 @@
 -- Runs of decimal digits, and the numbers that they write, capped. Assumes nothing.
-use Rattle.std.proofs.Common.{◌≡◌, ℕ, zero, suc, ◌+◌, ◌-◌, ◌*◌, ◌<◌, ◌≤◌, min, Bool, true, false, ◌&&◌, ltb, leb, List, [], ◌∷◌, length, get_or, take, drop, sym, refl, ap, ◌∙◌, add-one, arith, drop-cons, drop-drop, lt-ltb, le-leb}
+use Rattle.std.proofs.Common.{◌≡◌, ℕ, zero, suc, ◌+◌, ◌-◌, ◌*◌, ◌<◌, ◌≤◌, min, Bool, true, false, ◌&&◌, ltb, leb, List, [], ◌∷◌, length, get_or, take, drop, sym, refl, ap, ◌∙◌, add-one, arith, get_or-take, get_or-drop, drop-cons, drop-drop, lt-ltb, le-leb}
 use borrow.Author.Tests.{lt-leb}
 use lib.Seq.{drop-length}
 use Rattle.notation.specs.Basics.{pick}
@@ -78,6 +78,13 @@ kept_on s at n i m k h l u e =
 
 pub kept-done : (s : List ℕ) (at n i : ℕ) → Kept s at n i → digit_run (drop i s) ≡ 0 → (i ≡ at + digit_run (drop at s)) × (n ≡ value s at 0)
 kept-done s at n i k e = (omega (arith, k.2), omega (arith, value-done s i n e, k.3))
+
+-- an item of the part from `at` on
+pub item : (s : List ℕ) (at i : ℕ) → i < length s - at → get_or (take (length s - at) (drop at s)) i 0 ≡ get_or s (at + i) 0
+item s at i h = rw (get_or-take, get_or-drop)
+
+pub kept-all : (s : List ℕ) (at n i : ℕ) → Kept s at n i → i ≡ length s → (length s ≡ at + digit_run (drop at s)) × (n ≡ value s at 0)
+kept-all s at n i k e = rw (← e) (kept-done s at n i k (run_end s i (omega (arith, k.0)) (omega (arith, e))))
 
 -- The rule `uint` from what the digits gave: e is where they end, n their capped number.
 module _ (s : List ℕ) (low high at e n : ℕ) (ends : e ≡ at + digit_run (drop at s)) (gives : n ≡ value s at 0) (small : high < 4294967296) where

@@ -1,3 +1,2 @@
 -- What the contracts of this crate cite beside the rules of `notation`.
 pub mod Sign
-pub mod Decimal

@@ -18,8 +18,8 @@ use Rattle.notation.specs.Packed.{RECORD}
 use Rattle.notation.specs.Grammar.{Reading, rejected, Reader, fail, and_then, or_else, just, group_node, binary_group_node, node, node_list}
 use Rattle.notation.specs.declared.features.Features.{Features}
 use Rattle.tally.specs.Tallies.{tally_node}
-use Rattle.parse.specs.declared.node.NodeAnswer.{NodeAnswer}
-use Rattle.parse.specs.declared.node.NodeAnswer.TheVariants.{Took, Nothing}
+use Rattle.std.specs.Prelude.{Option, Some, None}
+use Rattle.parse.specs.declared.node.Listed.{Listed}
 use Rattle.parse.specs.Nodes.{Kept, NodeRead, NoNode, NodeAnswered, nested, repeated}
 use Rattle.parse.proofs.Buffers.{kept-all, kept_then}
 use Rattle.parse.proofs.Readings.{or-none, or-last}
@@ -40,15 +40,15 @@ no-group list at s = refl
 
 module _ (text : List ℕ) (at slot tally : ℕ) where
   -- a rule that says the same here
-  pub told-as : (p q : ℕ → Reader (Node Leaf)) (old new : List ℕ) (r : NodeAnswer) →
+  pub told-as : (p q : ℕ → Reader (Node Leaf)) (old new : List ℕ) (r : Option Listed) →
       ((k : ℕ) → length text - at ≤ k → q k at (drop at text) ≡ p k at (drop at text)) → NodeAnswered p text at slot tally old new r → NodeAnswered q text at slot tally old new r
-  told-as p q old new (Took next end) e t =
+  told-as p q old new (Some l) e t =
       record { node = t.node; reads = λ k h. e k h ∙ t.reads k h; slots = t.slots; advances = t.advances; inside = t.inside; wrote = t.wrote }
-  told-as p q old new Nothing e t = record { rejects = λ k h. e k h ∙ t.rejects k h; kept = t.kept }
+  told-as p q old new None e t = record { rejects = λ k h. e k h ∙ t.rejects k h; kept = t.kept }
 
   -- and a buffer of which nothing before the slot has changed
-  pub told-after : (p : ℕ → Reader (Node Leaf)) (old mid new : List ℕ) (r : NodeAnswer) → Kept (RECORD * slot) old mid → NodeAnswered p text at slot tally mid new r → NodeAnswered p text at slot tally old new r
-  told-after p old mid new (Took next end) k t =
+  pub told-after : (p : ℕ → Reader (Node Leaf)) (old mid new : List ℕ) (r : Option Listed) → Kept (RECORD * slot) old mid → NodeAnswered p text at slot tally mid new r → NodeAnswered p text at slot tally old new r
+  told-after p old mid new (Some l) k t =
       record {
         node = t.node;
         reads = t.reads;
@@ -60,7 +60,7 @@ module _ (text : List ℕ) (at slot tally : ℕ) where
           holds = λ h. t.wrote.holds (omega (arith, k.long)) ∙ ap (λ (l : List ℕ). l ++ tally_node tally t.node) k.before;
         };
       }
-  told-after p old mid new Nothing k t = record { rejects = t.rejects; kept = kept_then (RECORD * slot) old mid new k t.kept }
+  told-after p old mid new None k t = record { rejects = t.rejects; kept = kept_then (RECORD * slot) old mid new k t.kept }
 
   module _ (f : Features) where
     abbrev pub nodes : ℕ → Reader (Node Leaf)
@@ -102,13 +102,13 @@ module _ (text : List ℕ) (at slot tally : ℕ) where
           none (here 40 (λ q. e (inr (inr (inl q))))) (here 33 (λ q. e (inl q))) (here 38 (λ q. e (inr (inl q)))) (here 94 (λ q. e (inr (inr (inr q))))) (here 91 b) old
 
       -- or else what the one that can start returns.
-      pub a-group : (get_or text at 0 ≡ 91 → ⊥) → (old new : List ℕ) (r : NodeAnswer) → NodeAnswered groups text at slot tally old new r → NodeAnswered either text at slot tally old new r
+      pub a-group : (get_or text at 0 ≡ 91 → ⊥) → (old new : List ℕ) (r : Option Listed) → NodeAnswered groups text at slot tally old new r → NodeAnswered either text at slot tally old new r
       a-group e old new r =
           told-as groups either old new r
           (λ k _. ap (λ (r : Reading (ℤ → Node Leaf)). and_then r (times f))
           (or-last (group_node (node_list f k) at (drop at text)) (binary_group_node (node_list f k)) at (drop at text) (no-binary (node_list f k) at (drop at text) (here 91 e))))
 
-      pub a-bracket : get_or text at 0 ≡ 91 → (old new : List ℕ) (r : NodeAnswer) → NodeAnswered binaries text at slot tally old new r → NodeAnswered either text at slot tally old new r
+      pub a-bracket : get_or text at 0 ≡ 91 → (old new : List ℕ) (r : Option Listed) → NodeAnswered binaries text at slot tally old new r → NodeAnswered either text at slot tally old new r
       a-bracket e old new r =
           told-as binaries either old new r
           (λ k _. ap (λ (r : Reading (ℤ → Node Leaf)). and_then r (times f))
@@ -118,13 +118,13 @@ module _ (text : List ℕ) (at slot tally : ℕ) where
     -- What `node` returns: a leaf, where no group stands, or else a group.
     pub leaf_first : (old new : List ℕ) (next end : ℕ) → NodeRead leaves text at slot tally old new next end → NodeRead nodes text at slot tally old new next end
     leaf_first old new next end t =
-        told-as leaves nodes old new (Took next end)
+        told-as leaves nodes old new (Some (record { next = next; slot = end }))
         (λ k l.
         node-choice f (node_list f k) at (drop at text)
         ∙ ap (λ (r : Reading (ℤ → Node Leaf)). or_else (and_then r (times f)) (node f fail) at (drop at text))
         (no-nested f k at (drop at text) t.node next (drop next text) (t.reads k l))) t
 
-    pub group-instead : (old mid new : List ℕ) (r : NodeAnswer) → NoNode leaves text at slot old mid → NodeAnswered either text at slot tally mid new r → NodeAnswered nodes text at slot tally old new r
+    pub group-instead : (old mid new : List ℕ) (r : Option Listed) → NoNode leaves text at slot old mid → NodeAnswered either text at slot tally mid new r → NodeAnswered nodes text at slot tally old new r
     group-instead old mid new r g t =
         told-after nodes old mid new r g.kept
         (told-as either nodes mid new r

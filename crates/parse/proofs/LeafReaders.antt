@@ -49,6 +49,11 @@ use Rattle.charsets.proofs.Texts.{first_byte}
 use Rattle.charsets.proofs.Signs.{other-prime}
 use Rattle.charsets.proofs.Bools.{contra, and_left, and_right, and-false}
 use Rattle.parse.specs.declared.parts.Element.TheVariants.{Constraint}
+use Rattle.std.specs.Prelude as code
+use Rattle.parsed.specs.declared.Parsed.{Parsed}
+use Rattle.parsed.specs.Reading.{taken, reading}
+use Rattle.numbers.proofs.Bounds.{number as bounded}
+use Rattle.parse.proofs.Past.{within, takes-uint}
 use Rattle.parse.specs.Meaning.{forget, element_of, number, prime_reading, repeated, leaf_read, scramble_read, pair_after, scramble_or_move, twice, scramble_at, scramble_kind}
 use Rattle.parse.proofs.Bytes.{other, just-is, just-not, word-not}
 use Rattle.parse.proofs.Readings.{took, gone, or-none}
@@ -56,11 +61,12 @@ use Rattle.parse.proofs.InBraces.{no-brace, constraint-set-ends}
 
 -- Multipliers: the number, the prime, and both.
 module _ (text : List ℕ) (at : ℕ) where
-  pub no_number : rejected ≡ uint 0 2147483647 at (drop at text) → read 1 at (drop at text) ≡ number at (drop at text)
-  no_number e = rw (← e)
-
-  pub a-number : (n next : ℕ) → read n next (drop next text) ≡ uint 0 2147483647 at (drop at text) → read n next (drop next text) ≡ number at (drop at text)
-  a-number n next e = rw (← e)
+  pub number-or-one : at ≤ code.length text → (r : code.Option (Parsed ℕ)) → reading (λ n. n) text r ≡ uint 0 2147483647 at (drop at text) →
+      let p = code.unwrap_or r (record { value = 1; next = at }) in
+      (taken (λ n. n) text p ≡ number at (drop at text)) × (p.value ≤ 2147483647) × (p.next ≤ code.length text)
+  number-or-one h code.None e = (rw (← e), omega arith, h)
+  number-or-one h (code.Some p) e =
+      (rw (← e), (bounded 0 2147483647 at (drop at text) p.value p.next (drop p.next text) (sym e)).most, (within text at (takes-uint 0 2147483647) h e).1)
 
 module _ (f : Features) (text : List ℕ) (at : ℕ) where
   pub an-apostrophe : eqb (byte_at text at) 39 ≡ true → prime_reading text at (at + 1) ≡ prime f at (drop at text)

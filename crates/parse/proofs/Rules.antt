@@ -11,11 +11,14 @@ use Rattle.notation.specs.Chars.{is_prime}
 use Rattle.notation.specs.Grammar.{Reading, rejected, read, Reader, and_then, done, fail, just, word, sint, prime, multiplier, spanned, constraint, constraint_set, layer_set_element, layer_set_elements, layer_prefix_contents, constraints, rotation_node, tilde, move_node, group_node, binary_group_node, megaminx_scramble_move, sq1_move, node, node_by}
 use Rattle.notation.specs.declared.features.Features.{Features}
 use Rattle.notation.specs.declared.common.MegaminxScrambleMove.{MegaminxScrambleMove}
-use Rattle.parse.specs.Meaning.{forget, element_of, numbered_layers, record_reading, node_fields, Within}
+use Rattle.parse.specs.Meaning.{forget, element_of, numbered_layers, node_fields, Within}
 use Rattle.parse.specs.declared.parts.Element.{Element}
 use Rattle.parse.specs.declared.parts.Element.TheVariants as element
-use Rattle.parse.specs.declared.parts.LeafAnswer.{LeafAnswer}
-use Rattle.parse.specs.declared.parts.LeafAnswer.TheVariants as leaf_answer
+use Rattle.std.specs.Prelude.{Option, Some, None}
+use Rattle.record.specs.declared.encode.Fields.{Fields}
+use Rattle.record.specs.Meaning.{listed}
+use Rattle.parsed.specs.declared.Parsed.{Parsed}
+use Rattle.parsed.specs.Reading.{reading}
 use Rattle.parse.proofs.Past.{Takes, within, takes-fail, takes-done, takes-then, takes-or, takes-when, takes-less, takes-just, takes-character, takes-uint, takes-family_text, takes-family, takes-padded, takes-braces}
 use Rattle.parse.proofs.Readings.{took, never}
 
@@ -145,9 +148,9 @@ takes-node f =
     (takes-when f.sq1 (first takes-sq1 (λ x. takes-done)))))
 
 -- the answer of `leaf` lies within the text, past its start
-pub leaf-within : (f : Features) (text : List ℕ) (at : ℕ) (r : LeafAnswer) → at ≤ length text →
-    record_reading text r ≡ and_then (node f fail at (drop at text)) (λ n. done (node_fields n)) → Within at (length text) r
-leaf-within f text at leaf_answer.Nothing h e = tt
-leaf-within f text at (leaf_answer.Took rec next) h e =
+pub leaf-within : (f : Features) (text : List ℕ) (at : ℕ) (r : Option (Parsed Fields)) → at ≤ length text →
+    reading listed text r ≡ and_then (node f fail at (drop at text)) (λ n. done (node_fields n)) → Within at (length text) r
+leaf-within f text at None h e = tt
+leaf-within f text at (Some p) h e =
     let b = within text at (first (takes-node f) (λ n. takes-done {a = node_fields n})) h e in
     (omega (arith, b.0), b.1)

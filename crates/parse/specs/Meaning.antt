@@ -1,7 +1,6 @@
 -- What the answers of parse.rt say: a reading of the text, or a rejection; and names for the parts of rules that a function of
 -- its own reads.
-use Rattle.std.specs.Prelude.{ℕ, ◌+◌, ◌≤◌, ◌<◌, min, max, Bool, true, false, ◌&&◌, ◌||◌, List, [], ◌∷◌, eqb, ℤ, pos, drop}
-use Rattle.std.proofs.Math.Option.{Option}
+use Rattle.std.specs.Prelude.{ℕ, ◌+◌, ◌≤◌, ◌<◌, min, max, Bool, true, false, ◌&&◌, ◌||◌, List, [], ◌∷◌, eqb, ℤ, pos, drop, Option, Some, None}
 use Rattle.notation.specs.Basics.{pick}
 use Rattle.notation.specs.Numbers.{from_bits}
 use Rattle.notation.specs.Utf8.{byte_at}
@@ -38,34 +37,23 @@ use Rattle.notation.specs.Grammar.{
   ◌>>◌,
 }
 use Rattle.notation.specs.declared.features.Features.{Features}
-use Rattle.notation.specs.declared.common.GroupKind.{GroupKind}
 use Rattle.notation.specs.declared.common.MegaminxScrambleMove.{MegaminxScrambleMove}
 use Rattle.notation.specs.declared.common.MegaminxScrambleMove.TheVariants.{Rpp, Rmm, Dpp, Dmm}
-use Rattle.record.specs.Meaning.{listed, layers, span_option}
-use Rattle.parse.specs.declared.parts.Taken.{Taken}
-use Rattle.parse.specs.declared.parts.Taken.TheVariants as taken
+use Rattle.record.specs.declared.encode.Fields.{Fields}
+use Rattle.parsed.specs.declared.Parsed.{Parsed}
 use Rattle.parse.specs.declared.parts.LayerSetElement.{LayerSetElement}
 use Rattle.parse.specs.declared.parts.LayerSetElement.TheVariants as layer_element
-use Rattle.parse.specs.declared.parts.LayerSetElementAnswer.{LayerSetElementAnswer}
-use Rattle.parse.specs.declared.parts.LayerSetElementAnswer.TheVariants as layer_answer
 use Rattle.parse.specs.declared.parts.Element.{Element}
 use Rattle.parse.specs.declared.parts.Element.TheVariants as element
-use Rattle.parse.specs.declared.parts.Tilde.{Tilde}
-use Rattle.parse.specs.declared.parts.Layers.{Layers}
-use Rattle.parse.specs.declared.parts.Constraints.{Constraints}
-use Rattle.parse.specs.declared.parts.Multiplied.{Multiplied}
-use Rattle.parse.specs.declared.parts.Group.{Group}
-use Rattle.parse.specs.declared.parts.LeafAnswer.{LeafAnswer}
-use Rattle.parse.specs.declared.parts.LeafAnswer.TheVariants as leaf_answer
 
--- Answers that give only an end.
+-- Answers that give only an end; of others, specs/Reading of `parsed` says what they mean.
 abbrev pub forget : {A : Type 0} → Reading A → Reading (Unit {0})
 forget rejected = rejected
 forget (read a next rest) = read tt next rest
 
-abbrev pub end_reading : List ℕ → Taken → Reading (Unit {0})
-end_reading text taken.Nothing = rejected
-end_reading text (taken.To next) = read tt next (drop next text)
+abbrev pub end_reading : List ℕ → Option ℕ → Reading (Unit {0})
+end_reading text None = rejected
+end_reading text (Some next) = read tt next (drop next text)
 
 -- Elements of sets.
 -- the sign of a constraint: -> or <>
@@ -75,10 +63,6 @@ sign_at text at = (eqb (byte_at text at) 45 && eqb (byte_at text (at + 1)) 62) |
 abbrev pub layer_set_element_of : LayerSetElement → rules.LayerSetElement
 layer_set_element_of (layer_element.Single i) = single (from_bits 32 i)
 layer_set_element_of (layer_element.Range i j) = range (from_bits 32 i) (from_bits 32 j)
-
-abbrev pub element_reading : List ℕ → LayerSetElementAnswer → Reading rules.LayerSetElement
-element_reading text layer_answer.Nothing = rejected
-element_reading text (layer_answer.Took k next) = read (layer_set_element_of k) next (drop next text)
 
 abbrev pub layer_after_dots : Reader ℤ
 layer_after_dots = do word ".."; signed_layer
@@ -106,46 +90,24 @@ abbrev pub ending : {A : Type 0} → Reader A → ℕ → Reader (Unit {0})
 ending item fuel = do more item fuel; whitespace; brace
 
 -- Parts of a move.
-abbrev pub tilde_reading : List ℕ → Tilde → Reading Bool
-tilde_reading text r = read r.inverted r.next (drop r.next text)
-
-abbrev pub layers_reading : List ℕ → Layers → Reading (tree.Layers tree.Span)
-layers_reading text r = read (layers r.contents) r.next (drop r.next text)
-
 abbrev pub numbered_layers : Reader (tree.Layers tree.Span)
 numbered_layers =
     (do i ← layer; just "-"; j ← layer; done (layer_range (min i j) (max i j)))
     or (do i ← layer; done (single_layer i))
     or done no_layers
 
-abbrev pub constraints_reading : List ℕ → Constraints → Reading (Option tree.Span)
-constraints_reading text r = read (span_option r.part) r.next (drop r.next text)
-
-abbrev pub multiplier_reading : List ℕ → Multiplied → Reading ℤ
-multiplier_reading text r = read (from_bits 32 r.bits) r.next (drop r.next text)
-
 -- its number, 1 where none is written
 abbrev pub number : Reader ℕ
 number = uint 0 MAX-I32 or done 1
-
-abbrev pub number_reading : List ℕ → Multiplied → Reading ℕ
-number_reading text r = read r.bits r.next (drop r.next text)
 
 -- a prime that ends at r; none where r is where it would begin
 abbrev pub prime_reading : List ℕ → ℕ → ℕ → Reading (Unit {0})
 prime_reading text at r = pick (eqb r at) rejected (read tt r (drop r text))
 
-abbrev pub group_reading : List ℕ → Group → Reading GroupKind
-group_reading text r = read r.kind r.next (drop r.next text)
-
 -- Nodes, by the fields of their records.
 abbrev pub node_fields : Node Leaf → List ℕ
 node_fields (leaf x) = leaf_fields x
 node_fields (block b m) = head_fields (body_head b m)
-
-abbrev pub record_reading : List ℕ → LeafAnswer → Reading (List ℕ)
-record_reading text leaf_answer.Nothing = rejected
-record_reading text (leaf_answer.Took f next) = read (listed f) next (drop next text)
 
 -- a node with its multiplier
 abbrev pub repeated : Features → Reading (ℤ → Node Leaf) → Reading (List ℕ)
@@ -179,6 +141,6 @@ scramble_kind false true = Dpp
 scramble_kind false false = Dmm
 
 -- What else the caller may count on: an answer lies within the text.
-abbrev pub Within : ℕ → ℕ → LeafAnswer → Type 0
-Within at end leaf_answer.Nothing = Unit {0}
-Within at end (leaf_answer.Took f next) = (at < next) × (next ≤ end)
+abbrev pub Within : ℕ → ℕ → Option (Parsed Fields) → Type 0
+Within at end None = Unit {0}
+Within at end (Some p) = (at < p.next) × (p.next ≤ end)

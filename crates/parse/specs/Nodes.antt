@@ -1,5 +1,7 @@
 -- What the readers of lists and nodes answer, and what they do to the lent buffer. Slots count records: slot i stands at byte RECORD * i.
-use Rattle.std.specs.Prelude.{ℕ, ◌+◌, ◌*◌, ◌-◌, ◌<◌, ◌≤◌, ◌≡◌, List, ◌++◌, ℤ, length, take, drop, true, false, eqb, leb}
+use Rattle.std.specs.Prelude.{ℕ, ◌+◌, ◌*◌, ◌-◌, ◌<◌, ◌≤◌, ◌≡◌, List, ◌++◌, ℤ, length, take, drop, true, false, eqb, leb, Option, Some, None}
+use Rattle.parsed.specs.declared.Parsed.{Parsed}
+use Rattle.parse.specs.declared.node.Listed.{Listed}
 use Rattle.notation.specs.Tree.{Leaf, Node, Tree}
 use Rattle.notation.specs.Packed.{RECORD, node_size, size}
 use Rattle.notation.specs.Grammar.{Reading, Reader, rejected, read, done, ◌>>=◌, ◌or◌, multiplier, group_node, binary_group_node, node_list}
@@ -10,12 +12,6 @@ use Rattle.notation.specs.Utf8.{byte_at}
 use Rattle.notation.specs.Numbers.{from_bits}
 use Rattle.notation.specs.declared.common.BinaryGroupKind.{BinaryGroupKind}
 use Rattle.tally.specs.Tallies.{tally_node, tally_list}
-use Rattle.parse.specs.declared.node.Closing.{Closing}
-use Rattle.parse.specs.declared.node.Closing.TheVariants as Closing'
-use Rattle.parse.specs.declared.node.BinaryKind.{BinaryKind}
-use Rattle.parse.specs.declared.node.BinaryKind.TheVariants as BinaryKind'
-use Rattle.parse.specs.declared.node.NodeAnswer.{NodeAnswer}
-use Rattle.parse.specs.declared.node.NodeAnswer.TheVariants.{Took, Nothing}
 
 -- Where a reader may start: no more records were read than bytes, and a bracket stands for every two tallies.
 pub record Within (text : List ℕ) (at slot tally : ℕ) : Type 0 where
@@ -59,9 +55,9 @@ pub record NoNode (rule : ℕ → Reader (Node Leaf)) (text : List ℕ) (at slot
   pub rejects : (k : ℕ) → length text - at ≤ k → rule k at (drop at text) ≡ rejected
   pub kept : Kept (RECORD * slot) old new
 
-abbrev pub NodeAnswered : (ℕ → Reader (Node Leaf)) → List ℕ → (at slot tally : ℕ) → List ℕ → List ℕ → NodeAnswer → Type 0
-NodeAnswered rule text at slot tally old new (Took next end) = NodeRead rule text at slot tally old new next end
-NodeAnswered rule text at slot tally old new Nothing = NoNode rule text at slot old new
+abbrev pub NodeAnswered : (ℕ → Reader (Node Leaf)) → List ℕ → (at slot tally : ℕ) → List ℕ → List ℕ → Option Listed → Type 0
+NodeAnswered rule text at slot tally old new (Some l) = NodeRead rule text at slot tally old new l.next l.slot
+NodeAnswered rule text at slot tally old new None = NoNode rule text at slot old new
 
 -- a group or a bracket
 abbrev pub nested : Reader Tree → Reader (ℤ → Node Leaf)
@@ -81,10 +77,10 @@ pub record CloseRead (f : Features) (text : List ℕ) (at bracket bits next : �
   pub advances : at < next
   pub inside : next ≤ length text
 
-abbrev pub Closed : Features → List ℕ → ℕ → ℕ → Closing → Type 0
-Closed f text at bracket (Closing'.Took bits next) = CloseRead f text at bracket bits next
-Closed f text at bracket Closing'.Nothing = eqb (byte_at text at) bracket ≡ false
+abbrev pub Closed : Features → List ℕ → ℕ → ℕ → Option (Parsed ℕ) → Type 0
+Closed f text at bracket (Some m) = CloseRead f text at bracket m.value m.next
+Closed f text at bracket None = eqb (byte_at text at) bracket ≡ false
 
-abbrev pub binary_kind : List ℕ → ℕ → BinaryKind → Reading BinaryGroupKind
-binary_kind text at (BinaryKind'.Is k) = read k (at + 1) (drop (at + 1) text)
-binary_kind text at BinaryKind'.Nothing = rejected
+abbrev pub binary_kind : List ℕ → ℕ → Option BinaryGroupKind → Reading BinaryGroupKind
+binary_kind text at (Some k) = read k (at + 1) (drop (at + 1) text)
+binary_kind text at None = rejected

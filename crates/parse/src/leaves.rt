@@ -5,66 +5,69 @@ ghost use Rattle.std.specs.Prelude.{◌≡◌, true, ◌≤◌, ◌<◌, eqb, le
 ghost use Rattle.notation.specs.Utf8.{byte_at};
 ghost use Rattle.notation.specs.Entries.{MAX-TEXT};
 ghost use Rattle.notation.specs.Grammar as rule;
+ghost use Rattle.notation.specs.Numbers.{from_bits};
+ghost use Rattle.parsed.specs.Reading.{taken, reading};
+ghost use Rattle.record.specs.Meaning.{layers, listed, span_option};
 ghost use Rattle.parse.specs.Meaning as means;
 
 use crate::look::{family_span, has, span_between};
-use crate::parts::{Constraints, Group, Layers, LeafAnswer, MAX_LAYER, Multiplied, Taken, Tilde};
+use crate::parts::MAX_LAYER;
 use crate::puzzles::{admitted_sq1_move, is_scramble, megaminx_scramble_move};
 use crate::sets::{constraint_set, layer_after_hyphen, layer_set};
 use charsets::{family_end, has_curly_prime};
 use notation::common::GroupKind;
 use notation::features::Features;
-use numbers::decimal::{Unsigned, uint};
+use numbers::decimal::uint;
 use numbers::signed::{MAX, negate};
-use record::encode::{move_fields, pause_fields, rotation_fields};
-use record::spanned::{LayerPrefixContents, Move, Rotation, SpanOption};
+use parsed::Parsed;
+use record::encode::{Fields, move_fields, pause_fields, rotation_fields};
+use record::spanned::{LayerPrefixContents, Move, Rotation, Span};
 
 // The layer or the range of layers that stands at `at`.
-fn numbered_layers(text: &[u8], at: usize) -> Layers
+fn numbered_layers(text: &[u8], at: usize) -> Parsed<LayerPrefixContents>
     requires { at ≤ length text.now }
-    ensures { means.layers_reading text.now result ≡ means.numbered_layers at (drop at text.now) }
+    ensures { taken layers text.now result ≡ means.numbered_layers at (drop at text.now) }
 {
-    let Unsigned::Took(i, end) = uint(text, at, 1, MAX_LAYER) else {
-        return Layers {
-            contents: LayerPrefixContents::None,
+    let Some(first) = uint(text, at, 1, MAX_LAYER) else {
+        return Parsed {
+            value: LayerPrefixContents::None,
             next: at,
         };
     };
-    let Unsigned::Took(j, next) = layer_after_hyphen(text, end) else {
-        return Layers {
-            contents: LayerPrefixContents::Single(i as u16),
-            next: end,
+    let i = first.value as u16;
+    let Some(last) = layer_after_hyphen(text, first.next) else {
+        return Parsed {
+            value: LayerPrefixContents::Single(i),
+            next: first.next,
         };
     };
-    if i < j {
-        Layers {
-            contents: LayerPrefixContents::Range(i as u16, j as u16),
-            next,
-        }
-    } else {
-        Layers {
-            contents: LayerPrefixContents::Range(j as u16, i as u16),
-            next,
-        }
+    let j = last.value as u16;
+    Parsed {
+        value: LayerPrefixContents::Range(i.min(j), i.max(j)),
+        next: last.next,
     }
 }
 
 // The layers before a family; none is fine. No number starts with a brace.
-pub fn layer_prefix_contents(text: &[u8], at: usize, features: Features) -> Layers
+pub fn layer_prefix_contents(
+    text: &[u8],
+    at: usize,
+    features: Features,
+) -> Parsed<LayerPrefixContents>
     requires { (at ≤ length text.now) × (length text.now ≤ MAX-TEXT) }
-    ensures { means.layers_reading text.now result
+    ensures { taken layers text.now result
         ≡ rule.layer_prefix_contents features at (drop at text.now) }
 {
     if features.layers.layer_sets && has(text, at, b'{') {
-        let Taken::To(next) = layer_set(text, at, features.layers.hsc1_layer_ranges) else {
-            return Layers {
-                contents: LayerPrefixContents::None,
+        let Some(next) = layer_set(text, at, features.layers.hsc1_layer_ranges) else {
+            return Parsed {
+                value: LayerPrefixContents::None,
                 next: at,
             };
         };
         let part = span_between(at, next);
-        return Layers {
-            contents: LayerPrefixContents::Set(part),
+        return Parsed {
+            value: LayerPrefixContents::Set(part),
             next,
         };
     }
@@ -72,62 +75,59 @@ pub fn layer_prefix_contents(text: &[u8], at: usize, features: Features) -> Laye
 }
 
 // `~`, where it is admitted.
-fn tilde(text: &[u8], at: usize, features: Features) -> Tilde
+fn tilde(text: &[u8], at: usize, features: Features) -> Parsed<bool>
     requires { at ≤ length text.now }
-    ensures { means.tilde_reading text.now result ≡ rule.tilde features at (drop at text.now) }
+    ensures { taken (λ b. b) text.now result ≡ rule.tilde features at (drop at text.now) }
 {
     if features.layers.inverted_layers {
         if has(text, at, b'~') {
-            return Tilde {
-                inverted: true,
+            return Parsed {
+                value: true,
                 next: at + 1,
             };
         }
-        return Tilde {
-            inverted: false,
+        return Parsed {
+            value: false,
             next: at,
         };
     }
-    Tilde {
-        inverted: false,
+    Parsed {
+        value: false,
         next: at,
     }
 }
 
 // The constraints after a family; none is fine.
-fn constraints(text: &[u8], at: usize, features: Features) -> Constraints
+fn constraints(text: &[u8], at: usize, features: Features) -> Parsed<Option<Span>>
     requires { (at ≤ length text.now) × (length text.now ≤ MAX-TEXT) }
-    ensures { means.constraints_reading text.now result ≡ rule.constraints features at (drop at text.now) }
+    ensures { taken span_option text.now result ≡ rule.constraints features at (drop at text.now) }
 {
     if features.transform_constraints && has(text, at, b'{') {
-        let Taken::To(next) = constraint_set(text, at) else {
-            return Constraints {
-                part: SpanOption::None,
+        let Some(next) = constraint_set(text, at) else {
+            return Parsed {
+                value: None,
                 next: at,
             };
         };
         let part = span_between(at, next);
-        return Constraints {
-            part: SpanOption::Some(part),
+        return Parsed {
+            value: Some(part),
             next,
         };
     }
-    Constraints {
-        part: SpanOption::None,
+    Parsed {
+        value: None,
         next: at,
     }
 }
 
 // The number of a multiplier: 1 where none is written.
-fn number(text: &[u8], at: usize) -> Multiplied
+fn number(text: &[u8], at: usize) -> Parsed<u32>
     requires { at ≤ length text.now }
-    ensures result_value { means.number_reading text.now result ≡ means.number at (drop at text.now) }
-    ensures bits_bound { (result.bits ≤ 2147483647) × (result.next ≤ length text.now) }
+    ensures result_value { taken (λ n. n) text.now result ≡ means.number at (drop at text.now) }
+    ensures bits_bound { (result.value ≤ 2147483647) × (result.next ≤ length text.now) }
 {
-    let Unsigned::Took(n, end) = uint(text, at, 0, MAX) else {
-        return Multiplied { bits: 1, next: at };
-    };
-    Multiplied { bits: n, next: end }
+    uint(text, at, 0, MAX).unwrap_or(Parsed { value: 1, next: at })
 }
 
 // Where the prime at `at` ends, of those that are admitted; `at` where none stands there.
@@ -148,55 +148,55 @@ fn prime_end(text: &[u8], at: usize, features: Features) -> usize
 }
 
 // How often a node is repeated: a number or none, and a prime that negates it or none.
-pub fn multiplier(text: &[u8], at: usize, features: Features) -> Multiplied
+pub fn multiplier(text: &[u8], at: usize, features: Features) -> Parsed<u32>
     requires { at ≤ length text.now }
-    ensures { means.multiplier_reading text.now result ≡ rule.multiplier features at (drop at text.now) }
+    ensures { taken (from_bits 32) text.now result ≡ rule.multiplier features at (drop at text.now) }
 {
     let times = number(text, at);
     let next = prime_end(text, times.next, features);
     if next == times.next {
         return times;
     }
-    Multiplied {
-        bits: negate(times.bits),
+    Parsed {
+        value: negate(times.value),
         next,
     }
 }
 
 // What stands before the `(` of a group.
-pub fn group_kind(text: &[u8], at: usize) -> Group
+pub fn group_kind(text: &[u8], at: usize) -> Parsed<GroupKind>
     requires { at ≤ length text.now }
-    ensures { means.group_reading text.now result ≡ rule.group_kind at (drop at text.now) }
+    ensures { taken (λ k. k) text.now result ≡ rule.group_kind at (drop at text.now) }
 {
     if has(text, at, b'!') {
-        return Group {
-            kind: GroupKind::Macro,
+        return Parsed {
+            value: GroupKind::Macro,
             next: at + 1,
         };
     }
     if has(text, at, b'&') {
-        return Group {
-            kind: GroupKind::Simultaneous,
+        return Parsed {
+            value: GroupKind::Simultaneous,
             next: at + 1,
         };
     }
     if has(text, at, b'^') {
-        return Group {
-            kind: GroupKind::Niss,
+        return Parsed {
+            value: GroupKind::Niss,
             next: at + 1,
         };
     }
-    Group {
-        kind: GroupKind::Simple,
+    Parsed {
+        value: GroupKind::Simple,
         next: at,
     }
 }
 
 // Reads a rotation, whose `@` was seen.
-fn rotation(text: &[u8], at: usize, features: Features) -> LeafAnswer
+fn rotation(text: &[u8], at: usize, features: Features) -> Option<Parsed<Fields>>
     requires at_in_bounds { (at < length text.now) × (length text.now ≤ MAX-TEXT) }
     requires at_sign { eqb (byte_at text.now at) 64 ≡ true }
-    ensures { means.record_reading text.now result
+    ensures { reading listed text.now result
         ≡ means.repeated features (rule.rotation_node features at (drop at text.now)) }
 {
     if features.generalized_rotations {
@@ -204,54 +204,51 @@ fn rotation(text: &[u8], at: usize, features: Features) -> LeafAnswer
         let end = family_end(text, from);
         let family = family_span(from, end);
         let set = constraints(text, end, features);
-        let part = set.part;
         let times = multiplier(text, set.next, features);
-        return LeafAnswer::Took(
-            rotation_fields(Rotation {
+        return Some(Parsed {
+            value: rotation_fields(Rotation {
                 family,
-                constraints: part,
-                multiplier: times.bits,
+                constraints: set.value,
+                multiplier: times.value,
             }),
-            times.next,
-        );
+            next: times.next,
+        });
     }
-    LeafAnswer::Nothing
+    None
 }
 
 // Reads a move: layers, a family of at least one character, constraints and a multiplier.
-fn move_(text: &[u8], at: usize, features: Features) -> LeafAnswer
+fn move_(text: &[u8], at: usize, features: Features) -> Option<Parsed<Fields>>
     requires { (at ≤ length text.now) × (length text.now ≤ MAX-TEXT) }
-    ensures { means.record_reading text.now result
+    ensures { reading listed text.now result
         ≡ means.repeated features (rule.move_node features at (drop at text.now)) }
 {
     let sign = tilde(text, at, features);
     let prefix = layer_prefix_contents(text, sign.next, features);
-    let layers = prefix.contents;
     let from = prefix.next;
     let end = family_end(text, from);
     if end == from {
-        return LeafAnswer::Nothing;
+        return None;
     }
     let family = family_span(from, end);
     let set = constraints(text, end, features);
-    let part = set.part;
     let times = multiplier(text, set.next, features);
-    LeafAnswer::Took(
-        move_fields(Move {
-            inverted: sign.inverted,
-            layers,
+    Some(Parsed {
+        value: move_fields(Move {
+            inverted: sign.value,
+            layers: prefix.value,
             family,
-            constraints: part,
-            multiplier: times.bits,
+            constraints: set.value,
+            multiplier: times.value,
         }),
-        times.next,
-    )
+        next: times.next,
+    })
 }
 
 // Reads a scramble move, or else a move.
-fn scramble_or_move(text: &[u8], at: usize, features: Features) -> LeafAnswer
+fn scramble_or_move(text: &[u8], at: usize, features: Features) -> Option<Parsed<Fields>>
     requires { (at < length text.now) × (length text.now ≤ MAX-TEXT) }
-    ensures { means.record_reading text.now result ≡ means.scramble_or_move features at (drop at text.now) }
+    ensures { reading listed text.now result ≡ means.scramble_or_move features at (drop at text.now) }
 {
     if features.megaminx && is_scramble(text, at) {
         megaminx_scramble_move(text, at)
@@ -261,9 +258,9 @@ fn scramble_or_move(text: &[u8], at: usize, features: Features) -> LeafAnswer
 }
 
 // Reads a leaf, a node that is no group. Its first byte tells which one it can be.
-pub fn leaf(text: &[u8], at: usize, features: Features) -> LeafAnswer
+pub fn leaf(text: &[u8], at: usize, features: Features) -> Option<Parsed<Fields>>
     requires { (at ≤ length text.now) × (length text.now ≤ MAX-TEXT) }
-    ensures means { means.record_reading text.now result
+    ensures means { reading listed text.now result
         ≡ rule.and_then (rule.node features rule.fail at (drop at text.now))
         (λ n. rule.done (means.node_fields n)) }
     ensures within { means.Within at (length text.now) result }
@@ -271,7 +268,10 @@ pub fn leaf(text: &[u8], at: usize, features: Features) -> LeafAnswer
     if at < text.len() {
         let byte = text[at];
         if byte == b'.' {
-            return LeafAnswer::Took(pause_fields(), at + 1);
+            return Some(Parsed {
+                value: pause_fields(),
+                next: at + 1,
+            });
         }
         if byte == b'@' {
             return rotation(text, at, features);
@@ -281,5 +281,5 @@ pub fn leaf(text: &[u8], at: usize, features: Features) -> LeafAnswer
         }
         return scramble_or_move(text, at, features);
     }
-    LeafAnswer::Nothing
+    None
 }

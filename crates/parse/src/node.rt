@@ -11,65 +11,44 @@ ghost use Rattle.parse.specs.Nodes as nodes;
 
 use crate::leaves::{group_kind, leaf, multiplier};
 use crate::look::has;
-use crate::parts::LeafAnswer;
 use charsets::whitespace_end;
 use notation::common::BinaryGroupKind;
 use notation::features::Features;
+use parsed::Parsed;
 use record::RECORD;
 use record::encode::{Fields, binary_group_fields, group_fields, put};
 use tally::{OF_FIRST, OF_SECOND};
 
-// Where a list ends in the text, and the slot after its last record.
-#[derive(Drop)]
+// Where a list or a node ends in the text, and the slot after its last record.
+#[derive(Clone, Copy, Debug, PartialEq, Eq)]
 pub struct Listed {
     pub next: usize,
     pub slot: usize,
 }
 
-// The same for a node.
-#[derive(Drop)]
-pub enum NodeAnswer {
-    Took(usize, usize),
-    Nothing,
-}
-
-// The 32 bits of a multiplier and the offset after it.
-#[derive(Drop)]
-enum Closing {
-    Took(u32, usize),
-    Nothing,
-}
-
-#[derive(Drop)]
-enum BinaryKind {
-    Is(BinaryGroupKind),
-    Nothing,
-}
-
 // Reads a closing bracket and the multiplier after it.
-fn close(text: &[u8], at: usize, features: Features, bracket: u8) -> Closing
+fn close(text: &[u8], at: usize, features: Features, bracket: u8) -> Option<Parsed<u32>>
     requires { at ≤ length text.now }
     ensures { nodes.Closed features text.now at bracket result }
 {
     if has(text, at, bracket) {
-        let m = multiplier(text, at + 1, features);
-        Closing::Took(m.bits, m.next)
+        Some(multiplier(text, at + 1, features))
     } else {
-        Closing::Nothing
+        None
     }
 }
 
 // Reads the sign between the two lists of a binary group.
-fn binary_group_kind(text: &[u8], at: usize) -> BinaryKind
+fn binary_group_kind(text: &[u8], at: usize) -> Option<BinaryGroupKind>
     ensures { nodes.binary_kind text.now at result ≡ rule.binary_group_kind at (drop at text.now) }
 {
     if has(text, at, b',') {
-        return BinaryKind::Is(BinaryGroupKind::Commutator);
+        return Some(BinaryGroupKind::Commutator);
     }
     if has(text, at, b':') {
-        return BinaryKind::Is(BinaryGroupKind::Conjugate);
+        return Some(BinaryGroupKind::Conjugate);
     }
-    BinaryKind::Nothing
+    None
 }
 
 // Writes a group's record, with the number of its list's tally where the count will stand. The number is below 256; said
@@ -112,16 +91,17 @@ fn leaf_node(
     tree: &mut [u8],
     slot: usize,
     tally: u64,
-) -> NodeAnswer
+) -> Option<Listed>
     requires { nodes.Within text.now at slot tally }
     ensures { nodes.NodeAnswered (λ _. rule.node features rule.fail) text.now at slot tally tree.old
         tree.new result }
 {
-    let LeafAnswer::Took(f, next) = leaf(text, at, features) else {
-        return NodeAnswer::Nothing;
-    };
-    put_leaf(tree, slot, f, tally);
-    NodeAnswer::Took(next, slot + 1)
+    let leaf = leaf(text, at, features)?;
+    put_leaf(tree, slot, leaf.value, tally);
+    Some(Listed {
+        next: leaf.next,
+        slot: slot + 1,
+    })
 }
 
 // Reads nodes with white space between them. A list ends where no node follows, and takes the white space before that.
@@ -141,13 +121,13 @@ pub fn node_list(
     let mut next = whitespace_end(text, at);
     let mut end = slot;
     loop {
-        let NodeAnswer::Took(after, filled) = node(text, next, features, tree, end, tally) else {
+        let Some(read) = node(text, next, features, tree, end, tally) else {
             return Listed { next, slot: end };
         };
-        end = filled;
-        next = whitespace_end(text, after);
-        if next == after {
-            return Listed { next, slot: end };
+        end = read.slot;
+        next = whitespace_end(text, read.next);
+        if next == read.next {
+            return read;
         }
     }
 }
@@ -162,15 +142,15 @@ fn node(
     tree: &mut [u8],
     slot: usize,
     tally: u64,
-) -> NodeAnswer
+) -> Option<Listed>
     requires { nodes.Within text.now at slot tally }
     ensures { nodes.NodeAnswered (λ k. rule.node features (rule.node_list features k)) text.now at slot tally
         tree.old tree.new result }
 {
-    let NodeAnswer::Took(next, end) = leaf_node(text, at, features, tree, slot, tally) else {
-        return any_group(text, at, features, tree, slot, tally);
-    };
-    NodeAnswer::Took(next, end)
+    if let Some(leaf) = leaf_node(text, at, features, tree, slot, tally) {
+        return Some(leaf);
+    }
+    any_group(text, at, features, tree, slot, tally)
 }
 
 // Reads a group of either sort. The first byte tells which one it can be.
@@ -182,18 +162,18 @@ fn any_group(
     tree: &mut [u8],
     slot: usize,
     tally: u64,
-) -> NodeAnswer
+) -> Option<Listed>
     requires { nodes.Within text.now at slot tally }
     ensures { nodes.NodeAnswered (λ k. nodes.repeated features (nodes.nested (rule.node_list features k))) text.now
         at slot tally tree.old tree.new result }
 {
     if text.len() <= at {
-        return NodeAnswer::Nothing;
+        return None;
     }
     match text[at] {
         b'(' | b'!' | b'&' | b'^' => group(text, at, features, tree, slot, tally),
         b'[' => binary_group(text, at, features, tree, slot, tally),
-        _ => NodeAnswer::Nothing,
+        _ => None,
     }
 }
 
@@ -206,25 +186,29 @@ fn group(
     tree: &mut [u8],
     slot: usize,
     tally: u64,
-) -> NodeAnswer
+) -> Option<Listed>
     requires { nodes.Within text.now at slot tally × (at < length text.now) }
     ensures { nodes.NodeAnswered (λ k. nodes.repeated features (rule.group_node (rule.node_list features k))) text.now
         at slot tally tree.old tree.new result }
 {
     let start = group_kind(text, at);
-    let kind = start.kind;
     let open = start.next;
-    if has(text, open, b'(') {
-        let list = node_list(text, open + 1, features, tree, slot + 1, tally + OF_FIRST);
-        let Closing::Took(bits, next) = close(text, list.next, features, b')') else {
-            return NodeAnswer::Nothing;
-        };
-        let first = (list.slot - (slot + 1)) as u32;
-        put_group(tree, slot, group_fields(kind, first, bits, 0), tally);
-        NodeAnswer::Took(next, list.slot)
-    } else {
-        NodeAnswer::Nothing
+    if !has(text, open, b'(') {
+        return None;
     }
+    let list = node_list(text, open + 1, features, tree, slot + 1, tally + OF_FIRST);
+    let end = close(text, list.next, features, b')')?;
+    let first = (list.slot - (slot + 1)) as u32;
+    put_group(
+        tree,
+        slot,
+        group_fields(start.value, first, end.value, 0),
+        tally,
+    );
+    Some(Listed {
+        next: end.next,
+        slot: list.slot,
+    })
 }
 
 // Reads a commutator or a conjugate.
@@ -236,26 +220,25 @@ fn binary_group(
     tree: &mut [u8],
     slot: usize,
     tally: u64,
-) -> NodeAnswer
+) -> Option<Listed>
     requires { nodes.Within text.now at slot tally × (at < length text.now) × (get_or text.now at 0 ≡ 91) }
     ensures { nodes.NodeAnswered (λ k. nodes.repeated features (rule.binary_group_node (rule.node_list features k)))
         text.now at slot tally tree.old tree.new result }
 {
     let a = node_list(text, at + 1, features, tree, slot + 1, tally + OF_FIRST);
-    let BinaryKind::Is(kind) = binary_group_kind(text, a.next) else {
-        return NodeAnswer::Nothing;
-    };
+    let kind = binary_group_kind(text, a.next)?;
     let b = node_list(text, a.next + 1, features, tree, a.slot, tally + OF_SECOND);
-    let Closing::Took(bits, next) = close(text, b.next, features, b']') else {
-        return NodeAnswer::Nothing;
-    };
+    let end = close(text, b.next, features, b']')?;
     let first = (a.slot - (slot + 1)) as u32;
     let second = (b.slot - a.slot) as u32;
     put_group(
         tree,
         slot,
-        binary_group_fields(kind, first, second, bits, 0),
+        binary_group_fields(kind, first, second, end.value, 0),
         tally,
     );
-    NodeAnswer::Took(next, b.slot)
+    Some(Listed {
+        next: end.next,
+        slot: b.slot,
+    })
 }

@@ -1,17 +1,19 @@
 // The moves of single puzzles, which a feature admits: the Megaminx scramble and Square-1.
 ghost use Rattle.std.specs.Prelude.{◌≡◌, true, ◌&&◌, ◌||◌, ◌≤◌, ◌<◌, length, drop};
 ghost use Rattle.notation.specs.Grammar as rule;
-ghost use Rattle.numbers.specs.Decimal.{sint_reading};
+ghost use Rattle.notation.specs.Numbers.{from_bits};
+ghost use Rattle.parsed.specs.Reading.{reading};
+ghost use Rattle.record.specs.Meaning.{listed};
 ghost use Rattle.parse.specs.Meaning as means;
 
 use crate::look::has;
-use crate::parts::LeafAnswer;
 use charsets::whitespace_end;
 use notation::common::MegaminxScrambleMove;
 use notation::features::Features;
-use numbers::decimal::{Signed, sint};
+use numbers::decimal::sint;
 use numbers::signed::{MAX, MIN};
-use record::encode::{megaminx_fields, pair_fields, slash_fields};
+use parsed::Parsed;
+use record::encode::{Fields, megaminx_fields, pair_fields, slash_fields};
 
 // `&&` of two answers that are both known.
 fn both(a: bool, b: bool) -> bool
@@ -58,70 +60,75 @@ fn scramble_kind(right: bool, plus: bool) -> MegaminxScrambleMove
 }
 
 // Reads a scramble move, which was seen.
-pub fn megaminx_scramble_move(text: &[u8], at: usize) -> LeafAnswer
+pub fn megaminx_scramble_move(text: &[u8], at: usize) -> Option<Parsed<Fields>>
     requires { (at < length text.now) × (means.scramble_at text.now at ≡ true) }
-    ensures { means.record_reading text.now result
+    ensures { reading listed text.now result
         ≡ means.scramble_read (rule.megaminx_scramble_move at (drop at text.now)) }
 {
     let kind = scramble_kind(has(text, at, b'R'), has(text, at + 1, b'+'));
-    LeafAnswer::Took(megaminx_fields(kind), at + 3)
+    Some(Parsed {
+        value: megaminx_fields(kind),
+        next: at + 3,
+    })
 }
 
 // Reads a number with white space around it.
-fn padded_number(text: &[u8], at: usize) -> Signed
+fn padded_number(text: &[u8], at: usize) -> Option<Parsed<u32>>
     requires { at ≤ length text.now }
-    ensures { sint_reading text.now result ≡ rule.padded rule.i32 at (drop at text.now) }
+    ensures { reading (from_bits 32) text.now result ≡ rule.padded rule.i32 at (drop at text.now) }
 {
     let from = whitespace_end(text, at);
-    let Signed::Took(bits, end) = sint(text, from, 0, MAX, MIN) else {
-        return Signed::Nothing;
-    };
-    Signed::Took(bits, whitespace_end(text, end))
+    let number = sint(text, from, 0, MAX, MIN)?;
+    Some(Parsed {
+        value: number.value,
+        next: whitespace_end(text, number.next),
+    })
 }
 
 // `(u, d)`, whose `(` stands before `at`.
-fn pair(text: &[u8], at: usize) -> LeafAnswer
+fn pair(text: &[u8], at: usize) -> Option<Parsed<Fields>>
     requires { at ≤ length text.now }
-    ensures { means.record_reading text.now result ≡ means.pair_after at (drop at text.now) }
+    ensures { reading listed text.now result ≡ means.pair_after at (drop at text.now) }
 {
-    let Signed::Took(u, comma) = padded_number(text, at) else {
-        return LeafAnswer::Nothing;
-    };
-    if has(text, comma, b',') {
-        let Signed::Took(d, end) = padded_number(text, comma + 1) else {
-            return LeafAnswer::Nothing;
-        };
-        if has(text, end, b')') {
-            return LeafAnswer::Took(pair_fields(u, d), end + 1);
+    let u = padded_number(text, at)?;
+    if has(text, u.next, b',') {
+        let d = padded_number(text, u.next + 1)?;
+        if has(text, d.next, b')') {
+            return Some(Parsed {
+                value: pair_fields(u.value, d.value),
+                next: d.next + 1,
+            });
         }
-        return LeafAnswer::Nothing;
     }
-    LeafAnswer::Nothing
+    None
 }
 
 // Reads a slash or a pair.
-fn sq1_move(text: &[u8], at: usize) -> LeafAnswer
+fn sq1_move(text: &[u8], at: usize) -> Option<Parsed<Fields>>
     requires { at < length text.now }
-    ensures { means.record_reading text.now result ≡ means.leaf_read (rule.sq1_move at (drop at text.now)) }
+    ensures { reading listed text.now result ≡ means.leaf_read (rule.sq1_move at (drop at text.now)) }
 {
     if has(text, at, b'/') {
-        return LeafAnswer::Took(slash_fields(), at + 1);
+        return Some(Parsed {
+            value: slash_fields(),
+            next: at + 1,
+        });
     }
     if has(text, at, b'(') {
         return pair(text, at + 1);
     }
-    LeafAnswer::Nothing
+    None
 }
 
 // Reads a slash or a pair where the setting admits it.
-pub fn admitted_sq1_move(text: &[u8], at: usize, features: Features) -> LeafAnswer
+pub fn admitted_sq1_move(text: &[u8], at: usize, features: Features) -> Option<Parsed<Fields>>
     requires { at < length text.now }
-    ensures { means.record_reading text.now result
+    ensures { reading listed text.now result
         ≡ means.leaf_read (rule.when features.sq1 rule.sq1_move at (drop at text.now)) }
 {
     if features.sq1 {
         sq1_move(text, at)
     } else {
-        LeafAnswer::Nothing
+        None
     }
 }

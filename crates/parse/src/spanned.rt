@@ -5,36 +5,35 @@ ghost use Rattle.notation.specs.Entries as rule;
 use crate::nesting::nesting_ok;
 use crate::node::node_list;
 use charsets::is_utf8;
-use notation::answer::Answer;
 use notation::features::Features;
 use notation::limits::MAX_TEXT;
-use notation::refusals::{NO_ROOM, NOT_NOTATION, NOT_UTF8, TOO_LONG, TOO_NESTED};
+use notation::refusals::Refusal;
 use record::RECORD;
 use tally::fill_counts;
 
 // The tree of a text, written to the front of `tree`; the answer is its size in bytes. A refusal leaves the buffer as it
 // was, so the text is read twice: first to measure, then to write. Step counts come last.
-pub fn parse_notation(text: &[u8], features: Features, tree: &mut [u8]) -> Answer
+pub fn parse_notation(text: &[u8], features: Features, tree: &mut [u8]) -> Result<u64, Refusal>
     ensures { rule.lent result tree.new ≡ rule.parse_notation features text.now tree.old }
 {
     if MAX_TEXT < text.len() {
-        return Answer::Refused(TOO_LONG);
+        return Err(Refusal::TooLong);
     }
     if !is_utf8(text) {
-        return Answer::Refused(NOT_UTF8);
+        return Err(Refusal::NotUtf8);
     }
     if !nesting_ok(text) {
-        return Answer::Refused(TOO_NESTED);
+        return Err(Refusal::TooNested);
     }
     let measured = node_list(text, 0, features, &mut tree[0..0], 0, 0);
     if measured.next < text.len() {
-        return Answer::Refused(NOT_NOTATION);
+        return Err(Refusal::NotNotation);
     }
     let size = RECORD * measured.slot;
     if tree.len() < size {
-        return Answer::Refused(NO_ROOM);
+        return Err(Refusal::NoRoom);
     }
     node_list(text, 0, features, &mut tree[0..size], 0, 0);
     fill_counts(&mut tree[0..size]);
-    Answer::Value(size as u64)
+    Ok(size as u64)
 }

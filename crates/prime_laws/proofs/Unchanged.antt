@@ -10,7 +10,7 @@ use Rattle.notation.specs.Grammar.{Reading, rejected, read, Reader, or_else, whe
 use Rattle.notation.specs.Primes.{Unchanged}
 use Rattle.notation.specs.declared.features.Features.{Features}
 use Rattle.notation.specs.declared.char_set.CharSet.TheVariants.{LowercaseLatin, UppercaseLatin, UppercaseGreek, TallLowercaseGreek, ShortLowercaseGreek, Underscore, Prime}
-use Rattle.notation.specs.declared.char_set.Class.TheVariants.{In, Outside}
+use Rattle.std.specs.Prelude.{Option, Some, None}
 use Rattle.laws.proofs.Bools.{false-true}
 
 -- families hold letters and the underscore, as before there was a class of primes
@@ -22,15 +22,15 @@ same-families c =
   where
     go : (l u x y z e p : Bool) →
         is_family_class
-        (pick l (In LowercaseLatin) (pick u (In UppercaseLatin) (pick x (In UppercaseGreek) (pick y (In TallLowercaseGreek)
-        (pick z (In ShortLowercaseGreek) (pick e (In Underscore) (pick p (In Prime) Outside)))))))
+        (pick l (Some LowercaseLatin) (pick u (Some UppercaseLatin) (pick x (Some UppercaseGreek) (pick y (Some TallLowercaseGreek)
+        (pick z (Some ShortLowercaseGreek) (pick e (Some Underscore) (pick p (Some Prime) None)))))))
         ≡ (l || u || e || (x || y || z))
     go true u x y z e p = refl
     go false true x y z e p = refl
     go false false x y z true p = of x y z
       where
         of : (x y z : Bool) →
-            is_family_class (pick x (In UppercaseGreek) (pick y (In TallLowercaseGreek) (pick z (In ShortLowercaseGreek) (In Underscore)))) ≡ true
+            is_family_class (pick x (Some UppercaseGreek) (pick y (Some TallLowercaseGreek) (pick z (Some ShortLowercaseGreek) (Some Underscore)))) ≡ true
         of true y z = refl
         of false true z = refl
         of false false true = refl

@@ -1,6 +1,6 @@
 -- `sint` meets its contract: by the byte that stands there, one of the two choices rejects. Assumes nothing.
 use Rattle.std.proofs.Common.{sym, ◌∙◌, ⊎_elim, rules}
-use Rattle.numbers.proofs.Bounds.{sint-hyphen, sint_plain, positive-read, just-other, just-end}
+use Rattle.numbers.proofs.Bounds.{sint-hyphen, sint_plain, positive-reading, just-other, just-end}
 use Rattle.numbers.proofs.decimal.sint.Goals as goal
 
 -- src/decimal.rt:99:13
@@ -9,16 +9,9 @@ returns-then-s-at-eq45 c =
     let a = c.args in
     c.negative.ensures ∙ sym (sint-hyphen a.low a.high a.high_negative a.s.now a.at (search rules) (search rules))
 
--- src/decimal.rt:103:9
-pub returns-in_default : goal.returns-in_default
-returns-in_default c =
-    let a = c.args in
-    rw (sint_plain a.low a.high a.high_negative a.s.now a.at (⊎_elim (λ w. just-other "-" a.s.now a.at (search rules) (search rules)) (λ w. just-end "-" a.s.now a.at (search rules)) c.if-at-s.branch-raw), ← (rw c.in_default.is at c.uint.ensures))
-
 -- src/decimal.rt:93:1
 pub returns : goal.returns
 returns c =
     let a = c.args in
-    rw
-    (sint_plain a.low a.high a.high_negative a.s.now a.at (⊎_elim (λ w. just-other "-" a.s.now a.at (search rules) (search rules)) (λ w. just-end "-" a.s.now a.at (search rules)) c.if-at-s.branch-raw))
-    (positive-read a.low a.high a.at _ _ _ _ (search rules) (rw c.in-Took.is at c.uint.ensures))
+    rw (sint_plain a.low a.high a.high_negative a.s.now a.at (⊎_elim (λ w. just-other "-" a.s.now a.at (search rules) (search rules)) (λ w. just-end "-" a.s.now a.at (search rules)) c.if-at-s.branch-raw))
+    (positive-reading a.low a.high a.at _ _ _ (search rules) c.uint.ensures)

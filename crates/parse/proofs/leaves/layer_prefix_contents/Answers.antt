@@ -19,17 +19,17 @@ returns-in_default c =
 
 pub span_between-part-requires : goal.span_between-part-requires
 span_between-part-requires c =
-    let ends = within c.args.text.now c.args.at (takes-forget (takes-layer_set c.args.features.layers.hsc1_layer_ranges)) c.requires.0 (rw c.in-To.is at c.layer_set.ensures) in
+    let ends = within c.args.text.now c.args.at (takes-forget (takes-layer_set c.args.features.layers.hsc1_layer_ranges)) c.requires.0 (rw c.in-Some.is at c.layer_set.ensures) in
     (omega (arith, ends.0), omega (arith, ends.1, c.requires.1))
 
 pub returns-then-has : goal.returns-then-has
 returns-then-has c =
     let a = c.args in
     let text = a.text.now in
-    let next = c.in-To.next in
+    let next = c.in-Some.next in
     ap (λ (p : Span). read (layer_set p) next (drop next text)) c.span_between-part.ensures.result_value
     ∙ a-set a.features a.at (drop a.at text) next (drop next text) c.if-features.true
-    (rw c.in-To.is at c.layer_set.ensures)
+    (rw c.in-Some.is at c.layer_set.ensures)
 
 pub returns : goal.returns
 returns c =

@@ -1,5 +1,5 @@
 -- `leaf` meets its contract: the rules that do not start with the first byte reject. Assumes nothing.
-use Rattle.parse.specs.declared.parts.LeafAnswer.TheVariants as answer
+use Rattle.std.specs.Prelude.{Some, None}
 use mathlib.Core.Path.{sym, ap, ◌∙◌}
 use mathlib.Core.List.{List}
 use mathlib.Core.Logic.{⊎_elim}
@@ -19,7 +19,7 @@ returns-then-byte-eq46 c =
     let e =
     ap (λ (l : List ℕ). read l last (drop last a.text.now)) c.pause_fields.ensures
     ∙ is-pause a.features a.text.now a.at c.if-at-text.true c.if-byte-eq46.true in
-    record { means = e; within = leaf-within a.features a.text.now a.at (answer.Took c.pause_fields.result last) c.requires.0 e }
+    record { means = e; within = leaf-within a.features a.text.now a.at (Some (record { value = c.pause_fields.result; next = last })) c.requires.0 e }
 
 pub rotation-requires : goal.rotation-requires
 rotation-requires c =
@@ -54,4 +54,4 @@ pub returns : goal.returns
 returns c =
     let a = c.args in
     let e = is-end a.features a.text.now a.at c.if-at-text.false in
-    record { means = e; within = leaf-within a.features a.text.now a.at answer.Nothing c.requires.0 e }
+    record { means = e; within = leaf-within a.features a.text.now a.at None c.requires.0 e }

@@ -8,12 +8,12 @@ pub returns-then-next-times : goal.returns-then-next-times
 returns-then-next-times c =
     let a = c.args in
     let n = c.number-times in
-    rw (not-negated n.result.bits (omega (arith, n.ensures.bits_bound)))
+    rw (not-negated n.result.value (omega (arith, n.ensures.bits_bound)))
     (positive a.features a.text.now a.at _ _ _ n.ensures.result_value c.prime_end-next.ensures c.if-next-times.true)
 
 pub returns : goal.returns
 returns c =
     let a = c.args in
     let n = c.number-times in
-    rw (negated n.result.bits c.negate.result (omega (arith, n.ensures.bits_bound)) c.negate.ensures)
+    rw (negated n.result.value c.negate.result (omega (arith, n.ensures.bits_bound)) c.negate.ensures)
     (negative a.features a.text.now a.at _ _ _ n.ensures.result_value c.prime_end-next.ensures c.if-next-times.false)

@@ -68,26 +68,13 @@ binary_group-node_list-a-requires t c =
       record { inside = omega (arith, pre.1); short = pre.0.short; slots = omega (arith, pre.0.slots); tallies = omega (arith, pre.0.tallies) },
     )
 
-pub binary_group-shape_of-tree-in_default : goal.binary_group-shape_of-tree-in_default
-binary_group-shape_of-tree-in_default t c =
-    c.node_list-a.ensures.wrote.kept.long
-
-pub binary_group-returns-in_default : goal.binary_group-returns-in_default
-binary_group-returns-in_default t c =
-    let a = c.args in
-    let pre = c.requires in
-    let one = c.node_list-a in
-    let opens = stands-first a.text.now a.at 91 pre.1 pre.2 in
-    unsigned-group a.features a.text.now a.at a.slot a.tally a.tree.now opens _ _ _ one.ensures
-    (rw c.in_default.is at c.binary_group_kind.ensures)
-
 pub binary_group-overflow_add-a : goal.binary_group-overflow_add-a
 binary_group-overflow_add-a t c =
     let a = c.args in
     let pre = c.requires in
     let one = c.node_list-a in
     let opens = stands-first a.text.now a.at 91 pre.1 pre.2 in
-    let signs = rw c.in-Is.is at c.binary_group_kind.ensures in
+    let signs = c.in_ok-kind.ensures in
     let sign = signed a.text.now one.result.next _ one.ensures.inside signs in
     omega (arith, sign, pre.0.short)
 
@@ -102,7 +89,7 @@ binary_group-node_list-b-requires t c =
     let pre = c.requires in
     let one = c.node_list-a in
     let opens = stands-first a.text.now a.at 91 pre.1 pre.2 in
-    let signs = rw c.in-Is.is at c.binary_group_kind.ensures in
+    let signs = c.in_ok-kind.ensures in
     let sign = signed a.text.now one.result.next _ one.ensures.inside signs in (
       omega (arith, c.decreases, sign, one.ensures.advances, pre.1),
       record {
@@ -115,21 +102,6 @@ binary_group-node_list-b-requires t c =
 
 pub binary_group-close-requires : goal.binary_group-close-requires
 binary_group-close-requires t c = c.node_list-b.ensures.inside
-
-pub binary_group-shape_of-tree-in_default-close : goal.binary_group-shape_of-tree-in_default-close
-binary_group-shape_of-tree-in_default-close t c =
-    c.node_list-b.ensures.wrote.kept.long ∙ c.node_list-a.ensures.wrote.kept.long
-
-pub binary_group-returns-in_default-close : goal.binary_group-returns-in_default-close
-binary_group-returns-in_default-close t c =
-    let a = c.args in
-    let pre = c.requires in
-    let one = c.node_list-a in
-    let opens = stands-first a.text.now a.at 91 pre.1 pre.2 in
-    let two = c.node_list-b in
-    let signs = rw c.in-Is.is at c.binary_group_kind.ensures in
-    open-binary a.features a.text.now a.at a.slot a.tally a.tree.now opens _ _ _ one.ensures c.in-Is.kind signs _ _ _ two.ensures
-    (rw c.in_default-close.is at c.close.ensures)
 
 pub binary_group-overflow_add-first : goal.binary_group-overflow_add-first
 binary_group-overflow_add-first t c =
@@ -174,11 +146,11 @@ binary_group-returns t c =
     let one = c.node_list-a in
     let opens = stands-first a.text.now a.at 91 pre.1 pre.2 in
     let two = c.node_list-b in
-    let signs = rw c.in-Is.is at c.binary_group_kind.ensures in
+    let signs = c.in_ok-kind.ensures in
     let fields = c.binary_group_fields in
     rw c.put_group.ensures
-    (closed-binary a.features a.text.now a.at a.slot a.tally a.tree.now opens _ _ _ one.ensures c.in-Is.kind signs _ _ _ two.ensures
-    c.in-Took.bits c.in-Took.next (listed fields.result) fields.ensures (rw c.in-Took.is at c.close.ensures))
+    (closed-binary a.features a.text.now a.at a.slot a.tally a.tree.now opens _ _ _ one.ensures c.in_ok-kind.kind signs _ _ _ two.ensures
+    c.in_ok-end.end.value c.in_ok-end.end.next (listed fields.result) fields.ensures c.in_ok-end.ensures)
 
 pub binary_group-shape_of-tree : goal.binary_group-shape_of-tree
 binary_group-shape_of-tree t c = (binary_group-returns t c).wrote.kept.long
@@ -191,7 +163,7 @@ group-overflow_add-open t c =
     let a = c.args in
     let pre = c.requires in
     let start = c.group_kind-start in
-    let opens = sym c.has.ensures ∙ c.if-has.true in
+    let opens = sym c.has.ensures ∙ c.if-not-has.false in
     let later = (within a.text.now a.at takes-kind pre.0.inside start.ensures).0 in
     let inside = seen a.text.now start.result.next 40 (omega arith) opens in
     omega (arith, inside, pre.0.short)
@@ -212,7 +184,7 @@ group-node_list-list-requires t c =
     let a = c.args in
     let pre = c.requires in
     let start = c.group_kind-start in
-    let opens = sym c.has.ensures ∙ c.if-has.true in
+    let opens = sym c.has.ensures ∙ c.if-not-has.false in
     let later = (within a.text.now a.at takes-kind pre.0.inside start.ensures).0 in
     let inside = seen a.text.now start.result.next 40 (omega arith) opens in (
       omega (arith, c.decreases, later, inside),
@@ -221,21 +193,6 @@ group-node_list-list-requires t c =
 
 pub group-close-requires : goal.group-close-requires
 group-close-requires t c = c.node_list-list.ensures.inside
-
-pub group-shape_of-tree-in_default : goal.group-shape_of-tree-in_default
-group-shape_of-tree-in_default t c =
-    c.node_list-list.ensures.wrote.kept.long
-
-pub group-returns-in_default : goal.group-returns-in_default
-group-returns-in_default t c =
-    let a = c.args in
-    let pre = c.requires in
-    let start = c.group_kind-start in
-    let opens = sym c.has.ensures ∙ c.if-has.true in
-    let later = (within a.text.now a.at takes-kind pre.0.inside start.ensures).0 in
-    let list = c.node_list-list in
-    open-group a.features a.text.now a.at a.slot a.tally a.tree.now start.result.kind start.result.next start.ensures opens (omega (arith, later)) _ _ _
-    (list.ensures) (rw c.in_default.is at c.close.ensures)
 
 pub group-overflow_add-first : goal.group-overflow_add-first
 group-overflow_add-first t c =
@@ -261,26 +218,26 @@ group-put_group-requires t c =
     let pre = c.requires in
     omega (arith, pre.0.slots, pre.0.inside, pre.0.short)
 
-pub group-returns-in-Took : goal.group-returns-in-Took
-group-returns-in-Took t c =
+pub group-returns : goal.group-returns
+group-returns t c =
     let a = c.args in
     let pre = c.requires in
     let start = c.group_kind-start in
-    let opens = sym c.has.ensures ∙ c.if-has.true in
+    let opens = sym c.has.ensures ∙ c.if-not-has.false in
     let later = (within a.text.now a.at takes-kind pre.0.inside start.ensures).0 in
     let list = c.node_list-list in
     let fields = c.group_fields in
     rw c.put_group.ensures
-    (closed-group a.features a.text.now a.at a.slot a.tally a.tree.now start.result.kind start.result.next start.ensures opens (omega (arith, later)) _ _ _
-    (list.ensures) c.in-Took.bits c.in-Took.next (listed fields.result) fields.ensures (rw c.in-Took.is at c.close.ensures))
+    (closed-group a.features a.text.now a.at a.slot a.tally a.tree.now start.result.value start.result.next start.ensures opens (omega (arith, later)) _ _ _
+    (list.ensures) c.in_ok-end.end.value c.in_ok-end.end.next (listed fields.result) fields.ensures c.in_ok-end.ensures)
 
-pub group-returns-else-has : goal.group-returns-else-has
-group-returns-else-has t c =
+pub group-returns-then-not-has : goal.group-returns-then-not-has
+group-returns-then-not-has t c =
     let a = c.args in
     let pre = c.requires in
     let start = c.group_kind-start in
-    no-group a.features a.text.now a.at a.slot a.tally a.tree.now start.result.kind start.result.next start.ensures
-    (sym c.has.ensures ∙ c.if-has.false)
+    no-group a.features a.text.now a.at a.slot a.tally a.tree.now start.result.value start.result.next start.ensures
+    (sym c.has.ensures ∙ c.if-not-has.true)
 
 pub node-leaf_node-requires : goal.node-leaf_node-requires
 node-leaf_node-requires t c = c.requires
@@ -289,22 +246,11 @@ pub node-any_group-requires : goal.node-any_group-requires
 node-any_group-requires t c =
     (omega (arith, c.decreases), c.requires)
 
-pub node-returns-in_default : goal.node-returns-in_default
-node-returns-in_default t c =
-    let a = c.args in
-    group-instead a.text.now a.at a.slot a.tally a.features a.tree.now _ _ c.any_group.result
-    (rw c.in_default.is at c.leaf_node.ensures) c.any_group.ensures
-
-pub node-returns : goal.node-returns
-node-returns t c =
-    let a = c.args in
-    leaf_first a.text.now a.at a.slot a.tally a.features a.tree.now _ _ _ (rw c.in-Took.is at c.leaf_node.ensures)
-
 pub node_list-whitespace_end-next-requires : goal.node_list-whitespace_end-next-requires
 node_list-whitespace_end-next-requires t c = c.requires.inside
 
-pub node_list-loop-after-init : goal.node_list-loop-after-init
-node_list-loop-after-init t c =
+pub node_list-loop-read-init : goal.node_list-loop-read-init
+node_list-loop-read-init t c =
     let a = c.args in
     let pre = c.requires in
     going_start a.features a.text.now a.at a.slot a.tally a.tree.now c.whitespace_end-next.result pre.inside c.whitespace_end-next.ensures
@@ -313,7 +259,7 @@ pub node_list-node-requires : goal.node_list-node-requires
 node_list-node-requires t c =
     let a = c.args in
     let pre = c.requires in
-    let loop = c.loop-after in (
+    let loop = c.loop-read in (
       omega (arith, c.decreases, loop.invariant.advances, loop.invariant.inside),
       record {
         inside = loop.invariant.inside;
@@ -327,40 +273,83 @@ pub node_list-returns-in_default : goal.node_list-returns-in_default
 node_list-returns-in_default t c =
     let a = c.args in
     let pre = c.requires in
-    let loop = c.loop-after in
+    let loop = c.loop-read in
     list-ends a.features a.text.now a.at a.slot a.tally a.tree.now loop.next loop.end loop.tree _ loop.invariant (rw c.in_default.is at c.node.ensures)
 
 pub node_list-shape_of-tree-in_default : goal.node_list-shape_of-tree-in_default
 node_list-shape_of-tree-in_default t c = (node_list-returns-in_default t c).wrote.kept.long
 
-pub node_list-whitespace_end-next-requires-in-loop-after : goal.node_list-whitespace_end-next-requires-in-loop-after
-node_list-whitespace_end-next-requires-in-loop-after t c =
-    let read = rw c.in-Took.is at c.node.ensures in
+pub node_list-whitespace_end-next-requires-in-loop-read : goal.node_list-whitespace_end-next-requires-in-loop-read
+node_list-whitespace_end-next-requires-in-loop-read t c =
+    let read = rw c.in-Some.is at c.node.ensures in
     read.inside
 
-pub node_list-returns-then-next-after : goal.node_list-returns-then-next-after
-node_list-returns-then-next-after t c =
+pub node_list-returns-then-next-read : goal.node_list-returns-then-next-read
+node_list-returns-then-next-read t c =
     let a = c.args in
     let pre = c.requires in
-    let loop = c.loop-after in
-    let read = rw c.in-Took.is at c.node.ensures in
-    rw c.if-next-after.true (list-stops a.features a.text.now a.at a.slot a.tally a.tree.now loop.next loop.end loop.tree _ loop.invariant c.in-Took.after c.in-Took.filled read (omega (arith, c.whitespace_end-next-in-loop-after.ensures, c.if-next-after.true)))
+    let loop = c.loop-read in
+    let read = rw c.in-Some.is at c.node.ensures in
+    (list-stops a.features a.text.now a.at a.slot a.tally a.tree.now loop.next loop.end loop.tree _ loop.invariant c.in-Some.read.next c.in-Some.read.slot read (omega (arith, c.whitespace_end-next-in-loop-read.ensures, c.if-next-read.true)))
 
-pub node_list-shape_of-tree-then-next-after : goal.node_list-shape_of-tree-then-next-after
-node_list-shape_of-tree-then-next-after t c = (node_list-returns-then-next-after t c).wrote.kept.long
+pub node_list-shape_of-tree-then-next-read : goal.node_list-shape_of-tree-then-next-read
+node_list-shape_of-tree-then-next-read t c = (node_list-returns-then-next-read t c).wrote.kept.long
 
-pub node_list-loop-after-smaller : goal.node_list-loop-after-smaller
-node_list-loop-after-smaller t c =
+pub node_list-loop-read-smaller : goal.node_list-loop-read-smaller
+node_list-loop-read-smaller t c =
     let a = c.args in
     let pre = c.requires in
-    let loop = c.loop-after in
-    let read = rw c.in-Took.is at c.node.ensures in
-    omega (arith, c.whitespace_end-next-in-loop-after.ensures, read.advances, read.inside, some-records read.node)
+    let loop = c.loop-read in
+    let read = rw c.in-Some.is at c.node.ensures in
+    omega (arith, c.whitespace_end-next-in-loop-read.ensures, read.advances, read.inside, some-records read.node)
 
-pub node_list-loop-after-preserved : goal.node_list-loop-after-preserved
-node_list-loop-after-preserved t c =
+pub node_list-loop-read-preserved : goal.node_list-loop-read-preserved
+node_list-loop-read-preserved t c =
     let a = c.args in
     let pre = c.requires in
-    let loop = c.loop-after in
-    let read = rw c.in-Took.is at c.node.ensures in
-    going_on a.features a.text.now a.at a.slot a.tally a.tree.now loop.next loop.end loop.tree _ loop.invariant c.in-Took.after c.in-Took.filled read c.whitespace_end-next-in-loop-after.result c.whitespace_end-next-in-loop-after.ensures c.if-next-after.false
+    let loop = c.loop-read in
+    let read = rw c.in-Some.is at c.node.ensures in
+    going_on a.features a.text.now a.at a.slot a.tally a.tree.now loop.next loop.end loop.tree _ loop.invariant c.in-Some.read.next c.in-Some.read.slot read c.whitespace_end-next-in-loop-read.result c.whitespace_end-next-in-loop-read.ensures c.if-next-read.false
+
+pub binary_group-returns-in_err-kind : goal.binary_group-returns-in_err-kind
+binary_group-returns-in_err-kind t c =
+    let a = c.args in
+    let pre = c.requires in
+    let one = c.node_list-a in
+    let opens = stands-first a.text.now a.at 91 pre.1 pre.2 in
+    rw c.from_residual.ensures
+    (unsigned-group a.features a.text.now a.at a.slot a.tally a.tree.now opens _ _ _ one.ensures c.in_err-kind.ensures)
+
+pub binary_group-returns-in_err-end : goal.binary_group-returns-in_err-end
+binary_group-returns-in_err-end t c =
+    let a = c.args in
+    let pre = c.requires in
+    let one = c.node_list-a in
+    let opens = stands-first a.text.now a.at 91 pre.1 pre.2 in
+    let two = c.node_list-b in
+    rw c.from_residual-in_err-end.ensures
+    (open-binary a.features a.text.now a.at a.slot a.tally a.tree.now opens _ _ _ one.ensures c.in_ok-kind.kind c.in_ok-kind.ensures _ _ _ two.ensures
+    c.in_err-end.ensures)
+
+pub group-returns-in_err-end : goal.group-returns-in_err-end
+group-returns-in_err-end t c =
+    let a = c.args in
+    let pre = c.requires in
+    let start = c.group_kind-start in
+    let opens = sym c.has.ensures ∙ c.if-not-has.false in
+    let later = (within a.text.now a.at takes-kind pre.0.inside start.ensures).0 in
+    let list = c.node_list-list in
+    rw c.from_residual.ensures
+    (open-group a.features a.text.now a.at a.slot a.tally a.tree.now start.result.value start.result.next start.ensures opens (omega (arith, later)) _ _ _
+    (list.ensures) c.in_err-end.ensures)
+
+pub node-returns : goal.node-returns
+node-returns t c =
+    let a = c.args in
+    group-instead a.text.now a.at a.slot a.tally a.features a.tree.now _ _ c.any_group.result
+    (rw c.in_default.is at c.leaf_node.ensures) c.any_group.ensures
+
+pub node-returns-in-Some : goal.node-returns-in-Some
+node-returns-in-Some t c =
+    let a = c.args in
+    leaf_first a.text.now a.at a.slot a.tally a.features a.tree.now _ _ _ (rw c.in-Some.is at c.leaf_node.ensures)

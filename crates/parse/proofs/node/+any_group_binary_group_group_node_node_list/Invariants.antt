@@ -22,8 +22,8 @@ decreases-node l = 5 * (length l.text.now - l.at) + 3
 abbrev pub decreases-node_list : goal.decreases-node_list
 decreases-node_list l = 5 * (length l.text.now - l.at) + 4
 
-abbrev pub invariant-node_list-loop-after : goal.invariant-node_list-loop-after
-invariant-node_list-loop-after l = Going l.features l.text l.at l.slot l.tally l.initial.tree l.next l.end l.tree
+abbrev pub invariant-node_list-loop-read : goal.invariant-node_list-loop-read
+invariant-node_list-loop-read l = Going l.features l.text l.at l.slot l.tally l.initial.tree l.next l.end l.tree
 
-abbrev pub decreases-node_list-loop-after : goal.decreases-node_list-loop-after
-decreases-node_list-loop-after l = length l.text - l.next
+abbrev pub decreases-node_list-loop-read : goal.decreases-node_list-loop-read
+decreases-node_list-loop-read l = length l.text - l.next

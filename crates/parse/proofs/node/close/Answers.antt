@@ -9,8 +9,8 @@ use Rattle.parse.proofs.Past.{within}
 use Rattle.parse.proofs.Rules.{takes-multiplier}
 use Rattle.parse.proofs.node.close.Goals as goal
 
-pub multiplier-m-requires : goal.multiplier-m-requires
-multiplier-m-requires c =
+pub multiplier-requires : goal.multiplier-requires
+multiplier-requires c =
     let a = c.args in
     let here : byte_at a.text.now a.at ≡ a.bracket = eqb-true _ _ (sym c.has.ensures ∙ c.if-has.true) in
     omega (arith, is_byte a.text.now a.at (omega (arith, here, c.ranges.bracket)))
@@ -20,10 +20,10 @@ returns-then-has c =
     let a = c.args in
     let here : byte_at a.text.now a.at ≡ a.bracket = eqb-true _ _ (sym c.has.ensures ∙ c.if-has.true) in
     let inside = is_byte a.text.now a.at (omega (arith, here, c.ranges.bracket)) in
-    let ends = within a.text.now (a.at + 1) (takes-multiplier a.features) (omega (arith, inside)) c.multiplier-m.ensures in
+    let ends = within a.text.now (a.at + 1) (takes-multiplier a.features) (omega (arith, inside)) c.multiplier.ensures in
     record {
       stands = sym c.has.ensures ∙ c.if-has.true;
-      reads = sym c.multiplier-m.ensures;
+      reads = sym c.multiplier.ensures;
       advances = omega (arith, ends.0);
       inside = ends.1;
     }

@@ -5,17 +5,14 @@ use Rattle.notation.specs.Chars.{white_space}
 use Rattle.charsets.proofs.Runs.{end-length}
 use Rattle.parse.proofs.Past.{within}
 use Rattle.parse.proofs.Rules.{takes-sint}
-use Rattle.parse.proofs.LeafReaders.{padded-none, padded-some}
+use Rattle.parse.proofs.LeafReaders.{padded-some}
 use Rattle.parse.proofs.puzzles.padded_number.Goals as goal
 
 pub sint-requires : goal.sint-requires
 sint-requires c = (omega (arith, c.whitespace_end-from.ensures, end-length white_space c.args.text.now c.args.at c.requires), omega arith, omega arith)
 
-pub returns-in_default : goal.returns-in_default
-returns-in_default c = padded-none i32 c.args.text.now c.args.at c.whitespace_end-from.result c.whitespace_end-from.ensures (rw c.in_default.is at c.sint.ensures)
-
 pub whitespace_end-requires : goal.whitespace_end-requires
-whitespace_end-requires c = (within c.args.text.now c.whitespace_end-from.result (takes-sint 0 2147483647 2147483648) (omega (arith, c.whitespace_end-from.ensures, end-length white_space c.args.text.now c.args.at c.requires)) (rw c.in-Took.is at c.sint.ensures)).1
+whitespace_end-requires c = (within c.args.text.now c.whitespace_end-from.result (takes-sint 0 2147483647 2147483648) (omega (arith, c.whitespace_end-from.ensures, end-length white_space c.args.text.now c.args.at c.requires)) c.in_ok-number.ensures).1
 
 pub returns : goal.returns
-returns c = padded-some i32 c.args.text.now c.args.at c.whitespace_end-from.result c.whitespace_end-from.ensures _ c.in-Took.end c.whitespace_end.result (rw c.in-Took.is at c.sint.ensures) c.whitespace_end.ensures
+returns c = padded-some i32 c.args.text.now c.args.at c.whitespace_end-from.result c.whitespace_end-from.ensures _ c.in_ok-number.number.next c.whitespace_end.result c.in_ok-number.ensures c.whitespace_end.ensures

@@ -31,16 +31,16 @@ pub returns-in_default : goal.returns-in_default
 returns-in_default c = c.loop-next.invariant.lacking c.if-mark-at.false c.whitespace_end-from.result c.whitespace_end-from.ensures (rw c.in_default.is at c.element_end.ensures)
 
 pub whitespace_end-comma-requires : goal.whitespace_end-comma-requires
-whitespace_end-comma-requires c = (c.loop-next.invariant.onward c.whitespace_end-from.result c.whitespace_end-from.ensures tt c.in-To.next (rw c.in-To.is at c.element_end.ensures)).inside
+whitespace_end-comma-requires c = (c.loop-next.invariant.onward c.whitespace_end-from.result c.whitespace_end-from.ensures tt c.in-Some.next (rw c.in-Some.is at c.element_end.ensures)).inside
 
 pub loop-next-smaller : goal.loop-next-smaller
-loop-next-smaller c = let w = (c.loop-next.invariant.onward c.whitespace_end-from.result c.whitespace_end-from.ensures tt c.in-To.next (rw c.in-To.is at c.element_end.ensures)) in omega (arith, w.past, w.inside, c.whitespace_end-comma.ensures, c.loop-next.invariant.inside)
+loop-next-smaller c = let w = (c.loop-next.invariant.onward c.whitespace_end-from.result c.whitespace_end-from.ensures tt c.in-Some.next (rw c.in-Some.is at c.element_end.ensures)) in omega (arith, w.past, w.inside, c.whitespace_end-comma.ensures, c.loop-next.invariant.inside)
 
 pub loop-next-preserved : goal.loop-next-preserved
-loop-next-preserved c = marks (element_of c.args.element) c.args.text.now c.loop-next.mark c.in-To.next c.whitespace_end-comma.result c.whitespace_end-comma.ensures (sym c.has.ensures ∙ c.if-has.true) (takes-element c.args.element) c.loop-next.invariant.later (c.loop-next.invariant.onward c.whitespace_end-from.result c.whitespace_end-from.ensures tt c.in-To.next (rw c.in-To.is at c.element_end.ensures))
+loop-next-preserved c = marks (element_of c.args.element) c.args.text.now c.loop-next.mark c.in-Some.next c.whitespace_end-comma.result c.whitespace_end-comma.ensures (sym c.has.ensures ∙ c.if-has.true) (takes-element c.args.element) c.loop-next.invariant.later (c.loop-next.invariant.onward c.whitespace_end-from.result c.whitespace_end-from.ensures tt c.in-Some.next (rw c.in-Some.is at c.element_end.ensures))
 
 pub closing-requires-else-has : goal.closing-requires-else-has
-closing-requires-else-has c = omega (arith, c.whitespace_end-comma.ensures, end-length white_space c.args.text.now c.in-To.next (c.loop-next.invariant.onward c.whitespace_end-from.result c.whitespace_end-from.ensures tt c.in-To.next (rw c.in-To.is at c.element_end.ensures)).inside)
+closing-requires-else-has c = omega (arith, c.whitespace_end-comma.ensures, end-length white_space c.args.text.now c.in-Some.next (c.loop-next.invariant.onward c.whitespace_end-from.result c.whitespace_end-from.ensures tt c.in-Some.next (rw c.in-Some.is at c.element_end.ensures)).inside)
 
 pub returns-else-has : goal.returns-else-has
-returns-else-has c = closes (element_of c.args.element) c.args.text.now c.loop-next.mark c.in-To.next c.whitespace_end-comma.result c.whitespace_end-comma.ensures (sym c.has.ensures ∙ c.if-has.false) c.closing-else-has.ensures (c.loop-next.invariant.onward c.whitespace_end-from.result c.whitespace_end-from.ensures tt c.in-To.next (rw c.in-To.is at c.element_end.ensures))
+returns-else-has c = closes (element_of c.args.element) c.args.text.now c.loop-next.mark c.in-Some.next c.whitespace_end-comma.result c.whitespace_end-comma.ensures (sym c.has.ensures ∙ c.if-has.false) c.closing-else-has.ensures (c.loop-next.invariant.onward c.whitespace_end-from.result c.whitespace_end-from.ensures tt c.in-Some.next (rw c.in-Some.is at c.element_end.ensures))
