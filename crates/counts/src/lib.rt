@@ -7,10 +7,11 @@
 ghost use Rattle.std.specs.Prelude.{◌≡◌, ◌+◌, ◌^◌, ◌≤◌, ◌<◌};
 ghost use Rattle.notation.specs.Numbers.{from_bits};
 ghost use Rattle.notation.specs.Counts as rule;
+ghost use Rattle.record.specs.Kinds.{kind_number};
 ghost use Rattle.counts.specs.Groups.{contents as contents_of, group_count};
 
 use numbers::signed::magnitude;
-use record::kinds;
+use record::Kind;
 
 // What a count above 4,294,967,295 is stored as.
 const CAP: u64 = 4294967296;
@@ -24,11 +25,11 @@ pub fn sum(a: u64, b: u64) -> u64
 }
 
 // The count of a group by those of its lists; a group that is not binary has one list. A NISS group counts 0.
-pub fn of_group(kind: u8, multiplier: u32, a: u64, b: u64) -> u64
+pub fn of_group(kind: Kind, multiplier: u32, a: u64, b: u64) -> u64
     requires { (a ≤ rule.CAP) × (b ≤ rule.CAP) }
-    ensures { result ≡ group_count kind (from_bits 32 multiplier) a b }
+    ensures { result ≡ group_count (kind_number kind) (from_bits 32 multiplier) a b }
 {
-    if kind == kinds::NISS {
+    if kind == Kind::Niss {
         return 0;
     }
     cap(magnitude(multiplier) as u64 * contents(kind, a, b))
@@ -36,31 +37,31 @@ pub fn of_group(kind: u8, multiplier: u32, a: u64, b: u64) -> u64
 
 // The count of a group's contents played once. Kinds follow each other in no order that the machine could guess, so they
 // choose numbers and not ways.
-fn contents(kind: u8, a: u64, b: u64) -> u64
+fn contents(kind: Kind, a: u64, b: u64) -> u64
     requires { (a ≤ rule.CAP) × (b ≤ rule.CAP) }
-    ensures { result ≡ rule.cap (contents_of kind a b) }
+    ensures { result ≡ rule.cap (contents_of (kind_number kind) a b) }
 {
     cap(times_first(kind) * a + times_second(kind) * b)
 }
 
 // How often the first list is played: twice in A B A' B' and in A B A'.
-fn times_first(kind: u8) -> u64
-    ensures { (result ≡ contents_of kind 1 0) × (result ≤ 2) }
+fn times_first(kind: Kind) -> u64
+    ensures { (result ≡ contents_of (kind_number kind) 1 0) × (result ≤ 2) }
 {
     match kind {
-        kinds::COMMUTATOR => 2,
-        kinds::CONJUGATE => 2,
+        Kind::Commutator => 2,
+        Kind::Conjugate => 2,
         _ => 1,
     }
 }
 
 // How often the second list is played: twice in a commutator, once in a conjugate.
-fn times_second(kind: u8) -> u64
-    ensures { (result ≡ contents_of kind 0 1) × (result ≤ 2) }
+fn times_second(kind: Kind) -> u64
+    ensures { (result ≡ contents_of (kind_number kind) 0 1) × (result ≤ 2) }
 {
     match kind {
-        kinds::COMMUTATOR => 2,
-        kinds::CONJUGATE => 1,
+        Kind::Commutator => 2,
+        Kind::Conjugate => 1,
         _ => 0,
     }
 }

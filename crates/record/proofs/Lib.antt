@@ -4,6 +4,7 @@ pub mod Packed
 pub mod RoundTrip
 pub mod Same
 pub mod Numbered
+pub mod SameKind
 pub mod KindTests
 pub mod Written
 pub mod Zeros

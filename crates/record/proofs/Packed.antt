@@ -1,6 +1,6 @@
 -- The packed record: where its fields stand, and that reading undoes writing.
 use Prim.Native.Nat.{ℕ, zero, suc, ◌+◌, ◌*◌, ◌/◌, ◌%◌, ◌^◌, ◌<◌, ◌≤◌, zero-le}
-use mathlib.Core.Path.{◌≡◌, refl, sym, ◌∙◌, ap, ap₂, subst}
+use mathlib.Core.Path.{◌≡◌, sym, ◌∙◌, ap, ap₂, subst}
 use mathlib.Core.Bool.{Bool, true, false}
 use mathlib.Core.Option.{Option, none, some}
 use mathlib.Core.List.{List, [], ◌∷◌, ◌++◌}
@@ -11,7 +11,6 @@ use lib.Arith.{lt_of_le-ne}
 use lib.Dec.{eqb, lit<}
 use lib.ListN.{length, get_or, take, drop, length-take}
 use lib.Seq.{sets-eq}
-use mir.Val.{bool_byte}
 use Rattle.notation.specs.Numbers.{from_bits, from_big_endian}
 use Rattle.notation.specs.Tree.{Span, Layers, no_layers, single_layer, layer_range, layer_set, pause, pair, slash, megaminx}
 use Rattle.notation.specs.Packed.{widths, RECORD, lay_out, cut, Head, leaf_head, head_of, head_at, bit, present, layer_form, group_number, binary_number, megaminx_number}
@@ -146,11 +145,6 @@ megaminx_number-lt Rpp = lit< tt
 megaminx_number-lt Rmm = lit< tt
 megaminx_number-lt Dpp = lit< tt
 megaminx_number-lt Dmm = lit< tt
-
--- a bool's byte is its bit
-pub byte-bit : (t : Bool) → bool_byte t ≡ bit t
-byte-bit true = refl
-byte-bit false = refl
 
 -- the fields stored one by one are the record in front of what stood after it
 pub stored : (old fs : List ℕ) → length fs ≡ length widths → RECORD ≤ length old → stores old 0 widths fs ≡ lay_out widths fs ++ drop RECORD old

@@ -1,12 +1,14 @@
 -- A record undone: which of its fields change, by its kind. Assumes nothing.
-use Prim.Native.Nat.{ℕ, ◌+◌, ◌*◌, ◌/◌, ◌<◌, ◌≤◌}
+use Prim.Native.Nat.{ℕ, ◌+◌, ◌*◌, ◌/◌, ◌<◌}
 use mathlib.Core.Path.{◌≡◌, refl, sym, ◌∙◌, ap, ap₂, subst}
+use mathlib.Core.Bool.{true, false}
 use mathlib.Core.List.{List, ◌++◌}
 use native.Mathlib.Omega.{arith}
 use lib.Dec.{lit<}
 use lib.IntN.{ℤ, neg_ℤ}
 use lib.ListN.{length, get_or, take, drop, set, length-set, length-append}
 use lib.Seq.{drop_at}
+use Rattle.notation.specs.Basics.{between}
 use Rattle.notation.specs.Numbers.{to_bits, from_bits}
 use Rattle.notation.specs.Tree.{rotation, move, pause, pair, slash, megaminx}
 use Rattle.notation.specs.Packed.{RECORD, widths, cut, lay_out, Head, leaf_head, group_head, binary_head, megaminx_number, head_fields, head_record, head_at}
@@ -15,6 +17,7 @@ use Rattle.notation.specs.declared.common.MegaminxScrambleMove.{MegaminxScramble
 use Rattle.notation.specs.declared.common.GroupKind.TheVariants.{Simple, Macro, Simultaneous, Niss}
 use Rattle.notation.specs.declared.common.BinaryGroupKind.TheVariants.{Commutator, Conjugate}
 use Rattle.notation.specs.declared.common.MegaminxScrambleMove.TheVariants.{Rpp, Rmm, Dpp, Dmm}
+use Rattle.notation.proofs.Bools.{false-true}
 use Rattle.numbers.proofs.TwosComplement.{from_bits-to_bits}
 use Rattle.record.specs.Meaning.{field, with_field, kind_at, SMALL, NUMBER, OTHER}
 use Rattle.record.specs.Range.{FitsNumber, FitsHead}
@@ -34,16 +37,16 @@ number-negated z h = ap (λ (y : ℤ). to_bits 32 (neg_ℤ y)) (from_bits-to_bit
 abbrev half_fields : Head → List ℕ
 half_fields h = set (head_fields h) NUMBER (negated (get_or (head_fields h) NUMBER 0))
 
-half-undone : (h : Head) → FitsHead h → (kind_of h ≡ 9 → ⊥) → kind_of h ≤ 10 → half_fields h ≡ head_fields (undone_head h)
+half-undone : (h : Head) → FitsHead h → (kind_of h ≡ 9 → ⊥) → between 11 14 (kind_of h) ≡ false → half_fields h ≡ head_fields (undone_head h)
 half-undone (leaf_head (rotation f c m)) h n l = rw (number-negated m h.2)
 half-undone (leaf_head (move t y f c m)) h n l = rw (number-negated m h.3)
 half-undone (leaf_head pause) h n l = refl
 half-undone (leaf_head (pair u d)) h n l = absurd (n refl)
 half-undone (leaf_head slash) h n l = refl
-half-undone (leaf_head (megaminx Rpp)) h n l = absurd (omega arith)
-half-undone (leaf_head (megaminx Rmm)) h n l = absurd (omega arith)
-half-undone (leaf_head (megaminx Dpp)) h n l = absurd (omega arith)
-half-undone (leaf_head (megaminx Dmm)) h n l = absurd (omega arith)
+half-undone (leaf_head (megaminx Rpp)) h n l = absurd (false-true (sym l))
+half-undone (leaf_head (megaminx Rmm)) h n l = absurd (false-true (sym l))
+half-undone (leaf_head (megaminx Dpp)) h n l = absurd (false-true (sym l))
+half-undone (leaf_head (megaminx Dmm)) h n l = absurd (false-true (sym l))
 half-undone (group_head g a m c) h n l = rw (number-negated m h.1)
 half-undone (binary_head g a b m c) h n l = rw (number-negated m h.2)
 
@@ -66,23 +69,23 @@ both-undone (binary_head Commutator n n' m c) h e = absurd (omega arith)
 both-undone (binary_head Conjugate n n' m c) h e = absurd (omega arith)
 
 -- of a Megaminx move the kind
-move-undone : (h : Head) → 10 < kind_of h → (r : ℕ) → ((k : MegaminxScrambleMove) → kind_of h ≡ megaminx_number k → r ≡ megaminx_number (exchanged k))
+move-undone : (h : Head) → between 11 14 (kind_of h) ≡ true → (r : ℕ) → ((k : MegaminxScrambleMove) → kind_of h ≡ megaminx_number k → r ≡ megaminx_number (exchanged k))
     → set (half_fields h) SMALL (r * 16) ≡ head_fields (undone_head h)
-move-undone (leaf_head (rotation f c m)) l r e = absurd (omega arith)
-move-undone (leaf_head (move t y f c m)) l r e = absurd (omega arith)
-move-undone (leaf_head pause) l r e = absurd (omega arith)
-move-undone (leaf_head (pair u d)) l r e = absurd (omega arith)
-move-undone (leaf_head slash) l r e = absurd (omega arith)
+move-undone (leaf_head (rotation f c m)) l r e = absurd (false-true l)
+move-undone (leaf_head (move t y f c m)) l r e = absurd (false-true l)
+move-undone (leaf_head pause) l r e = absurd (false-true l)
+move-undone (leaf_head (pair u d)) l r e = absurd (false-true l)
+move-undone (leaf_head slash) l r e = absurd (false-true l)
 move-undone (leaf_head (megaminx Rpp)) l r e = rw (e Rpp refl)
 move-undone (leaf_head (megaminx Rmm)) l r e = rw (e Rmm refl)
 move-undone (leaf_head (megaminx Dpp)) l r e = rw (e Dpp refl)
 move-undone (leaf_head (megaminx Dmm)) l r e = rw (e Dmm refl)
-move-undone (group_head Simple n m c) l r e = absurd (omega arith)
-move-undone (group_head Macro n m c) l r e = absurd (omega arith)
-move-undone (group_head Simultaneous n m c) l r e = absurd (omega arith)
-move-undone (group_head Niss n m c) l r e = absurd (omega arith)
-move-undone (binary_head Commutator n n' m c) l r e = absurd (omega arith)
-move-undone (binary_head Conjugate n n' m c) l r e = absurd (omega arith)
+move-undone (group_head Simple n m c) l r e = absurd (false-true l)
+move-undone (group_head Macro n m c) l r e = absurd (false-true l)
+move-undone (group_head Simultaneous n m c) l r e = absurd (false-true l)
+move-undone (group_head Niss n m c) l r e = absurd (false-true l)
+move-undone (binary_head Commutator n n' m c) l r e = absurd (false-true l)
+move-undone (binary_head Conjugate n n' m c) l r e = absurd (false-true l)
 
 -- what undoing the first record of bs is to leave
 abbrev pub Undone : List ℕ → List ℕ → Type 0
@@ -126,7 +129,7 @@ module _ (bs : List ℕ) (s : StartsRecord bs) where
     kind-of : kind_of (head_at bs) ≡ k
     kind-of = sym (ek ∙ kind-is)
 
-    pub number-undone : (k ≡ 9 → ⊥) → k ≤ 10 → Undone bs r
+    pub number-undone : (k ≡ 9 → ⊥) → between 11 14 k ≡ false → Undone bs r
     number-undone h l = undone-of _ half_is (half-undone (head_at bs) s.fits (λ z. h (sym kind-of ∙ z)) (rw kind-of l))
 
     pub pair-undone : k ≡ 9 → {o o' : ℕ} {r' : List ℕ} → o ≡ field OTHER r → o' ≡ negated o → r' ≡ with_field OTHER o' r → Undone bs r'
@@ -136,7 +139,7 @@ module _ (bs : List ℕ) (s : StartsRecord bs) where
         (e' ∙ ap₂ (λ (l : List ℕ) (m : ℕ). with_field OTHER m l) half_is (eo' ∙ ap negated other) ∙ stored (half_fields (head_at bs)) 4 _ half-long (lit< tt))
         (both-undone (head_at bs) s.fits (kind-of ∙ h))
 
-    pub kind-undone : 10 < k → {x : ℕ} {r' : List ℕ} → ((j : MegaminxScrambleMove) → k ≡ megaminx_number j → x ≡ megaminx_number (exchanged j))
+    pub kind-undone : between 11 14 k ≡ true → {x : ℕ} {r' : List ℕ} → ((j : MegaminxScrambleMove) → k ≡ megaminx_number j → x ≡ megaminx_number (exchanged j))
         → r' ≡ with_field SMALL (x * 16) r → Undone bs r'
     kind-undone h {x} ex e' =
         undone-of _

@@ -1,4 +1,5 @@
 -- What the crate's types mean in the rules, and a field of a record: one of `cut widths`.
+use Rattle.std.specs.Prelude as core
 use Rattle.std.specs.Prelude.{ℕ, ◌+◌, ◌/◌, ◌%◌, Bool, ◌&&◌, eqb, get_or, take}
 use mathlib.Core.List.{List, [], ◌∷◌, ◌++◌, foldr}
 use Rattle.std.proofs.Math.Option.{Option, none, some}
@@ -18,8 +19,6 @@ use Rattle.notation.specs.Tree.{
 }
 use Rattle.notation.specs.Packed.{widths, cut, RECORD, family_at, Head, leaf_head, group_head, binary_head}
 use Rattle.record.specs.declared.spanned.Span.{Span}
-use Rattle.record.specs.declared.spanned.SpanOption.{SpanOption}
-use Rattle.record.specs.declared.spanned.SpanOption.TheVariants as part
 use Rattle.record.specs.declared.spanned.LayerPrefixContents.{LayerPrefixContents}
 use Rattle.record.specs.declared.spanned.LayerPrefixContents.TheVariants as prefix
 use Rattle.record.specs.declared.spanned.Rotation.{Rotation}
@@ -31,9 +30,9 @@ use Rattle.record.specs.declared.encode.Fields.{Fields}
 abbrev pub span : Span → tree.Span
 span p = tree.span p.offset p.size
 
-abbrev pub span_option : SpanOption → Option tree.Span
-span_option (part.Some p) = some (span p)
-span_option part.None = none
+abbrev pub span_option : core.Option Span → Option tree.Span
+span_option (core.Some p) = some (span p)
+span_option core.None = none
 
 abbrev pub layers : LayerPrefixContents → Layers tree.Span
 layers prefix.None = no_layers

@@ -5,7 +5,8 @@ ghost use Rattle.record.specs.Meaning as meaning;
 ghost use Rattle.record.specs.Range.{FitsSpan};
 
 use crate::fields;
-use crate::spanned::{LayerPrefixContents, Move, Rotation, Span, SpanOption};
+use crate::kinds::LayerForm;
+use crate::spanned::{LayerPrefixContents, Move, Rotation, Span};
 
 // What a record of a rotation says.
 pub fn rotation(t: &[u8]) -> Rotation
@@ -57,14 +58,14 @@ pub fn family_of(t: &[u8]) -> Span
 }
 
 // The constraints of a move or a rotation, if it has any.
-fn constraints_of(t: &[u8]) -> SpanOption
+fn constraints_of(t: &[u8]) -> Option<Span>
     requires { RECORD ≤ length t.now }
     ensures { meaning.span_option result ≡ meaning.constraints_at t.now }
 {
     if fields::constraints_present(t) {
-        SpanOption::Some(fields::constraints(t))
+        Some(fields::constraints(t))
     } else {
-        SpanOption::None
+        None
     }
 }
 
@@ -77,9 +78,9 @@ pub fn layers(t: &[u8]) -> LayerPrefixContents
     let low = (other / 65536) as u16;
     let high = (other % 65536) as u16;
     match fields::layer_form(t) {
-        0 => LayerPrefixContents::None,
-        1 => LayerPrefixContents::Single(low),
-        2 => LayerPrefixContents::Range(low, high),
-        _ => LayerPrefixContents::Set(fields::layer_set(t)),
+        LayerForm::None => LayerPrefixContents::None,
+        LayerForm::Single => LayerPrefixContents::Single(low),
+        LayerForm::Range => LayerPrefixContents::Range(low, high),
+        LayerForm::Set => LayerPrefixContents::Set(fields::layer_set(t)),
     }
 }

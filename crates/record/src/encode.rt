@@ -4,10 +4,12 @@ ghost use Rattle.notation.specs.Basics.{same_list};
 ghost use Rattle.notation.specs.Numbers.{from_bits};
 ghost use Rattle.notation.specs.Tree as tree;
 ghost use Rattle.notation.specs.Packed as packed;
+ghost use Rattle.record.specs.Kinds.{kind_number, form_number};
 ghost use Rattle.record.specs.Meaning as meaning;
 
-use crate::spanned::{LayerPrefixContents, Move, Rotation, Span, SpanOption};
-use crate::{fields, kinds};
+use crate::fields;
+use crate::kinds::{Kind, LayerForm};
+use crate::spanned::{LayerPrefixContents, Move, Rotation, Span};
 use notation::common::{BinaryGroupKind, GroupKind, MegaminxScrambleMove};
 
 const NOWHERE: Span = Span { offset: 0, size: 0 };
@@ -97,7 +99,7 @@ fn same_parts(a: Fields, b: Fields) -> bool
 pub fn group_fields(kind: GroupKind, first: u32, multiplier: u32, count: u64) -> Fields
     ensures { meaning.listed result ≡ packed.head_fields (packed.group_head kind first (from_bits 32 multiplier) count) }
 {
-    without_parts(group_number(kind), first, 0, multiplier, 0, count)
+    without_parts(Kind::from(kind), first, 0, multiplier, 0, count)
 }
 
 // The fields of a binary group.
@@ -110,52 +112,51 @@ pub fn binary_group_fields(
 ) -> Fields
     ensures { meaning.listed result ≡ packed.head_fields (packed.binary_head kind first second (from_bits 32 multiplier) count) }
 {
-    without_parts(binary_number(kind), first, second, multiplier, 0, count)
+    without_parts(Kind::from(kind), first, second, multiplier, 0, count)
 }
 
 // The fields of a pause.
 pub fn pause_fields() -> Fields
     ensures { meaning.listed result ≡ packed.head_fields (packed.leaf_head tree.pause) }
 {
-    without_parts(kinds::PAUSE, 0, 0, 0, 0, LEAF)
+    without_parts(Kind::Pause, 0, 0, 0, 0, LEAF)
 }
 
 // The fields of a pair.
 pub fn pair_fields(u: u32, d: u32) -> Fields
     ensures { meaning.listed result ≡ packed.head_fields (packed.leaf_head (tree.pair (from_bits 32 u) (from_bits 32 d))) }
 {
-    without_parts(kinds::PAIR, 0, 0, u, d, LEAF)
+    without_parts(Kind::Pair, 0, 0, u, d, LEAF)
 }
 
 // The fields of a slash.
 pub fn slash_fields() -> Fields
     ensures { meaning.listed result ≡ packed.head_fields (packed.leaf_head tree.slash) }
 {
-    without_parts(kinds::SLASH, 0, 0, 0, 0, LEAF)
+    without_parts(Kind::Slash, 0, 0, 0, 0, LEAF)
 }
 
 // The fields of a Megaminx move.
 pub fn megaminx_fields(k: MegaminxScrambleMove) -> Fields
     ensures { meaning.listed result ≡ packed.head_fields (packed.leaf_head (tree.megaminx k)) }
 {
-    without_parts(megaminx_number(k), 0, 0, 0, 0, LEAF)
+    without_parts(Kind::from(k), 0, 0, 0, 0, LEAF)
 }
 
 // The fields of a node that names no part of the text.
 pub fn without_parts(
-    kind: u8,
+    kind: Kind,
     first: u32,
     second: u32,
     number: u32,
     other: u32,
     count: u64,
 ) -> Fields
-    requires { kind < 16 }
     ensures { meaning.listed result
-        ≡ packed.in_order kind 0 0 0 first second number other packed.nowhere packed.nowhere packed.nowhere count }
+        ≡ packed.in_order (kind_number kind) 0 0 0 first second number other packed.nowhere packed.nowhere packed.nowhere count }
 {
     Fields {
-        small: kind * 16,
+        small: kind.number() * 16,
         first,
         second,
         number,
@@ -174,13 +175,13 @@ pub fn rotation_fields(x: Rotation) -> Fields
     let c = x.constraints;
     let family = x.family;
     Fields {
-        small: kinds::ROTATION * 16 + present(c),
+        small: Kind::Rotation.number() * 16 + c.is_some() as u8,
         first: 0,
         second: 0,
         number: x.multiplier,
         other: 0,
         family,
-        constraints: or_nowhere(c),
+        constraints: c.unwrap_or(NOWHERE),
         layer_set: NOWHERE,
         count: LEAF,
     }
@@ -194,81 +195,30 @@ pub fn move_fields(x: Move) -> Fields
     let c = x.constraints;
     let family = x.family;
     Fields {
-        small: kinds::MOVE * 16 + x.inverted as u8 * 8 + layer_form(l) * 2 + present(c),
+        small: Kind::Move.number() * 16
+            + x.inverted as u8 * 8
+            + layer_form(l).number() * 2
+            + c.is_some() as u8,
         first: 0,
         second: 0,
         number: x.multiplier,
         other: low_and_high(l),
         family,
-        constraints: or_nowhere(c),
+        constraints: c.unwrap_or(NOWHERE),
         layer_set: set_part(l),
         count: LEAF,
     }
 }
 
-// The kind of a group by number.
-fn group_number(k: GroupKind) -> u8
-    ensures { result ≡ packed.group_number k }
-{
-    match k {
-        GroupKind::Simple => kinds::SIMPLE,
-        GroupKind::Macro => kinds::MACRO,
-        GroupKind::Simultaneous => kinds::SIMULTANEOUS,
-        GroupKind::Niss => kinds::NISS,
-    }
-}
-
-// The kind of a binary group by number.
-fn binary_number(k: BinaryGroupKind) -> u8
-    ensures { result ≡ packed.binary_number k }
-{
-    match k {
-        BinaryGroupKind::Commutator => kinds::COMMUTATOR,
-        BinaryGroupKind::Conjugate => kinds::CONJUGATE,
-    }
-}
-
-// The kind of a Megaminx move by number.
-fn megaminx_number(k: MegaminxScrambleMove) -> u8
-    ensures { result ≡ packed.megaminx_number k }
-{
-    match k {
-        MegaminxScrambleMove::Rpp => kinds::R_PLUS,
-        MegaminxScrambleMove::Rmm => kinds::R_MINUS,
-        MegaminxScrambleMove::Dpp => kinds::D_PLUS,
-        MegaminxScrambleMove::Dmm => kinds::D_MINUS,
-    }
-}
-
-// 1 where there are constraints, else 0.
-fn present(c: SpanOption) -> u8
-    ensures { result ≡ packed.present (meaning.span_option c) }
-{
-    match c {
-        SpanOption::None => 0,
-        SpanOption::Some(_) => 1,
-    }
-}
-
-// The part that constraints have, or none.
-fn or_nowhere(c: SpanOption) -> Span
-    ensures { meaning.span result ≡ packed.or_nowhere (meaning.span_option c) }
-{
-    match c {
-        SpanOption::None => NOWHERE,
-        SpanOption::Some(p) => p,
-    }
-}
-
-// The form of the layers: 0 none, 1 single, 2 range, 3 set.
-fn layer_form(l: LayerPrefixContents) -> u8
-    ensures { result ≡ packed.layer_form (meaning.layers l) }
+// The form of the layers.
+fn layer_form(l: LayerPrefixContents) -> LayerForm
+    ensures { form_number result ≡ packed.layer_form (meaning.layers l) }
 {
     match l {
-        LayerPrefixContents::None => 0,
-        LayerPrefixContents::Single(_) => 1,
-        LayerPrefixContents::Range(_, _) => 2,
-        LayerPrefixContents::Set(_) => 3,
+        LayerPrefixContents::None => LayerForm::None,
+        LayerPrefixContents::Single(_) => LayerForm::Single,
+        LayerPrefixContents::Range(_, _) => LayerForm::Range,
+        LayerPrefixContents::Set(_) => LayerForm::Set,
     }
 }
 

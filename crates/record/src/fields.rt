@@ -4,13 +4,15 @@ ghost use Rattle.std.proofs.lemmas.List.Edits.{sets};
 ghost use Rattle.notation.specs.Numbers.{big_endian, from_big_endian};
 ghost use Rattle.notation.specs.Tree as tree;
 ghost use Rattle.notation.specs.Packed.{RECORD};
+ghost use Rattle.record.specs.Kinds.{kind_number, form_number};
 ghost use Rattle.record.specs.Range.{FitsSpan};
 ghost use Rattle.record.specs.Meaning.{field, both_zero, place_width, span_at, span, with_field, with_lists, with_span};
 ghost use Rattle.record.specs.Meaning.{kind_at, tilde_at, form_at, present_at};
 ghost use Rattle.record.specs.Meaning.{SMALL, FIRST, SECOND, NUMBER, OTHER, FAMILY, CONSTRAINTS, LAYER-SET, COUNT};
 
+use crate::kinds::{Kind, LayerForm};
+use crate::layout;
 use crate::spanned::Span;
-use crate::{kinds, layout};
 use numbers::big_endian::{
     read_u8, read_u16, read_u24, read_u32, read_u40, write_u8, write_u24, write_u32, write_u40,
 };
@@ -24,19 +26,19 @@ pub fn small(t: &[u8]) -> u8
 }
 
 // Which node it is: the first four bits.
-pub fn kind(t: &[u8]) -> u8
+pub fn kind(t: &[u8]) -> Kind
     requires { RECORD ≤ length t.now }
-    ensures { result ≡ kind_at t.now }
+    ensures { kind_number result ≡ kind_at t.now }
 {
-    small(t) / 16
+    Kind::of_number(small(t) / 16)
 }
 
-// Whether it is a leaf, which is no group: kinds above those of groups.
+// Whether it is a leaf, which is no group.
 pub fn is_leaf(t: &[u8]) -> bool
     requires { RECORD ≤ length t.now }
     ensures { result ≡ ltb 5 (kind_at t.now) }
 {
-    kinds::CONJUGATE < kind(t)
+    kind(t).is_leaf()
 }
 
 // Whether it is a group, plain or binary.
@@ -44,7 +46,7 @@ pub fn is_group(t: &[u8]) -> bool
     requires { RECORD ≤ length t.now }
     ensures { result ≡ ltb (kind_at t.now) 6 }
 {
-    kind(t) < kinds::ROTATION
+    kind(t).is_group()
 }
 
 // Whether a move has a tilde.
@@ -55,12 +57,12 @@ pub fn tilde(t: &[u8]) -> bool
     small(t) / 8 % 2 == 1
 }
 
-// The form of its layers: 0 none, 1 single, 2 range, 3 set.
-pub fn layer_form(t: &[u8]) -> u8
+// The form of its layers.
+pub fn layer_form(t: &[u8]) -> LayerForm
     requires { RECORD ≤ length t.now }
-    ensures { result ≡ form_at t.now }
+    ensures { form_number result ≡ form_at t.now }
 {
-    small(t) / 2 % 4
+    LayerForm::of_number(small(t) / 2 % 4)
 }
 
 // Whether it has constraints.

@@ -13,4 +13,5 @@ pub mod spanned;
 pub mod undo;
 pub mod unused;
 
+pub use kinds::Kind;
 pub use layout::RECORD;

@@ -8,12 +8,6 @@ pub struct Span {
     pub size: u32,
 }
 
-#[derive(Clone, Copy)]
-pub enum SpanOption {
-    Some(Span),
-    None,
-}
-
 // The layers before a move's family.
 #[derive(Clone, Copy)]
 pub enum LayerPrefixContents {
@@ -29,7 +23,7 @@ pub enum LayerPrefixContents {
 pub struct Rotation {
     pub family: Span,
     // With their braces.
-    pub constraints: SpanOption,
+    pub constraints: Option<Span>,
     pub multiplier: u32,
 }
 
@@ -39,6 +33,6 @@ pub struct Move {
     pub inverted: bool,
     pub layers: LayerPrefixContents,
     pub family: Span,
-    pub constraints: SpanOption,
+    pub constraints: Option<Span>,
     pub multiplier: u32,
 }

@@ -4,9 +4,11 @@ ghost use Rattle.notation.specs.Numbers.{from_big_endian, MIN-BITS};
 ghost use Rattle.notation.specs.Invert.{exchanged as opposite};
 ghost use Rattle.notation.specs.Packed.{RECORD, head_record, head_at, megaminx_number};
 ghost use Rattle.notation.specs.declared.common.MegaminxScrambleMove.{MegaminxScrambleMove};
+ghost use Rattle.record.specs.Kinds.{kind_number};
 ghost use Rattle.record.specs.Undone.{StartsRecord, undone_head, overflows_at};
 
-use crate::{fields, kinds, layout};
+use crate::kinds::Kind;
+use crate::{fields, layout};
 use numbers::big_endian::{read_u8, read_u32};
 use numbers::signed::{MIN, negate};
 
@@ -20,27 +22,27 @@ pub fn undo_record(r: &mut [u8])
     let number = fields::number(r);
     let opposite = negate(number);
     fields::set_number(r, opposite);
-    if kind == kinds::PAIR {
+    if kind == Kind::Pair {
         let other = fields::other(r);
         let opposite = negate(other);
         fields::set_other(r, opposite);
         return;
     }
-    if kinds::SLASH < kind {
-        fields::set_small(r, exchanged(kind) * 16);
+    if kind.is_megaminx() {
+        fields::set_small(r, exchanged(kind).number() * 16);
     }
 }
 
 // The kind of the opposite Megaminx move.
-fn exchanged(kind: u8) -> u8
-    ensures upper_bound { result ≤ 14 }
-    ensures value { (k : MegaminxScrambleMove) → kind ≡ megaminx_number k → result ≡ megaminx_number (opposite k) }
+fn exchanged(kind: Kind) -> Kind
+    ensures { (k : MegaminxScrambleMove) → kind_number kind ≡ megaminx_number k →
+        kind_number result ≡ megaminx_number (opposite k) }
 {
     match kind {
-        kinds::R_PLUS => kinds::R_MINUS,
-        kinds::R_MINUS => kinds::R_PLUS,
-        kinds::D_PLUS => kinds::D_MINUS,
-        _ => kinds::D_PLUS,
+        Kind::RPlus => Kind::RMinus,
+        Kind::RMinus => Kind::RPlus,
+        Kind::DPlus => Kind::DMinus,
+        _ => Kind::DPlus,
     }
 }
 
@@ -49,7 +51,7 @@ pub fn overflows(r: &[u8]) -> bool
     requires { RECORD ≤ length r.now }
     ensures { result ≡ overflows_at r.now }
 {
-    fields::kind(r) == kinds::PAIR && (is_min(r, layout::NUMBER) || is_min(r, layout::OTHER))
+    fields::kind(r) == Kind::Pair && (is_min(r, layout::NUMBER) || is_min(r, layout::OTHER))
 }
 
 // Whether the number in the four bytes from `at` on is −2147483648. Nearly always the first of them tells.

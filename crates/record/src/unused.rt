@@ -9,9 +9,10 @@ ghost use Rattle.record.specs.Unused.{family_written, constraints_written, parts
 
 use crate::decode::layers;
 use crate::encode::low_and_high;
-use crate::{fields, kinds};
+use crate::fields;
+use crate::kinds::{Kind, LayerForm};
 
-// Whether a leaf's record, which counts 1, is what packing writes of what it says. No record has kind 15.
+// Whether a leaf's record, which counts 1, is what packing writes of what it says.
 pub fn leaf_written(t: &[u8]) -> bool
     requires in_bounds { RECORD ≤ length t.now }
     requires bound { 6 ≤ kind_at t.now }
@@ -22,10 +23,10 @@ pub fn leaf_written(t: &[u8]) -> bool
         return false;
     }
     match fields::kind(t) {
-        kinds::MOVE => move_written(t),
-        kinds::ROTATION => rotation_written(t),
-        kinds::PAIR => kind_alone(t),
-        15 => false,
+        Kind::Move => move_written(t),
+        Kind::Rotation => rotation_written(t),
+        Kind::Pair => kind_alone(t),
+        Kind::Unused => false,
         _ => kind_alone(t) && no_numbers(t),
     }
 }
@@ -75,7 +76,7 @@ fn set_written(t: &[u8]) -> bool
     requires { RECORD ≤ length t.now }
     ensures { result ≡ set_written t.now }
 {
-    fields::layer_form(t) == 3 || fields::no_layer_set(t)
+    fields::layer_form(t) == LayerForm::Set || fields::no_layer_set(t)
 }
 
 // Whether an empty family stands at 0, and constraints that are not present are nowhere.

@@ -1,18 +1,23 @@
 -- `record::undo::undo_record` meets its contract: each way through it by its law. Assumes nothing.
+use mathlib.Core.Path.{◌∙◌, sym, ap}
+use Prim.Native.Nat.{ℕ, ◌*◌}
+use Rattle.record.specs.declared.kinds.Kind.TheVariants.{Pair}
+use Rattle.record.specs.Meaning.{with_field, SMALL}
 use Rattle.record.proofs.Undoing.{number-undone, pair-undone, kind-undone}
+use Rattle.record.proofs.SameKind.{is-kind, not-kind}
 use Rattle.record.proofs.undo.undo_record.Goals as goal
 
-pub returns-then-kind-eq-PAIR : goal.returns-then-kind-eq-PAIR
-returns-then-kind-eq-PAIR c =
+pub returns-then-eq : goal.returns-then-eq
+returns-then-eq c =
     pair-undone c.args.r.now c.requires c.kind-kind.ensures c.number-number.ensures c.negate-opposite.ensures c.set_number.ensures
-    c.if-kind-eq-PAIR.true c.other-other.ensures c.negate-opposite-then-kind-eq-PAIR.ensures c.set_other.ensures
+    (is-kind _ Pair c.eq.ensures c.if-eq.true) c.other-other.ensures c.negate-opposite-then-eq.ensures c.set_other.ensures
 
-pub returns-then-kind-gt-SLASH : goal.returns-then-kind-gt-SLASH
-returns-then-kind-gt-SLASH c =
+pub returns-then-is_megaminx : goal.returns-then-is_megaminx
+returns-then-is_megaminx c =
     kind-undone c.args.r.now c.requires c.kind-kind.ensures c.number-number.ensures c.negate-opposite.ensures c.set_number.ensures
-    c.if-kind-gt-SLASH.true c.exchanged.ensures.value c.set_small.ensures
+    (sym c.is_megaminx.ensures ∙ c.if-is_megaminx.true) c.exchanged.ensures (c.set_small.ensures ∙ ap (λ (x : ℕ). with_field SMALL (x * 16) c.set_number.new.out) c.number.ensures.value)
 
-pub returns-else-kind-gt-SLASH : goal.returns-else-kind-gt-SLASH
-returns-else-kind-gt-SLASH c =
+pub returns-else-is_megaminx : goal.returns-else-is_megaminx
+returns-else-is_megaminx c =
     number-undone c.args.r.now c.requires c.kind-kind.ensures c.number-number.ensures c.negate-opposite.ensures c.set_number.ensures
-    c.if-kind-eq-PAIR.false c.if-kind-gt-SLASH.false
+    (not-kind _ Pair c.eq.ensures c.if-eq.false) (sym c.is_megaminx.ensures ∙ c.if-is_megaminx.false)
