@@ -25,6 +25,11 @@ use Rattle.record.proofs.Overflows.{over_none, head_overflows, overflow-test}
 use Rattle.laws.specs.Unrolled.{first, if_reached, first_in_order, refusal_binary, refusal_node, refusal_body, first_refusal}
 use Rattle.well_formed.specs.Refusing.{refusal_of, refuses, leaf_refuses, contents_refuse, group_refuses}
 use Rattle.well_formed.specs.declared.refusals.Refusals.{Refusals}
+use Rattle.notation.specs.declared.refusals.Refusal.{Refusal}
+use Rattle.notation.specs.declared.refusals.Refusal.TheVariants.{Niss}
+use Rattle.std.specs.Prelude as code
+use Rattle.std.specs.Option.{option_or}
+use Rattle.std.specs.Bool.{then_some}
 
 -- the first refusals, by direction
 abbrev pub of_node : Node Leaf → Bool → Option ℕ
@@ -40,7 +45,7 @@ abbrev turned_by : ℤ → (Bool → Option ℕ) → Bool → Option ℕ
 turned_by m r d = r (turned m d)
 
 abbrev pub none-met : Refusals
-none-met = record { forward = 0; backward = 0 }
+none-met = record { forward = code.None; backward = code.None }
 
 -- what is the same in both directions
 pub either_way : {f g : Bool → Option ℕ} → f false ≡ g false → f true ≡ g true → f ≡ g
@@ -50,9 +55,22 @@ either_way {f} {g} p q = fun_ext at
     at false = p
     at true = q
 
-pub first_taken : (a : ℕ) (q : Option ℕ) → ((a ≡ 0) → ⊥) → refusal_of a ≡ first (refusal_of a) q
-first_taken zero q h = absurd (h refl)
-first_taken (suc a) q h = refl
+-- the first of two refusals of the code
+pub or-first : (a b : code.Option Refusal) → refusal_of (option_or a b) ≡ first (refusal_of a) (refusal_of b)
+or-first code.None b = refl
+or-first (code.Some r) b = refl
+
+pub or-as : (r a b : code.Option Refusal) (q : Option ℕ) → r ≡ option_or a b → refusal_of b ≡ q → refusal_of r ≡ first (refusal_of a) q
+or-as r a b q e p = ap refusal_of e ∙ or-first a b ∙ ap (first (refusal_of a)) p
+
+-- what is found of a leaf that passes a test and does not overflow
+pub passes : (b : Bool) (r : code.Option Refusals) → r ≡ then_some b none-met → code.is_some r ≡ b
+passes true r e = ap code.is_some e
+passes false r e = ap code.is_some e
+
+pub passes-met : (over b : Bool) (r : code.Option Refusals) → r ≡ then_some b none-met → false ≡ over → code.IfSome r (λ met. refuses met ≡ leaf_refuses over)
+passes-met over true r e o = rw (e, ← o) (either_way refl refl)
+passes-met over false r e o = rw e tt
 
 -- contents turned round by a negative multiplier, or kept
 pub turned_round : (m : ℤ) (s : Refusals) → is_negative m ≡ true → refuses (record { forward = s.backward; backward = s.forward }) ≡ turned_by m (refuses s)
@@ -67,12 +85,12 @@ none-met-is : (d : Bool) → refuses none-met d ≡ none
 none-met-is true = refl
 none-met-is false = refl
 
-pub met-none : (s : Refusals) → s.forward ≡ 0 → s.backward ≡ 0 → refuses s ≡ (λ (d : Bool). none)
+pub met-none : (s : Refusals) → s.forward ≡ code.None → s.backward ≡ code.None → refuses s ≡ (λ (d : Bool). none)
 met-none s e h = either_way (ap refusal_of e) (ap refusal_of h)
 
 -- A group, by the number of its kind: the ways of `of_group`, with a and b for its lists.
 module _ (k : ℕ) (a b : Bool → Option ℕ) where
-  pub niss-refuses : (m : ℤ) → k ≡ 3 → refuses (record { forward = NISS; backward = NISS }) ≡ group_refuses k m a b
+  pub niss-refuses : (m : ℤ) → k ≡ 3 → refuses (record { forward = code.Some Niss; backward = code.Some Niss }) ≡ group_refuses k m a b
   niss-refuses m e = either_way (rw e) (rw e)
 
   module _ (other : (k ≡ 3) → ⊥) where

@@ -9,7 +9,7 @@ use borrow.Author.Tests.{leb-true, leb-false, eqb-true, eqb-false, lt-ltb}
 use lib.Dec.{leb, ltb, eqb}
 use lib.ListN.{length, take, drop, get_or, length-drop}
 use lib.Seq.{take_all}
-use Rattle.notation.specs.Basics.{pick, same_list}
+use Rattle.notation.specs.Basics.{between, pick, same_list}
 use Rattle.notation.specs.Numbers.{from_bits}
 use Rattle.notation.specs.Tree.{Leaf, Tree}
 use Rattle.notation.specs.Counts.{CAP, cap, count_node, count, stored}
@@ -27,7 +27,7 @@ use Rattle.counts.specs.Groups.{group_count}
 use Rattle.well_formed.specs.Formed.{formed, formed_count, head_ok, first, second, both, first_bytes, second_bytes, rest_bytes, count_ok, first_ok, node_of, first_node, first_count}
 use Rattle.well_formed.specs.Meaning.{step_count, Meets, MeetsNode}
 use Rattle.well_formed.specs.declared.walk.Visited.{Visited}
-use Rattle.well_formed.specs.declared.walk.Visited.TheVariants.{Steps, Nothing}
+use Rattle.std.specs.Prelude as code
 use Rattle.well_formed.specs.Refusing.{refuses, leaf_refuses, group_refuses}
 use Rattle.well_formed.specs.declared.refusals.Refusals.{Refusals}
 use Rattle.well_formed.proofs.Opening.{both-sum, unpack-view}
@@ -198,6 +198,14 @@ go_on text d list bs n met left ok o holds end z l c n' e s few one next m j =
           ∙ left.joined;
     })
 
+-- a group that is not binary
+pub group-single : (k : ℕ) → k < 6 → between 4 5 k ≡ false → k < 4
+group-single k h e = go (leb 4 k) refl e
+  where
+    go : (b : Bool) → leb 4 k ≡ b → (b && leb k 5) ≡ false → k < 4
+    go true p q = let r = leb-false k 5 q in absurd (omega arith)
+    go false p q = let r = leb-false 4 k p in omega arith
+
 -- the end of a group by the counts that are read
 pub counted : (bs : List ℕ) {n n' : ℕ} → n ≡ field FIRST bs → n' ≡ field SECOND bs → RECORD + RECORD * (n + n') ≡ RECORD + RECORD * (field FIRST bs + field SECOND bs)
 counted bs e e' = omega arith
@@ -212,15 +220,15 @@ list-passed true k n e = (refl, cc)
 list-passed false k n e = (cc, cc)
 
 -- what the visit of a group tells
-pub group-passed : (text : List ℕ) (d : ℕ) (bs : List ℕ) {v : Visited} {c : ℕ} {inside : Refusals} → v ≡ Steps c inside → step_count v ≡ first_count text d bs →
-    (first_ok text d bs ≡ true) × (c ≡ stored (first_node bs))
-group-passed text d bs {v} {c} e n = list-passed (first_ok text d bs) (stored (first_node bs)) c (ap step_count (sym e) ∙ n)
+pub group-passed : (text : List ℕ) (d : ℕ) (bs : List ℕ) {v : code.Option Visited} {x : Visited} → v ≡ code.Some x → step_count v ≡ first_count text d bs →
+    (first_ok text d bs ≡ true) × (x.steps ≡ stored (first_node bs))
+group-passed text d bs {v} {x} e n = list-passed (first_ok text d bs) (stored (first_node bs)) x.steps (ap step_count (sym e) ∙ n)
 
-pub group-not : (text : List ℕ) (d : ℕ) (bs : List ℕ) {v : Visited} → v ≡ Nothing → step_count v ≡ first_count text d bs → false ≡ first_ok text d bs
+pub group-not : (text : List ℕ) (d : ℕ) (bs : List ℕ) {v : code.Option Visited} → v ≡ code.None → step_count v ≡ first_count text d bs → false ≡ first_ok text d bs
 group-not text d bs e n = sym (list-refused (first_ok text d bs) (stored (first_node bs)) (ap step_count (sym e) ∙ n))
 
 -- so that the sum has room
-pub group-capped : (text : List ℕ) (d : ℕ) (bs : List ℕ) {v : Visited} {c : ℕ} {inside : Refusals} → v ≡ Steps c inside → step_count v ≡ first_count text d bs → c ≤ CAP
+pub group-capped : (text : List ℕ) (d : ℕ) (bs : List ℕ) {v : code.Option Visited} {x : Visited} → v ≡ code.Some x → step_count v ≡ first_count text d bs → x.steps ≤ CAP
 group-capped text d bs e n = let z = (group-passed text d bs e n).1 in omega arith
 
 pub sum_room : (n bytes all c : ℕ) → n + bytes ≤ CAP + all → all * 1 < 2 ^ 63 → c ≤ CAP → n + c < 2 ^ 64
@@ -228,27 +236,27 @@ sum_room n bytes all c few short most = omega arith
 
 pub past-group : (text : List ℕ) (d : ℕ) (list bs : List ℕ) (n : ℕ) (met : Refusals) → Left text d list bs n met →
     (end : ℕ) → end ≡ RECORD + RECORD * (field FIRST bs + field SECOND bs) → end ≤ length bs →
-    (v : Visited) (c : ℕ) (inside : Refusals) → v ≡ Steps c inside → step_count v ≡ first_count text d bs → MeetsNode v (first_node bs) →
-    (n' : ℕ) (next : Refusals) → n' ≡ cap (n + c) → refuses next ≡ after (refuses met) (refuses inside) →
+    (v : code.Option Visited) (x : Visited) → v ≡ code.Some x → step_count v ≡ first_count text d bs → MeetsNode v (first_node bs) →
+    (n' : ℕ) (next : Refusals) → n' ≡ cap (n + x.steps) → refuses next ≡ after (refuses met) (refuses x.met) →
     Left text d list (take (length bs - end) (drop end bs)) n' next
-past-group text d list bs n met left end z l v c inside e k m n' next s j =
+past-group text d list bs n met left end z l v x e k m n' next s j =
     let found = group-passed text d bs e k in
     let w : same bs ≡ true = and_left _ _ found.0 in
     let long : RECORD ≤ length bs = omega arith in
     go_on text d list bs n met left (first_ok text d bs) refl found.0 end
     (omega (arith, both-sum (head_at bs), first-written bs left.below long w, second-written bs left.below long w)) l
-    c n' found.1 (omega arith) (omega (arith, left.within)) inside next (subst (λ (x : Visited). MeetsNode x (first_node bs)) e m) j
+    x.steps n' found.1 (omega arith) (omega (arith, left.within)) x.met next (subst (λ (y : code.Option Visited). MeetsNode y (first_node bs)) e m) j
 
 pub past-leaf : (text : List ℕ) (d : ℕ) (list bs : List ℕ) (n : ℕ) (met : Refusals) → Left text d list bs n met → (ok : Bool) → ok ≡ first_ok text d bs → ok ≡ true →
-    6 ≤ kind_at bs → RECORD ≤ length bs → (over : Bool) (one next : Refusals) → over ≡ overflows_at bs → refuses one ≡ leaf_refuses over →
+    6 ≤ kind_at bs → RECORD ≤ length bs → (one next : Refusals) → refuses one ≡ leaf_refuses (overflows_at bs) →
     refuses next ≡ after (refuses met) (refuses one) → Left text d list (take (length bs - RECORD) (drop RECORD bs)) (n + 1) next
 unfolding count_node
-past-leaf text d list bs n met left ok o holds k l over one next w m j =
+past-leaf text d list bs n met left ok o holds k l one next m j =
     let x = (leaf-says bs (kind_at bs) refl k).0 in
     let leaf = (leaf-says bs (kind_at bs) refl k).1 in
     go_on text d list bs n met left ok o holds RECORD (ap (λ (h : Head). RECORD + RECORD * both h) leaf) l
     1 (n + 1) (ap (λ (h : Head). stored (node_of h (first_in bs) (second_in bs))) leaf) refl (omega (arith, left.few))
-    one next (m ∙ ap leaf_refuses w ∙ leaf-refuses bs x leaf ∙ ap (λ (h : Head). of_node (node_of h (first_in bs) (second_in bs))) leaf) j
+    one next (m ∙ leaf-refuses bs x leaf ∙ ap (λ (h : Head). of_node (node_of h (first_in bs) (second_in bs))) leaf) j
 
 -- A leaf has no lists.
 leaf-lists : (text : List ℕ) (d : ℕ) (r b : Bool) → r ≡ b → r ≡ (b && (formed text d [] && (formed text d [] && true)))
@@ -430,10 +438,10 @@ module _ {text : List ℕ} {d : ℕ} {bs : List ℕ} {n : ℕ} {a : Option ℕ} 
   first-told : a ≡ formed_count text (d - 1) (first_bytes (head_at bs) bs)
   first-told = one.answer ∙ ap (formed_count text (d - 1)) first-slice
 
-  pub first-met : (v : Visited) {k : ℕ} (met : Refusals) → v ≡ Steps k met → Meets v (unpack (take (RECORD + RECORD * n - RECORD) (drop RECORD bs))) →
-      refuses met ≡ of_tree (first_in bs)
-  first-met v {k} met e m =
-      subst (λ (x : Visited). Meets x (unpack (take (RECORD + RECORD * n - RECORD) (drop RECORD bs)))) e m ∙ ap (λ (l : List ℕ). of_tree (unpack l)) first-slice
+  pub first-met : (v : code.Option Visited) (x : Visited) → v ≡ code.Some x → Meets v (unpack (take (RECORD + RECORD * n - RECORD) (drop RECORD bs))) →
+      refuses x.met ≡ of_tree (first_in bs)
+  first-met v x e m =
+      subst (λ (y : code.Option Visited). Meets y (unpack (take (RECORD + RECORD * n - RECORD) (drop RECORD bs)))) e m ∙ ap (λ (l : List ℕ). of_tree (unpack l)) first-slice
 
   -- a group that is not binary has no second list
   pub none-second : kind_at bs < 4 → refuses none-met ≡ of_tree (second_in bs)
@@ -494,8 +502,8 @@ module _ {text : List ℕ} {d : ℕ} {bs : List ℕ} {k : ℕ} {b : Option ℕ} 
   second-told : b ≡ formed_count text (d - 1) (second_bytes (head_at bs) bs)
   second-told = two.answer ∙ ap (formed_count text (d - 1)) second-slice
 
-  pub second-met : (v : Visited) {k : ℕ} (met : Refusals) → v ≡ Steps k met → Meets v (unpack second_slice) → refuses met ≡ of_tree (second_in bs)
-  second-met v met e m = subst (λ (x : Visited). Meets x (unpack second_slice)) e m ∙ ap (λ (l : List ℕ). of_tree (unpack l)) second-slice
+  pub second-met : (v : code.Option Visited) (x : Visited) → v ≡ code.Some x → Meets v (unpack second_slice) → refuses x.met ≡ of_tree (second_in bs)
+  second-met v x e m = subst (λ (y : code.Option Visited). Meets y (unpack second_slice)) e m ∙ ap (λ (l : List ℕ). of_tree (unpack l)) second-slice
 
   -- the second list and the count are left
   by-second : (formed text (d - 1) (second_bytes (head_at bs) bs) && count_ok (head_at bs) (first_in bs) (second_in bs)) ≡ first_ok text d bs
@@ -527,7 +535,7 @@ module _ {text : List ℕ} {d : ℕ} {bs : List ℕ} {k : ℕ} {b : Option ℕ} 
   -- what is found of the group: its count, if it is the one that it stores, and what unrolling it meets
   pub group-found : (k' : ℕ) → b ≡ some k' → {kind number stored' whole : ℕ} → kind ≡ kind_at bs → number ≡ field NUMBER bs →
       stored' ≡ field COUNT bs → whole ≡ group_count kind (from_bits 32 number) k k' →
-      (v : Visited) (met : Refusals) → refuses met ≡ of_node (first_node bs) → v ≡ pick (eqb stored' whole) (Steps whole met) Nothing →
+      (v : code.Option Visited) (met : Refusals) → refuses met ≡ of_node (first_node bs) → v ≡ pick (eqb stored' whole) (code.Some (record { steps = whole; met = met })) code.None →
       (step_count v ≡ first_count text d bs) × MeetsNode v (first_node bs)
   group-found k' e {stored' = stored'} {whole = whole} zk zn zs zw v met m z = go (eqb stored' whole) refl
     where
@@ -536,15 +544,15 @@ module _ {text : List ℕ} {d : ℕ} {bs : List ℕ} {k : ℕ} {b : Option ℕ} 
 
       go : (t : Bool) → eqb stored' whole ≡ t → (step_count v ≡ first_count text d bs) × MeetsNode v (first_node bs)
       go true h =
-          let is : v ≡ Steps whole met = z ∙ ap (λ (t : Bool). pick t (Steps whole met) Nothing) h in
+          let is : v ≡ code.Some (record { steps = whole; met = met }) = z ∙ ap (λ (t : Bool). pick t (code.Some (record { steps = whole; met = met })) code.None) h in
           let g = two.one.told in
           let right : whole ≡ stored (first_node bs) =
           sym (eqb-true stored' whole h) ∙ zs
           ∙ count-written bs g.below g.long (and_left (same bs) (multiplier bs) two.one.passed) (first_in bs) (second_in bs)
           (right-count text d bs g.below (omega (arith, g.long)) (first_ok text d bs) refl (sym ok ∙ h)) in (
             ap step_count is ∙ (λ i. pick (sym h i) (some (right i)) none) ∙ ap (λ (t : Bool). pick t (some (stored (first_node bs))) none) ok,
-            subst (λ (x : Visited). MeetsNode x (first_node bs)) (sym is) m,
+            subst (λ (y : code.Option Visited). MeetsNode y (first_node bs)) (sym is) m,
           )
       go false h =
-          let is : v ≡ Nothing = z ∙ ap (λ (t : Bool). pick t (Steps whole met) Nothing) h in
-          (ap step_count is ∙ no-group text d bs (sym h ∙ ok), subst (λ (x : Visited). MeetsNode x (first_node bs)) (sym is) tt)
+          let is : v ≡ code.None = z ∙ ap (λ (t : Bool). pick t (code.Some (record { steps = whole; met = met })) code.None) h in
+          (ap step_count is ∙ no-group text d bs (sym h ∙ ok), subst (λ (y : code.Option Visited). MeetsNode y (first_node bs)) (sym is) tt)

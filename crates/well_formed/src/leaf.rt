@@ -13,9 +13,8 @@ ghost use Rattle.record.specs.Meaning.{span, span_option, layers, rotation_leaf,
 use charsets::family_end;
 use notation::limits::MAX_LAYER;
 use numbers::signed::MIN;
-use parse::parts::Taken;
 use parse::{constraint_set, layer_set};
-use record::spanned::{LayerPrefixContents, Move, Rotation, Span, SpanOption};
+use record::spanned::{LayerPrefixContents, Move, Rotation, Span};
 
 // Whether a multiplier is in bounds: the smallest number is none, since it has no opposite.
 pub fn multiplier_ok(bits: u32) -> bool
@@ -41,17 +40,17 @@ fn family_ok(text: &[u8], p: Span, least: usize) -> bool
 }
 
 // Whether what was read of a part is the whole of it.
-fn to_end(part: &[u8], taken: Taken) -> bool
+fn to_end(part: &[u8], taken: Option<usize>) -> bool
     ensures { result ≡ rule.is_some (at_end (end_reading part.now taken)) }
 {
     match taken {
-        Taken::To(end) => part.len() <= end,
-        Taken::Nothing => false,
+        Some(end) => part.len() <= end,
+        None => false,
     }
 }
 
 // Where the set of layers, or else of constraints, ends that the part begins with.
-fn set_end(part: &[u8], layers: bool) -> Taken
+fn set_end(part: &[u8], layers: bool) -> Option<usize>
     ensures { end_reading part.now result
         ≡ pick layers (forget (grammar.layer_set_elements true 0 part.now))
         (forget (grammar.constraint_set 0 part.now)) }
@@ -79,12 +78,12 @@ fn set_ok(text: &[u8], p: Span, layers: bool) -> bool
 }
 
 // Whether constraints, where there are any, are such a set.
-fn constraints_ok(text: &[u8], constraints: SpanOption) -> bool
+fn constraints_ok(text: &[u8], constraints: Option<Span>) -> bool
     ensures { result ≡ rule.constraints_ok text.now (span_option constraints) }
 {
     match constraints {
-        SpanOption::Some(p) => set_ok(text, p, false),
-        SpanOption::None => true,
+        Some(p) => set_ok(text, p, false),
+        None => true,
     }
 }
 

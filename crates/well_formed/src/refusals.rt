@@ -4,35 +4,39 @@ ghost use Rattle.std.proofs.Math.Option.{none};
 ghost use Rattle.notation.specs.Numbers.{from_bits};
 ghost use Rattle.notation.specs.Packed.{RECORD};
 ghost use Rattle.notation.specs.Unroll.{turned as turned_by};
+ghost use Rattle.record.specs.Kinds.{kind_number};
 ghost use Rattle.record.specs.Meaning.{field, NUMBER};
 ghost use Rattle.laws.specs.Unrolled as unrolling;
-ghost use Rattle.well_formed.specs.Refusing.{refusal_of, refuses, leaf_refuses, contents_refuse, group_refuses};
+ghost use Rattle.well_formed.specs.Refusing.{refuses, leaf_refuses, contents_refuse, group_refuses};
 
-use notation::refusals::{NISS, OVERFLOW};
+use notation::refusals::Refusal;
 use numbers::signed::is_negative;
-use record::{fields, kinds};
+use record::{Kind, fields};
 
-#[derive(Clone, Copy)]
+#[derive(Clone, Copy, Debug, PartialEq, Eq)]
 pub struct Refusals {
-    // The first that unrolling meets, or 0.
-    pub forward: u8,
+    // The first that unrolling meets, if any.
+    pub forward: Option<Refusal>,
     // The first that unrolling the inverse meets.
-    pub backward: u8,
+    pub backward: Option<Refusal>,
 }
 
 pub const NONE: Refusals = Refusals {
-    forward: 0,
-    backward: 0,
+    forward: None,
+    backward: None,
 };
 
 // The refusals of a leaf: only one that overflows causes any, and only where it is to be undone.
 pub fn of_leaf(overflows: bool) -> Refusals
     ensures { refuses result ≡ leaf_refuses overflows }
 {
-    let backward = if overflows { OVERFLOW } else { 0 };
     Refusals {
-        forward: 0,
-        backward,
+        forward: None,
+        backward: if overflows {
+            Some(Refusal::Overflow)
+        } else {
+            None
+        },
     }
 }
 
@@ -41,21 +45,22 @@ pub fn join(a: Refusals, b: Refusals) -> Refusals
     ensures { refuses result ≡ (λ (d : Bool). unrolling.first_in_order d (refuses a d) (refuses b d)) }
 {
     Refusals {
-        forward: first(a.forward, b.forward),
-        backward: first(b.backward, a.backward),
+        forward: a.forward.or(b.forward),
+        backward: b.backward.or(a.backward),
     }
 }
 
 // The refusals of a group of this kind, given its record, by those of its lists; a group that is not binary has one list. A
 // NISS group is refused even at multiplier 0; what is repeated 0 times is never reached.
-pub fn of_group(kind: u8, group: &[u8], a: Refusals, b: Refusals) -> Refusals
+pub fn of_group(kind: Kind, group: &[u8], a: Refusals, b: Refusals) -> Refusals
     requires { RECORD ≤ length group.now }
-    ensures { refuses result ≡ group_refuses kind (from_bits 32 (field NUMBER group.now)) (refuses a) (refuses b) }
+    ensures { refuses result
+        ≡ group_refuses (kind_number kind) (from_bits 32 (field NUMBER group.now)) (refuses a) (refuses b) }
 {
-    if kind == kinds::NISS {
+    if kind == Kind::Niss {
         return Refusals {
-            forward: NISS,
-            backward: NISS,
+            forward: Some(Refusal::Niss),
+            backward: Some(Refusal::Niss),
         };
     }
     // Most groups meet nothing, and then their multiplier need not be read.
@@ -69,26 +74,25 @@ pub fn of_group(kind: u8, group: &[u8], a: Refusals, b: Refusals) -> Refusals
     turned(multiplier, contents(kind, a, b))
 }
 
-// Whether nothing is met in either list. One sum is quicker to test than four numbers.
+// Whether nothing is met in either list.
 fn both_none(a: Refusals, b: Refusals) -> bool
     ensures { result ≡ true → (refuses a ≡ (λ (d : Bool). none)) × (refuses b ≡ (λ (d : Bool). none)) }
 {
-    let met = (a.forward as u32 + a.backward as u32) + (b.forward as u32 + b.backward as u32);
-    met == 0
+    a.forward.is_none() && a.backward.is_none() && b.forward.is_none() && b.backward.is_none()
 }
 
 // The refusals of a group's contents, played once and forward or once and inverted.
-fn contents(kind: u8, a: Refusals, b: Refusals) -> Refusals
-    ensures { refuses result ≡ contents_refuse kind (refuses a) (refuses b) }
+fn contents(kind: Kind, a: Refusals, b: Refusals) -> Refusals
+    ensures { refuses result ≡ contents_refuse (kind_number kind) (refuses a) (refuses b) }
 {
     match kind {
-        kinds::COMMUTATOR => Refusals {
-            forward: first(a.forward, first(b.forward, first(a.backward, b.backward))),
-            backward: first(b.forward, first(a.forward, first(b.backward, a.backward))),
+        Kind::Commutator => Refusals {
+            forward: a.forward.or(b.forward.or(a.backward.or(b.backward))),
+            backward: b.forward.or(a.forward.or(b.backward.or(a.backward))),
         },
-        kinds::CONJUGATE => Refusals {
-            forward: first(a.forward, first(b.forward, a.backward)),
-            backward: first(a.forward, first(b.backward, a.backward)),
+        Kind::Conjugate => Refusals {
+            forward: a.forward.or(b.forward.or(a.backward)),
+            backward: a.forward.or(b.backward.or(a.backward)),
         },
         _ => a,
     }
@@ -105,11 +109,4 @@ fn turned(multiplier: u32, inside: Refusals) -> Refusals
         };
     }
     inside
-}
-
-// The first of two refusals, where 0 is none.
-fn first(a: u8, b: u8) -> u8
-    ensures { refusal_of result ≡ unrolling.first (refusal_of a) (refusal_of b) }
-{
-    if a == 0 { b } else { a }
 }

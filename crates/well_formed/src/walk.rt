@@ -1,13 +1,15 @@
 // Refusal 6: a tree is well formed if its bytes are what packing writes of its nodes, each node is in bounds, and groups
 // are nested at most 64 deep. The same visit of each record adds up the step counts that packing writes and finds the
 // first refusal, 7 or 8, that unrolling meets in each direction.
-ghost use Rattle.std.specs.Prelude.{◌≡◌, Bool, true, ◌&&◌, ◌||◌, ℕ, ◌+◌, ◌*◌, ◌/◌, ◌≤◌, ◌<◌, leb, eqb, length, take};
+ghost use Rattle.std.specs.Prelude.{◌≡◌, Bool, true, ◌&&◌, ◌||◌, ℕ, ◌+◌, ◌*◌, ◌/◌, ◌≤◌, ◌<◌, leb, eqb, length, take, is_some, IfSome};
 ghost use Rattle.notation.specs.Basics.{pick, same_list};
 ghost use Rattle.notation.specs.Numbers.{from_bits};
 ghost use Rattle.notation.specs.Packed.{RECORD, head_record, head_at, unpack};
 ghost use Rattle.notation.specs.WellFormed.{multiplier_ok};
 ghost use Rattle.record.specs.Meaning.{field, kind_at, FIRST, SECOND, NUMBER};
+ghost use Rattle.record.specs.Kinds.{kind_number};
 ghost use Rattle.record.specs.Undone.{overflows_at};
+ghost use Rattle.well_formed.specs.Refusing.{refuses, leaf_refuses};
 ghost use Rattle.well_formed.specs.Formed.{well_formed_steps, formed_count, first_node, first_ok, first_count};
 ghost use Rattle.well_formed.specs.Meaning.{step_count, Meets, MeetsNode};
 
@@ -19,30 +21,18 @@ use record::decode::{layered_move, rotation};
 use record::encode::{LEAF, fields_at, same_fields, without_parts};
 use record::undo::overflows;
 use record::unused::leaf_written;
-use record::{RECORD, fields, kinds};
+use record::{Kind, RECORD, fields};
 
 // What one visit of a tree, a list or a group finds, if it is well formed: how many steps it has, capped, and the first
 // refusals that unrolling it meets.
-#[derive(Drop)]
-pub enum Visited {
-    Steps(u64, Refusals),
-    Nothing,
+#[derive(Clone, Copy, Debug, PartialEq, Eq)]
+pub struct Visited {
+    pub steps: u64,
+    pub met: Refusals,
 }
-
-// What the visit of a leaf finds: whether it is well formed, and if so whether it is a pair that cannot be undone.
-#[derive(Drop)]
-struct VisitedLeaf {
-    ok: bool,
-    overflows: bool,
-}
-
-const BAD_LEAF: VisitedLeaf = VisitedLeaf {
-    ok: false,
-    overflows: false,
-};
 
 // How many steps a well-formed tree has, and what unrolling it meets.
-pub fn visit(text: &[u8], tree: &[u8]) -> Visited
+pub fn visit(text: &[u8], tree: &[u8]) -> Option<Visited>
     ensures result_value { step_count result ≡ well_formed_steps text.now tree.now }
     ensures meets { Meets result (unpack tree.now) }
 {
@@ -52,7 +42,7 @@ pub fn visit(text: &[u8], tree: &[u8]) -> Visited
 // Whether these records are a list of nodes in which groups are nested at most `depth` deep, and if so how many steps
 // they are and what unrolling them meets.
 #[cycle(visit_group_visit_list)]
-fn visit_list(text: &[u8], list: &[u8], depth: usize) -> Visited
+fn visit_list(text: &[u8], list: &[u8], depth: usize) -> Option<Visited>
     ensures result_value { step_count result ≡ formed_count text.now depth list.now }
     ensures meets { Meets result (unpack list.now) }
 {
@@ -63,84 +53,76 @@ fn visit_list(text: &[u8], list: &[u8], depth: usize) -> Visited
     let mut met = NONE;
     while 0 < t.len() {
         if t.len() < RECORD {
-            return Visited::Nothing;
+            return None;
         }
         if fields::is_group(t) {
             let end = RECORD + RECORD * (fields::first(t) as usize + fields::second(t) as usize);
             if t.len() < end {
-                return Visited::Nothing;
+                return None;
             }
-            let Visited::Steps(steps, inside) = visit_group(text, t, depth) else {
-                return Visited::Nothing;
-            };
-            count = sum(count, steps);
-            met = join(met, inside);
+            let group = visit_group(text, t, depth)?;
+            count = sum(count, group.steps);
+            met = join(met, group.met);
             t = &t[end..];
         } else {
-            let leaf = visit_leaf(text, t);
-            if leaf.ok {
-                count += LEAF;
-                met = join(met, of_leaf(leaf.overflows));
-                t = &t[RECORD..];
-            } else {
-                return Visited::Nothing;
-            }
+            let leaf = visit_leaf(text, t)?;
+            count += LEAF;
+            met = join(met, leaf);
+            t = &t[RECORD..];
         }
     }
-    Visited::Steps(cap(count), met)
+    Some(Visited {
+        steps: cap(count),
+        met,
+    })
 }
 
 // Whether the first node, a group, is in bounds, its lists with one level less are well formed, and it stores the step
 // count that they come to; and if so what unrolling it meets.
 #[cycle(visit_group_visit_list)]
-fn visit_group(text: &[u8], t: &[u8], depth: usize) -> Visited
+fn visit_group(text: &[u8], t: &[u8], depth: usize) -> Option<Visited>
     requires t_in_bounds { RECORD + RECORD * (field FIRST t.now + field SECOND t.now) ≤ length t.now }
     requires t_bound { kind_at t.now < 6 }
     ensures result_value { step_count result ≡ first_count text.now depth t.now }
     ensures meets_node { MeetsNode result (first_node t.now) }
 {
     if depth == 0 {
-        return Visited::Nothing;
+        return None;
     }
-    if group_record_ok(t) {
-        let kind = fields::kind(t);
-        let number = fields::number(t);
-        let first = fields::first(t);
-        let middle = RECORD + RECORD * first as usize;
-        let Visited::Steps(a, in_a) = visit_list(text, &t[RECORD..middle], depth - 1) else {
-            return Visited::Nothing;
-        };
-        // Without a second list there is nothing more to walk.
-        if kind < kinds::COMMUTATOR {
-            return compared(
-                fields::count(t),
-                counts::of_group(kind, number, a, 0),
-                of_group(kind, t, in_a, NONE),
-            );
-        }
-        let second = fields::second(t);
-        let end = middle + RECORD * second as usize;
-        let Visited::Steps(b, in_b) = visit_list(text, &t[middle..end], depth - 1) else {
-            return Visited::Nothing;
-        };
-        compared(
+    if !group_record_ok(t) {
+        return None;
+    }
+    let kind = fields::kind(t);
+    let number = fields::number(t);
+    let first = fields::first(t);
+    let middle = RECORD + RECORD * first as usize;
+    let a = visit_list(text, &t[RECORD..middle], depth - 1)?;
+    // Without a second list there is nothing more to walk.
+    if !kind.is_binary() {
+        return compared(
             fields::count(t),
-            counts::of_group(kind, number, a, b),
-            of_group(kind, t, in_a, in_b),
-        )
-    } else {
-        Visited::Nothing
+            counts::of_group(kind, number, a.steps, 0),
+            of_group(kind, t, a.met, NONE),
+        );
     }
+    let second = fields::second(t);
+    let end = middle + RECORD * second as usize;
+    let b = visit_list(text, &t[middle..end], depth - 1)?;
+    compared(
+        fields::count(t),
+        counts::of_group(kind, number, a.steps, b.steps),
+        of_group(kind, t, a.met, b.met),
+    )
 }
 
 // What is found of a group whose lists come to so many steps, where it stores a count.
-fn compared(stored: u64, steps: u64, met: Refusals) -> Visited
-    ensures { result ≡ pick (eqb stored steps) (Visited.Steps steps met) Visited.Nothing }
+fn compared(stored: u64, steps: u64, met: Refusals) -> Option<Visited>
+    ensures { result ≡ pick (eqb stored steps) (Some (record { steps = steps; met = met })) None }
 {
     if stored == steps {
-        return Visited::Steps(steps, met);
+        return Some(Visited { steps, met });
     }
-    Visited::Nothing
+    None
 }
 
 // Whether the first record, that of a group, is what packing writes of a group with that step count, and its multiplier
@@ -155,54 +137,42 @@ fn group_record_ok(t: &[u8]) -> bool
     let kind = fields::kind(t);
     let second = fields::second(t);
     let number = fields::number(t);
-    if second_ok(kind, second) {
-        multiplier_ok(number)
-            && same_fields(
-                without_parts(kind, fields::first(t), second, number, 0, fields::count(t)),
-                fields_at(t),
-            )
-    } else {
-        false
+    if !second_ok(kind, second) {
+        return false;
     }
+    multiplier_ok(number)
+        && same_fields(
+            without_parts(kind, fields::first(t), second, number, 0, fields::count(t)),
+            fields_at(t),
+        )
 }
 
 // Only a binary group has a second list.
-fn second_ok(kind: u8, second: u32) -> bool
-    ensures { result ≡ (leb 4 kind || eqb second 0) }
+fn second_ok(kind: Kind, second: u32) -> bool
+    requires { kind_number kind < 6 }
+    ensures { result ≡ (leb 4 (kind_number kind) || eqb second 0) }
 {
-    kinds::COMMUTATOR <= kind || second == 0
+    kind.is_binary() || second == 0
 }
 
-// Whether the first node, which is no group, is what packing writes and in bounds, and if so whether it overflows. Packing
+// What unrolling the first node meets, which is no group: none where it is not what packing writes or not in bounds. Packing
 // counts a leaf 1.
-fn visit_leaf(text: &[u8], t: &[u8]) -> VisitedLeaf
+fn visit_leaf(text: &[u8], t: &[u8]) -> Option<Refusals>
     requires in_bounds { RECORD ≤ length t.now }
     requires bound { 6 ≤ kind_at t.now }
-    ensures by_index { (depth : ℕ) → result.ok ≡ first_ok text.now depth t.now }
-    ensures overflow { result.ok ≡ true → result.overflows ≡ overflows_at t.now }
+    ensures by_index { (depth : ℕ) → is_some result ≡ first_ok text.now depth t.now }
+    ensures overflow { IfSome result (λ met. refuses met ≡ leaf_refuses (overflows_at t.now)) }
 {
     if !fields::counts_one(t) {
-        return BAD_LEAF;
+        return None;
     }
     if !leaf_written(t) {
-        return BAD_LEAF;
+        return None;
     }
     match fields::kind(t) {
-        kinds::MOVE => VisitedLeaf {
-            ok: move_ok(text, layered_move(t)),
-            overflows: false,
-        },
-        kinds::ROTATION => VisitedLeaf {
-            ok: rotation_ok(text, rotation(t)),
-            overflows: false,
-        },
-        kinds::PAIR => VisitedLeaf {
-            ok: true,
-            overflows: overflows(t),
-        },
-        _ => VisitedLeaf {
-            ok: true,
-            overflows: false,
-        },
+        Kind::Move => move_ok(text, layered_move(t)).then_some(NONE),
+        Kind::Rotation => rotation_ok(text, rotation(t)).then_some(NONE),
+        Kind::Pair => Some(of_leaf(overflows(t))),
+        _ => Some(NONE),
     }
 }

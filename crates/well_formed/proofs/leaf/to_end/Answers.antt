@@ -2,5 +2,5 @@
 use Rattle.well_formed.proofs.Tests as tests
 use Rattle.well_formed.proofs.leaf.to_end.Goals as goal
 
-pub returns-in-To : goal.returns-in-To
-returns-in-To c = rw c.in-To.is (tests.to-end-test c.args.part.now c.in-To.end)
+pub returns-in-Some : goal.returns-in-Some
+returns-in-Some c = rw c.in-Some.is (tests.to-end-test c.args.part.now c.in-Some.end)

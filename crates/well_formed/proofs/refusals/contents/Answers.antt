@@ -1,28 +1,19 @@
-use mathlib.Core.Path.{ap, ◌∙◌}
-use Rattle.laws.specs.Unrolled.{first}
-use Rattle.well_formed.specs.Refusing.{refusal_of, refuses}
-use Rattle.well_formed.proofs.Refusing.{either_way, commutator-refuses, conjugate-refuses, one-list-refuses}
+use mathlib.Core.Path.{refl, ap, ◌∙◌}
+use Rattle.record.specs.Kinds.{kind_number}
+use Rattle.well_formed.specs.Refusing.{refuses}
+use Rattle.well_formed.proofs.Refusing.{either_way, or-as, commutator-refuses, conjugate-refuses}
 use Rattle.well_formed.proofs.refusals.contents.Goals as goal
 
-pub returns-in-4 : goal.returns-in-4
-returns-in-4 c =
-    let a = c.args.a in
-    let b = c.args.b in
+pub returns-in-Commutator : goal.returns-in-Commutator
+returns-in-Commutator c =
     either_way
-    (c.first-in-4-2.ensures ∙ ap (first (refusal_of a.forward)) (c.first-in-4.ensures ∙ ap (first (refusal_of b.forward)) c.first.ensures))
-    (c.first-in-4-5.ensures ∙ ap (first (refusal_of b.forward)) (c.first-in-4-4.ensures ∙ ap (first (refusal_of a.forward)) c.first-in-4-3.ensures))
-    ∙ commutator-refuses c.args.kind (refuses a) (refuses b) c.in-4.is
+    (or-as _ _ _ _ c.or-in-Commutator-2.ensures (or-as _ _ _ _ c.or-in-Commutator.ensures (or-as _ _ _ _ c.or.ensures refl)))
+    (or-as _ _ _ _ c.or-in-Commutator-5.ensures (or-as _ _ _ _ c.or-in-Commutator-4.ensures (or-as _ _ _ _ c.or-in-Commutator-3.ensures refl)))
+    ∙ commutator-refuses _ (refuses c.args.a) (refuses c.args.b) (ap kind_number c.in-Commutator.is)
 
-pub returns-in-5 : goal.returns-in-5
-returns-in-5 c =
-    let a = c.args.a in
-    let b = c.args.b in
+pub returns-in-Conjugate : goal.returns-in-Conjugate
+returns-in-Conjugate c =
     either_way
-    (c.first-in-5-2.ensures ∙ ap (first (refusal_of a.forward)) c.first-in-5.ensures)
-    (c.first-in-5-4.ensures ∙ ap (first (refusal_of a.forward)) c.first-in-5-3.ensures)
-    ∙ conjugate-refuses c.args.kind (refuses a) (refuses b) c.in-5.is
-
-pub returns-in_default : goal.returns-in_default
-returns-in_default c =
-    let a = c.args in
-    one-list-refuses a.kind (refuses a.a) (refuses a.b) c.in_default.in_default-own.rest.0.1 c.in_default.in_default-own.rest.1
+    (or-as _ _ _ _ c.or-in-Conjugate-2.ensures (or-as _ _ _ _ c.or-in-Conjugate.ensures refl))
+    (or-as _ _ _ _ c.or-in-Conjugate-4.ensures (or-as _ _ _ _ c.or-in-Conjugate-3.ensures refl))
+    ∙ conjugate-refuses _ (refuses c.args.a) (refuses c.args.b) (ap kind_number c.in-Conjugate.is)

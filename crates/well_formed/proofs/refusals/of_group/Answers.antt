@@ -2,31 +2,29 @@
 use mathlib.Core.Path.{ap, ◌∙◌}
 use Prim.Native.Nat.{ℕ}
 use Rattle.notation.specs.Numbers.{from_bits}
+use Rattle.record.specs.Kinds.{kind_number}
+use Rattle.record.specs.declared.kinds.Kind.TheVariants.{Niss}
+use Rattle.record.proofs.SameKind.{not-kind}
 use Rattle.record.specs.Meaning.{field, NUMBER}
 use Rattle.well_formed.specs.Refusing.{refuses, group_refuses}
-use Rattle.well_formed.proofs.Refusing.{niss-refuses, both-none, never-reached, contents-reached}
+use Rattle.well_formed.proofs.Refusing.{both-none, never-reached, contents-reached}
 use Rattle.well_formed.proofs.refusals.of_group.Goals as goal
-
-pub returns-then-kind-eq-NISS : goal.returns-then-kind-eq-NISS
-returns-then-kind-eq-NISS c =
-    let a = c.args in
-    niss-refuses a.kind (refuses a.a) (refuses a.b) (from_bits 32 (field NUMBER a.group.now)) c.if-kind-eq-NISS.true
 
 pub returns-then-both_none : goal.returns-then-both_none
 returns-then-both_none c =
     let none = c.both_none.ensures c.if-both_none.true in
     let a = c.args in
-    both-none a.kind (refuses a.a) (refuses a.b) c.if-kind-eq-NISS.false (from_bits 32 (field NUMBER a.group.now)) none.0 none.1
+    both-none (kind_number a.kind) (refuses a.a) (refuses a.b) (not-kind _ Niss c.eq.ensures c.if-eq.false) (from_bits 32 (field NUMBER a.group.now)) none.0 none.1
 
 pub returns-then-multiplier-eq0 : goal.returns-then-multiplier-eq0
 returns-then-multiplier-eq0 c =
     let a = c.args in
-    never-reached a.kind (refuses a.a) (refuses a.b) c.if-kind-eq-NISS.false c.number-multiplier.result c.if-multiplier-eq0.true
-    ∙ ap (λ (n : ℕ). group_refuses a.kind (from_bits 32 n) (refuses a.a) (refuses a.b)) c.number-multiplier.ensures
+    never-reached (kind_number a.kind) (refuses a.a) (refuses a.b) (not-kind _ Niss c.eq.ensures c.if-eq.false) c.number-multiplier.result c.if-multiplier-eq0.true
+    ∙ ap (λ (n : ℕ). group_refuses (kind_number a.kind) (from_bits 32 n) (refuses a.a) (refuses a.b)) c.number-multiplier.ensures
 
 pub returns : goal.returns
 returns c =
     let a = c.args in
-    contents-reached a.kind (refuses a.a) (refuses a.b) c.if-kind-eq-NISS.false c.number-multiplier.result c.number-multiplier.type_inv c.if-multiplier-eq0.false
+    contents-reached (kind_number a.kind) (refuses a.a) (refuses a.b) (not-kind _ Niss c.eq.ensures c.if-eq.false) c.number-multiplier.result c.number-multiplier.type_inv c.if-multiplier-eq0.false
     c.contents.ensures c.turned.ensures
-    ∙ ap (λ (n : ℕ). group_refuses a.kind (from_bits 32 n) (refuses a.a) (refuses a.b)) c.number-multiplier.ensures
+    ∙ ap (λ (n : ℕ). group_refuses (kind_number a.kind) (from_bits 32 n) (refuses a.a) (refuses a.b)) c.number-multiplier.ensures
