@@ -1,63 +1,61 @@
 -- What every entry comes to, case by case: a text or a tree that is refused, a buffer too short, a result. Assumes nothing.
 use Prim.Native.Nat.{ℕ, ◌≤◌, ◌<◌}
 use mathlib.Core.Path.{◌≡◌, refl, sym, ap, ◌∙◌}
-use mathlib.Core.Bool.{Bool, true, false}
+use mathlib.Core.Bool.{true, false}
 use mathlib.Core.List.{List, ◌++◌}
 use borrow.Author.Tests.{le-leb, lt-leb}
 use lib.ListN.{length, drop}
 use Rattle.notation.specs.Utf8.{utf8}
-use Rattle.notation.specs.Refusals.{Outcome, refusal, result, TOO-LONG, NOT-UTF8, NOT-WELL-FORMED, NO-ROOM}
+use Rattle.notation.specs.Refusals.{Outcome, refusal, result, NO-ROOM}
 use Rattle.notation.specs.Tree.{Tree}
 use Rattle.notation.specs.Packed.{unpack}
 use Rattle.notation.specs.Counts.{cap, count}
 use Rattle.notation.specs.WellFormed.{well_formed}
-use Rattle.notation.specs.Lending.{lend, outcome, refusal_number, value}
+use Rattle.notation.specs.Lending.{lend, number, refusal_number, value}
 use Rattle.notation.specs.Entries.{checked, MAX-TEXT}
-use Rattle.notation.specs.declared.answer.Answer.TheVariants.{Value, Refused}
+use Rattle.notation.specs.declared.refusals.Refusal.{Refusal}
+use Rattle.notation.specs.declared.refusals.Refusal.TheVariants.{TooLong, NotUtf8, NotWellFormed}
 use Rattle.laws.proofs.Bools.{no-refusal}
 use Rattle.laws.proofs.Unpacking.{well-formed-tree}
 use Rattle.laws.proofs.Accepting.{checked-tree}
-use Rattle.laws.specs.Unrolled.{first_refusal}
-use Rattle.well_formed.specs.Refusing as of
-use Rattle.well_formed.specs.declared.refusals.Refusals.{Refusals}
-use Rattle.checked.specs.declared.Checked.{Checked}
-use Rattle.checked.specs.Checked.{Accepted, Found, Checks, checked_steps}
+use Rattle.well_formed.specs.declared.walk.Visited.{Visited}
+use Rattle.well_formed.specs.Meaning.{step_count, Meets}
+use Rattle.well_formed.proofs.Turns.{list-passed, list-refused}
+use Rattle.well_formed.specs.Formed.{well_formed_steps}
+use Rattle.std.specs.Prelude as code
+use Rattle.checked.specs.Checked.{Accepted, Checks, checked_steps}
 
--- What `check` promises of its answer, in two parts as its contract has them.
-abbrev Answers : List ℕ → List ℕ → Checked → Type 0
-Answers text tree c = (outcome c.answer ≡ checked_steps text tree) × ((n : ℕ) → outcome c.answer ≡ result n → Found text tree c.met)
-
-pub checks : {text tree : List ℕ} {c : Checked} → Answers text tree c → Checks text tree c
-checks a = record { answer = a.0; found = a.1 }
-
+-- What `check` promises of its answer.
 module _ (text tree : List ℕ) where
-  refuses : (r : ℕ) → checked text tree ≡ refusal r → (c : Checked) → c.answer ≡ Refused r → Answers text tree c
-  refuses r e c q = (ap outcome q ∙ rw e, λ n z. no-refusal (sym (ap outcome q) ∙ z))
+  refuses : (r : Refusal) → checked text tree ≡ refusal (number r) → Checks text tree (code.Err r)
+  refuses r e = record { answer = rw e; found = tt }
 
-  pub too_long : MAX-TEXT < length text → (c : Checked) → c.answer ≡ Refused TOO-LONG → Answers text tree c
+  pub too_long : MAX-TEXT < length text → Checks text tree (code.Err TooLong)
   unfolding checked
-  too_long h = refuses TOO-LONG (rw (lt-leb (length text) MAX-TEXT h))
+  too_long h = refuses TooLong (rw (lt-leb (length text) MAX-TEXT h))
 
-  pub not-utf8 : length text ≤ MAX-TEXT → utf8 text ≡ false → (c : Checked) → c.answer ≡ Refused NOT-UTF8 → Answers text tree c
+  pub not-utf8 : length text ≤ MAX-TEXT → utf8 text ≡ false → Checks text tree (code.Err NotUtf8)
   unfolding checked
-  not-utf8 h u = refuses NOT-UTF8 (rw (le-leb (length text) MAX-TEXT h, u))
-
-  pub not-well-formed : length text ≤ MAX-TEXT → utf8 text ≡ true → well_formed text tree ≡ false →
-      (c : Checked) → c.answer ≡ Refused NOT-WELL-FORMED → Answers text tree c
-  unfolding checked
-  not-well-formed h u w = refuses NOT-WELL-FORMED (rw (le-leb (length text) MAX-TEXT h, u, w))
+  not-utf8 h u = refuses NotUtf8 (rw (le-leb (length text) MAX-TEXT h, u))
 
   is-checked : length text ≤ MAX-TEXT → utf8 text ≡ true → well_formed text tree ≡ true → checked text tree ≡ result (unpack tree)
   unfolding checked
   is-checked h u w = rw (le-leb (length text) MAX-TEXT h, u, w)
 
-  pub is-accepted : length text ≤ MAX-TEXT → utf8 text ≡ true → well_formed text tree ≡ true →
-      (n : ℕ) → n ≡ cap (count (unpack tree)) → (met : Refusals) → of.refuses met ≡ (λ (d : Bool). first_refusal d (unpack tree)) →
-      Answers text tree (record { answer = Value n; met = met })
-  is-accepted h u w n e met m =
-      let is = is-checked h u w in
-      let a = well-formed-tree text tree w in
-      (rw (is, e), λ k q. record { accepted = record { short = h; packed = a.packed; ok = a.ok; is = is }; meets = m })
+  -- by what a visit found
+  pub visited : length text ≤ MAX-TEXT → utf8 text ≡ true → (v : code.Option Visited) → step_count v ≡ well_formed_steps text tree → Meets v (unpack tree) →
+      Checks text tree (code.ok_or v NotWellFormed)
+  unfolding checked
+  visited h u code.None e m =
+      refuses NotWellFormed (rw (le-leb (length text) MAX-TEXT h, u, list-refused _ _ e))
+  visited h u (code.Some v) e m =
+      let k = list-passed _ _ _ e in
+      let is = is-checked h u k.0 in
+      let a = well-formed-tree text tree k.0 in
+      record {
+        answer = rw (is, k.1);
+        found = record { accepted = record { short = h; packed = a.packed; ok = a.ok; is = is }; meets = m };
+      }
 
   -- a tree that the rule accepts is accepted
   pub checked-accepted : (t : Tree) → checked text tree ≡ result t → Accepted text tree
@@ -83,6 +81,11 @@ module _ (text tree : List ℕ) {o : Outcome ℕ} (c : o ≡ checked_steps text 
       go (result t) z =
           let w : o ≡ result (cap (count t)) = rw z at c in
           no-refusal (sym q ∙ w)
+
+-- A refusal that `?` hands on.
+pub handed_on : {A : Type 0} (r : code.Result A Refusal) (e : Refusal) → code.IsErr r × code.IsErrAnd r (λ f. f ≡ e) → r ≡ code.Err e
+handed_on (code.Err f) e g = ap code.Err g.1
+handed_on (code.Ok v) e g = absurd g.1
 
 -- Lent buffers.
 module _ {A : Type 0} (o : Outcome (List A)) (buffer : List A) where

@@ -2,73 +2,45 @@
 
 #![tactic(auto)]
 
-ghost use Rattle.std.specs.Prelude.{◌≡◌, ℕ, List};
+ghost use Rattle.std.specs.Prelude.{◌≡◌, ℕ, List, IfOk};
 ghost use Rattle.notation.specs.Refusals.{result as accepted};
 ghost use Rattle.notation.specs.Lending.{outcome};
 ghost use Rattle.notation.specs.Entries as rule;
-ghost use Rattle.checked.specs.Checked.{Found, Checks, Counted, checked_steps};
+ghost use Rattle.checked.specs.Checked.{Found, Checks, Counted, checked_steps, steps_of};
 
 use charsets::is_utf8;
-use notation::answer::Answer;
 use notation::limits::{MAX_STEPS, MAX_TEXT};
-use notation::refusals::{NOT_UTF8, NOT_WELL_FORMED, TOO_LONG, TOO_MANY_STEPS};
-use well_formed::refusals::NONE;
-use well_formed::{Refusals, Visited, visit};
+use notation::refusals::Refusal;
+use well_formed::{Visited, visit};
 
-// What one visit of a text and its tree finds.
-#[derive(Drop)]
-pub struct Checked {
-    // How many steps the tree counts, capped, or refusal 1, 2 or 6.
-    pub answer: Answer,
-    // The first refusals that unrolling it meets.
-    pub met: Refusals,
-}
-
-// How many steps the tree counts, and what unrolling it meets; or refusal 1, 2 or 6.
-pub fn check(text: &[u8], tree: &[u8]) -> Checked
-    ensures answer { outcome result.answer ≡ checked_steps text.now tree.now }
-    ensures found { (n : ℕ) → outcome result.answer ≡ accepted n → Found text.now tree.now result.met }
+// What one visit of a text and its tree finds: how many steps the tree counts, capped, and what unrolling it meets; or
+// refusal 1, 2 or 6.
+pub fn check(text: &[u8], tree: &[u8]) -> Result<Visited, Refusal>
+    ensures answer { steps_of result ≡ checked_steps text.now tree.now }
+    ensures found { IfOk result (λ v. Found text.now tree.now v.met) }
 {
     if MAX_TEXT < text.len() {
-        return refused(TOO_LONG);
+        return Err(Refusal::TooLong);
     }
     if !is_utf8(text) {
-        return refused(NOT_UTF8);
+        return Err(Refusal::NotUtf8);
     }
-    match visit(text, tree) {
-        Visited::Steps(n, met) => Checked {
-            answer: Answer::Value(n),
-            met,
-        },
-        Visited::Nothing => refused(NOT_WELL_FORMED),
-    }
+    visit(text, tree).ok_or(Refusal::NotWellFormed)
 }
 
-fn refused(number: u8) -> Checked
-    ensures { result.answer ≡ Answer.Refused number }
-{
-    Checked {
-        answer: Answer::Refused(number),
-        met: NONE,
-    }
-}
-
-// How many steps a tree unrolls into, by what `check` found of it: after 1, 2 and 6 come 7 or 8 and then 9. Entries that
+// How many steps a tree unrolls into, by what `check` answered of it: after 1, 2 and 6 come 7 or 8 and then 9. Entries that
 // have a refusal of their own between 6 and 7 put it between the two calls.
-pub fn count_checked(checked: Checked) -> Answer
+pub fn count_checked(checked: Result<Visited, Refusal>) -> Result<u64, Refusal>
     ensures answer { (text tree : List ℕ) → Checks text tree checked → outcome result ≡ rule.count_steps text tree }
     ensures counted { (text tree : List ℕ) → Checks text tree checked →
         (n : ℕ) → outcome result ≡ accepted n → Counted text tree n }
 {
-    let answer = checked.answer;
-    let Answer::Value(steps) = answer else {
-        return answer;
-    };
-    if checked.met.forward != 0 {
-        return Answer::Refused(checked.met.forward);
+    let visited = checked?;
+    if let Some(refusal) = visited.met.forward {
+        return Err(refusal);
     }
-    if MAX_STEPS < steps {
-        return Answer::Refused(TOO_MANY_STEPS);
+    if MAX_STEPS < visited.steps {
+        return Err(Refusal::TooManySteps);
     }
-    answer
+    Ok(visited.steps)
 }
