@@ -54,21 +54,6 @@ same-fields fs bs f b h = go (same_list fs (cut widths (take RECORD bs))) refl
         let w : fs ≡ cut widths (take RECORD bs) = sym (cut-lay_out [] f) ∙ ap (cut widths) (append-nil (lay_out widths fs) ∙ z) in
         false-true (sym e ∙ subst (λ (s : List ℕ). same_list fs s ≡ true) w (same_refl fs))
 
--- five more that are the same in front
-pub after-five : {a b c d e a' b' c' d' e' : ℕ} (s t : List ℕ) → a ≡ a' → b ≡ b' → c ≡ c' → d ≡ d' → e ≡ e' →
-    same_list s t ≡ same_list (a ∷ b ∷ c ∷ d ∷ e ∷ s) (a' ∷ b' ∷ c' ∷ d' ∷ e' ∷ t)
-unfolding same_list
-after-five {a} {b} {c} {d} {e} {a'} {b'} {c'} {d'} {e'} s t p q r u v =
-    rw (eq-eqb a a' p, eq-eqb b b' q, eq-eqb c c' r, eq-eqb d d' u, eq-eqb e e' v)
-
-pub one_same : (x y : ℕ) → eqb x y ≡ same_list (x ∷ []) (y ∷ [])
-unfolding same_list
-one_same x y = go (eqb x y)
-  where
-    go : (b : Bool) → b ≡ b && true
-    go true = refl
-    go false = refl
-
 -- the fields of a record are all there is to cut from it
 pub all-fields : (t : List ℕ) {small first second number other count : ℕ} {family constraints set : Span} →
     small ≡ field SMALL t → first ≡ field FIRST t → second ≡ field SECOND t → number ≡ field NUMBER t → other ≡ field OTHER t →
@@ -88,3 +73,23 @@ same-record h bs f b l = same-fields (head_fields h) bs f b l
 pub counted_same : (f g : Fields) → f.count ≡ g.count → same_list (uncounted f) (uncounted g) ≡ same_list (listed f) (listed g)
 unfolding same_list
 counted_same f g e = rw (eq-eqb f.count g.count e)
+
+-- `==` at fields whose step counts are made the same: each part of the text is compared as a pair
+and-assoc : (a b c : Bool) → ((a && b) && c) ≡ (a && (b && c))
+and-assoc true b c = refl
+and-assoc false b c = refl
+
+pub same-but-count : (a b : Fields) →
+    (eqb a.small b.small && (eqb a.first b.first && (eqb a.second b.second && (eqb a.number b.number && (eqb a.other b.other
+    && ((eqb a.family.offset b.family.offset && eqb a.family.size b.family.size)
+    && ((eqb a.constraints.offset b.constraints.offset && eqb a.constraints.size b.constraints.size)
+    && ((eqb a.layer_set.offset b.layer_set.offset && eqb a.layer_set.size b.layer_set.size) && eqb b.count b.count))))))))
+    ≡ same_list (uncounted a) (uncounted b)
+unfolding same_list
+same-but-count a b =
+    rw (
+      eq-eqb b.count b.count refl,
+      and-assoc (eqb a.layer_set.offset b.layer_set.offset),
+      and-assoc (eqb a.constraints.offset b.constraints.offset),
+      and-assoc (eqb a.family.offset b.family.offset),
+    )

@@ -18,7 +18,7 @@ const NOWHERE: Span = Span { offset: 0, size: 0 };
 pub const LEAF: u64 = 1;
 
 // The fields of a record in order.
-#[derive(Drop)]
+#[derive(Drop, PartialEq, Eq)]
 pub struct Fields {
     // The kind, and of a move its tilde, layer form and whether it has constraints.
     pub small: u8,
@@ -55,44 +55,11 @@ pub fn fields_at(t: &[u8]) -> Fields
 pub fn same_fields(a: Fields, b: Fields) -> bool
     ensures { result ≡ same_list (meaning.uncounted a) (meaning.uncounted b) }
 {
-    if a.small != b.small {
-        return false;
-    }
-    if a.first != b.first {
-        return false;
-    }
-    if a.second != b.second {
-        return false;
-    }
-    if a.number != b.number {
-        return false;
-    }
-    if a.other != b.other {
-        return false;
-    }
-    same_parts(a, b)
-}
-
-// Whether two records name the same parts of the text.
-fn same_parts(a: Fields, b: Fields) -> bool
-    ensures { result ≡ same_list (drop 5 (meaning.uncounted a)) (drop 5 (meaning.uncounted b)) }
-{
-    if a.family.offset != b.family.offset {
-        return false;
-    }
-    if a.family.size != b.family.size {
-        return false;
-    }
-    if a.constraints.offset != b.constraints.offset {
-        return false;
-    }
-    if a.constraints.size != b.constraints.size {
-        return false;
-    }
-    if a.layer_set.offset != b.layer_set.offset {
-        return false;
-    }
-    a.layer_set.size == b.layer_set.size
+    let counted = Fields {
+        count: b.count,
+        ..a
+    };
+    counted == b
 }
 
 // The fields of a group.

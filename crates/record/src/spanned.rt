@@ -2,7 +2,7 @@
 // complement.
 
 // A part of the text. Both numbers have 24 bits: whoever makes a span promises so.
-#[derive(Clone, Copy)]
+#[derive(Clone, Copy, PartialEq, Eq)]
 pub struct Span {
     pub offset: u32,
     pub size: u32,
