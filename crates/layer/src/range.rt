@@ -12,6 +12,18 @@ pub struct LayerRange {
     pub max: Layer,
 }
 
+impl From<Layer> for LayerRange {
+    // The layer alone.
+    ghost from_gives = { λ layer range. (range.min ≡ layer) × (range.max ≡ layer) };
+
+    fn from(layer: Layer) -> LayerRange {
+        LayerRange {
+            min: layer,
+            max: layer,
+        }
+    }
+}
+
 impl LayerRange {
     // The range from one layer to the other, in either order.
     pub fn new(a: Layer, b: Layer) -> LayerRange
