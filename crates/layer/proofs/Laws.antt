@@ -1,19 +1,17 @@
 -- The rules for layers in the form in which the code goes through their cases. Assumes nothing.
-use Prim.Native.Nat.{ℕ, zero, suc, ◌-◌, ◌≤◌, ◌<◌, min}
-use mathlib.Core.Path.{◌≡◌, refl, sym, ap, ◌∙◌}
+use Prim.Native.Nat.{ℕ, zero, suc, ◌-◌, ◌≤◌, ◌<◌}
+use mathlib.Core.Path.{◌≡◌, refl, sym, ap}
 use mathlib.Core.Bool.{Bool, true, false, not, ◌&&◌, ◌||◌}
-use mathlib.Core.Option.{Option, none, some}
+use mathlib.Core.Option.{none, some}
 use native.Mathlib.Omega.{arith}
 use lib.Dec.{leb}
 use lib.IntN.{ℤ, pos, negsuc}
-use borrow.Author.Tests.{leb-true, leb-false, le-leb, le-ltb, lt-ltb}
+use borrow.Author.Tests.{leb-true, leb-false, le-ltb, lt-ltb}
 use Rattle.notation.specs.Basics.{pick}
 use Rattle.notation.specs.Layers as rule
 use Rattle.notation.specs.Layers.{Range, MAX-LAYER, range_between}
 use Rattle.layer.specs.Meaning as meaning
-use Rattle.layer.specs.Meaning.{layer, signed, with_sign, LayerUpTo, RangeUpTo, IsLayer, IsRange, IsSignedLayer, Each, resolve_unclamped, same_side}
-use Rattle.layer.specs.declared.signed.SignedLayer.{SignedLayer}
-use Rattle.layer.specs.declared.count.AxisLayersInfo.{AxisLayersInfo}
+use Rattle.layer.specs.Meaning.{with_sign, LayerUpTo, RangeUpTo, resolve_unclamped, same_side}
 use Rattle.layer.specs.declared.count.UnclampedLayer.{UnclampedLayer}
 use Rattle.layer.specs.declared.count.UnclampedLayer.TheVariants.{BeyondShallowest, Concrete, BeyondDeepest, Invalid}
 
@@ -24,92 +22,14 @@ positive-with negative zero h = absurd (omega arith)
 positive-with true (suc i) h = refl
 positive-with false (suc i) h = refl
 
-and-pick : {A : Type 0} (a b : Bool) (x y : A) → pick (a && b) x y ≡ pick a (pick b x y) y
-and-pick true b x y = refl
-and-pick false b x y = refl
-
 pick_same : {A : Type 0} (a : Bool) (x : A) → x ≡ pick a x x
 pick_same true x = refl
 pick_same false x = refl
 
-resolve-with : (n : ℕ) (neg negative : Bool) (i : ℕ) →
-    1 ≤ i →
-    pick (leb i n) (pick negative (pick neg (some (n - (i - 1))) none) (some i)) none
-    ≡ rule.resolve n neg (with_sign negative i)
-resolve-with n neg negative zero h = absurd (omega arith)
-resolve-with n neg true (suc i) h =
-    let same : suc i - 1 ≡ i = omega arith in
-    rw same (sym (and-pick (leb (suc i) n) neg (some (n - i)) none))
-resolve-with n neg false (suc i) h = refl
-
-module _ (l : SignedLayer) (real : IsSignedLayer l) where
-  pub positive-is : not l.negative ≡ meaning.is_positive (signed l)
-  positive-is = positive-with l.negative (layer l.layer) real.low
-
-  module _ (axis : AxisLayersInfo) where
-    -- `resolve` by the tests that the code makes
-    pub resolve-is : (found : Option ℕ) →
-        found
-        ≡ pick (leb (layer l.layer) axis.max_layer)
-        (pick l.negative
-        (pick axis.allow_negatives (some (axis.max_layer - (layer l.layer - 1))) none)
-        (some (layer l.layer)))
-        none →
-        found ≡ rule.resolve axis.max_layer axis.allow_negatives (signed l)
-    resolve-is found e =
-        e ∙ resolve-with axis.max_layer axis.allow_negatives l.negative (layer l.layer) real.low
-
--- ── one layer ──
-
-module _ (n i : ℕ) (real : IsLayer i) where
-  pub clamped-down : n < i → meaning.new_layer n ≡ meaning.clamp_layer_to_count n i
-  clamped-down h =
-      let small : leb n MAX-LAYER ≡ true = le-leb n MAX-LAYER (omega arith) in
-      let same : min i n ≡ n = omega arith in
-      rw (small, same, and-pick)
-
-  pub clamped-kept : i ≤ n → some i ≡ meaning.clamp_layer_to_count n i
-  clamped-kept h =
-      let same : min i n ≡ i = omega arith in
-      rw (le-leb 1 n (omega arith), same)
-
-  pub clamped-up-to : Each (LayerUpTo (min n MAX-LAYER)) (meaning.clamp_layer_to_count n i)
-  clamped-up-to = go (leb 1 n) refl where
-    go : (b : Bool) → leb 1 n ≡ b → Each (LayerUpTo (min n MAX-LAYER)) (pick b (some (min i n)) none)
-    go true e = let h : 1 ≤ n = leb-true 1 n e in omega arith
-    go false e = tt
-
 -- ── ranges ──
-
-pub range-is : {low high low' high' : ℕ} →
-    low ≡ low' →
-    high ≡ high' →
-    ◌≡◌ {A = Range} (record { low = low; high = high }) (record { low = low'; high = high' })
-range-is p q = rw (p, q)
 
 pub range-up-to : (n i j : ℕ) → LayerUpTo n i → LayerUpTo n j → RangeUpTo n (rule.range_of i j)
 range-up-to n i j p q = omega arith
-
-module _ (n low high : ℕ) (real : IsRange (record { low = low; high = high })) (within : low ≤ n) where
-  some-layers : leb 1 n ≡ true
-  some-layers = le-leb 1 n (omega arith)
-
-  clamped_high : (m : ℕ) → some m ≡ meaning.clamp_layer_to_count n high → m ≡ min high n
-  clamped_high m e = let f : some m ≡ some (min high n) = rw some-layers at e in cc
-
-  pub clamped-range : (m : ℕ) →
-      some m ≡ meaning.clamp_layer_to_count n high →
-      (some (record { low = low; high = m }) ≡ rule.clamp_to_layer_count n (record { low = low; high = high }))
-      × RangeUpTo (min n MAX-LAYER) (record { low = low; high = m })
-  clamped-range m e =
-      let f : m ≡ min high n = clamped_high m e in
-      (rw (le-leb low n within, f), omega arith)
-
-  pub never-empty : none ≡ meaning.clamp_layer_to_count n high → ⊥
-  never-empty e =
-      let f : none ≡ some (min high n) = rw some-layers at e in
-      let z : ◌≡◌ {A = ℕ} 0 1 = cc in
-      omega arith
 
 -- ── ranges of an axis ──
 
@@ -166,14 +86,3 @@ between_ends n neg i j {a} {b} p q = rw (sides a b, p.nearest, p.deep, p.shallow
 -- the code's range is the rule's, for every number of layers and every two ends, 0 included
 pub clamp-range : (n : ℕ) (neg : Bool) (i j : ℤ) → meaning.clamp_range n (resolve_unclamped n neg i) (resolve_unclamped n neg j) ≡ rule.resolve_range n neg i j
 clamp-range n neg i j = between_ends n neg i j (told n neg i) (told n neg j)
-
--- the same by the steps of the code
-pub clamp-range-is : (n : ℕ) (neg : Bool) (i j : ℤ) {a b : UnclampedLayer} →
-    a ≡ resolve_unclamped n neg i →
-    b ≡ resolve_unclamped n neg j →
-    {same : Bool} {p q : Option ℕ} →
-    same ≡ same_side a b →
-    p ≡ meaning.nearest n a →
-    q ≡ meaning.nearest n b →
-    pick same none (range_between p q) ≡ rule.resolve_range n neg i j
-clamp-range-is n neg i j ea eb es ep eq = rw (es, ep, eq, ea, eb) (clamp-range n neg i j)

@@ -1,17 +1,15 @@
 -- What the crate's types mean in the rules' terms, what holds of every value that the crate makes, and what its functions
 -- compute where the rules have no name for it.
-use Rattle.std.specs.Prelude.{ℕ, zero, suc, ◌≤◌, min, max, Bool, true, false, leb, ℤ, pos, negsuc, neg_ℤ}
+use Rattle.std.specs.Prelude.{ℕ, zero, suc, ◌≤◌, min, max, Bool, true, false, leb, ℤ, pos, negsuc, neg_ℤ, Some, None}
+use Rattle.std.specs.Prelude.{Option as Maybe}
 use Rattle.std.proofs.Math.Option.{Option, none, some}
 use Rattle.notation.specs.Basics.{pick, between}
 use Rattle.notation.specs.Layers as rule
 use Rattle.notation.specs.Layers.{MAX-LAYER, Range, range_between}
+pub use Rattle.layer.specs.Bounds.{LayerUpTo, IsLayer}
 use Rattle.layer.specs.declared.unsigned.Layer.{Layer}
-use Rattle.layer.specs.declared.unsigned.LayerOption.{LayerOption}
-use Rattle.layer.specs.declared.unsigned.LayerOption.TheVariants.{Some as SomeLayer, None as NoLayer}
 use Rattle.layer.specs.declared.signed.SignedLayer.{SignedLayer}
 use Rattle.layer.specs.declared.range.LayerRange.{LayerRange}
-use Rattle.layer.specs.declared.range.LayerRangeOption.{LayerRangeOption}
-use Rattle.layer.specs.declared.range.LayerRangeOption.TheVariants.{Some as SomeRange, None as NoRange}
 use Rattle.layer.specs.declared.count.UnclampedLayer.{UnclampedLayer}
 use Rattle.layer.specs.declared.count.UnclampedLayer.TheVariants.{BeyondShallowest, Concrete, BeyondDeepest, Invalid}
 
@@ -20,9 +18,9 @@ use Rattle.layer.specs.declared.count.UnclampedLayer.TheVariants.{BeyondShallowe
 abbrev pub layer : Layer → ℕ
 layer l = l.0
 
-abbrev pub layer_option : LayerOption → Option ℕ
-layer_option (SomeLayer l) = some (layer l)
-layer_option NoLayer = none
+abbrev pub layer_option : Maybe Layer → Option ℕ
+layer_option (Some l) = some (layer l)
+layer_option None = none
 
 -- `i`, or −`i`
 abbrev pub with_sign : Bool → ℕ → ℤ
@@ -34,19 +32,11 @@ signed s = with_sign s.negative (layer s.layer)
 abbrev pub range : LayerRange → Range
 range r = record { low = layer r.min; high = layer r.max }
 
-abbrev pub range_option : LayerRangeOption → Option Range
-range_option (SomeRange r) = some (range r)
-range_option NoRange = none
+abbrev pub range_option : Maybe LayerRange → Option Range
+range_option (Some r) = some (range r)
+range_option None = none
 
 -- ── what holds of the values that the crate makes ──
-
--- one of layers 1 to n
-pub record LayerUpTo (n i : ℕ) : Type 0 where
-  pub low : 1 ≤ i
-  pub high : i ≤ n
-
-abbrev pub IsLayer : ℕ → Type 0
-IsLayer i = LayerUpTo MAX-LAYER i
 
 -- some of layers 1 to n, at least one
 pub record RangeUpTo (n : ℕ) (r : Range) : Type 0 where
@@ -56,9 +46,6 @@ pub record RangeUpTo (n : ℕ) (r : Range) : Type 0 where
 
 abbrev pub IsRange : Range → Type 0
 IsRange r = RangeUpTo MAX-LAYER r
-
-abbrev pub IsSignedLayer : SignedLayer → Type 0
-IsSignedLayer s = IsLayer (layer s.layer)
 
 -- what an option holds, if anything, is as P says
 abbrev pub Each : {A : Type 0} → (A → Type 0) → Option A → Type 0

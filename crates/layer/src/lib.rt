@@ -8,6 +8,6 @@ pub mod signed;
 pub mod unsigned;
 
 pub use count::{AxisLayersInfo, UnclampedLayer};
-pub use range::{LayerRange, LayerRangeOption};
+pub use range::LayerRange;
 pub use signed::SignedLayer;
-pub use unsigned::{Layer, LayerOption};
+pub use unsigned::Layer;

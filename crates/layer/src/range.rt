@@ -1,9 +1,9 @@
 // Ranges of layers: the Rust's layer/range.rs.
-ghost use Rattle.std.specs.Prelude.{◌≡◌, min, max};
+ghost use Rattle.std.specs.Prelude.{◌≡◌, min};
 ghost use Rattle.notation.specs.Layers as rule;
 ghost use Rattle.layer.specs.Meaning as meaning;
 
-use crate::unsigned::{Layer, LayerOption};
+use crate::unsigned::Layer;
 
 // The layers from `min` to `max`, both included; `min` is not above `max`.
 #[derive(Clone, Copy)]
@@ -12,11 +12,16 @@ pub struct LayerRange {
     pub max: Layer,
 }
 
-// The Rust's `Option<LayerRange>`.
-#[derive(Drop)]
-pub enum LayerRangeOption {
-    Some(LayerRange),
-    None,
+impl From<Layer> for LayerRange {
+    // The layer alone.
+    ghost from_gives = { λ layer range. (range.min ≡ layer) × (range.max ≡ layer) };
+
+    fn from(layer: Layer) -> LayerRange {
+        LayerRange {
+            min: layer,
+            max: layer,
+        }
+    }
 }
 
 impl LayerRange {
@@ -28,39 +33,22 @@ impl LayerRange {
         ensures range { meaning.IsRange (meaning.range result) }
     {
         LayerRange {
-            min: shallower(a, b),
-            max: deeper(a, b),
+            min: a.min(b),
+            max: a.max(b),
         }
     }
 
     // The range within layers 1 to `layer_count`, or none where it lies beyond them.
-    pub fn clamp_to_layer_count(self, layer_count: u16) -> LayerRangeOption
+    pub fn clamp_to_layer_count(self, layer_count: u16) -> Option<LayerRange>
         requires { meaning.IsRange (meaning.range self) }
         ensures result_value { meaning.range_option result ≡ rule.clamp_to_layer_count layer_count (meaning.range self) }
         ensures each { meaning.Each (meaning.RangeUpTo (min layer_count rule.MAX-LAYER)) (meaning.range_option result) }
     {
-        let min = self.min;
-        let max = self.max;
+        let LayerRange { min, max } = self;
         if layer_count < min.0 {
-            return LayerRangeOption::None;
+            return None;
         }
-        match max.clamp_to_layer_count(layer_count) {
-            LayerOption::Some(max) => LayerRangeOption::Some(LayerRange { min, max }),
-            LayerOption::None => LayerRangeOption::None,
-        }
+        let max = max.clamp_to_layer_count(layer_count)?;
+        Some(LayerRange { min, max })
     }
-}
-
-// The shallower of two layers.
-fn shallower(a: Layer, b: Layer) -> Layer
-    ensures { meaning.layer result ≡ min (meaning.layer a) (meaning.layer b) }
-{
-    if a.0 <= b.0 { a } else { b }
-}
-
-// The deeper of two layers.
-fn deeper(a: Layer, b: Layer) -> Layer
-    ensures { meaning.layer result ≡ max (meaning.layer a) (meaning.layer b) }
-{
-    if a.0 <= b.0 { b } else { a }
 }

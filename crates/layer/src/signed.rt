@@ -1,6 +1,5 @@
 // Signed layer numbers: the Rust's layer/signed.rs.
-ghost use Rattle.std.specs.Prelude.{◌≡◌};
-ghost use Rattle.layer.specs.Meaning as meaning;
+ghost use Rattle.layer.specs.Bounds.{IsLayer};
 
 use crate::unsigned::Layer;
 
@@ -10,12 +9,15 @@ use crate::unsigned::Layer;
 pub struct SignedLayer {
     pub negative: bool,
     pub layer: Layer,
+    pub ghost real: { IsLayer layer.0 },
 }
 
 impl SignedLayer {
+    ghost use Rattle.std.specs.Prelude.{◌≡◌};
+    ghost use Rattle.layer.specs.Meaning as meaning;
+
     // Whether the layer is counted from the shallowest.
     pub fn is_positive(self) -> bool
-        requires { meaning.IsSignedLayer self }
         ensures { result ≡ meaning.is_positive (meaning.signed self) }
     {
         !self.negative

@@ -2,16 +2,13 @@
 use Prim.Native.Nat.{ℕ, zero, suc, ◌+◌, ◌*◌, ◌-◌, ◌≤◌, ◌<◌}
 use mathlib.Core.Path.{◌≡◌, refl, sym, ap, ◌∙◌}
 use mathlib.Core.Bool.{Bool, true, false, ◌&&◌}
-use mathlib.Core.List.{List, [], ◌∷◌, ◌++◌}
-use mathlib.Core.Option.{Option, none, some}
+use mathlib.Core.List.{List, ◌∷◌, ◌++◌}
 use native.Mathlib.Nat.{mul-div_cancel_left}
 use native.Mathlib.Omega.{arith}
 use lib.Dec.{leb}
 use lib.ListN.{length, take, drop, replicate, length-replicate}
-use lib.Seq.{sets}
 use borrow.Author.Tests.{leb-true, le-leb, lt-leb}
-use Rattle.notation.specs.Numbers.{big_endian}
-use Rattle.notation.specs.Layers.{Range, MAX-LAYER, insert, sort, join_from, join, simplified, set_ranges, others, keep}
+use Rattle.notation.specs.Layers.{Range, MAX-LAYER, set_ranges, others}
 use Rattle.notation.specs.Tree.{Layers, Span, part_of, single_layer, layer_range, layer_set}
 use Rattle.notation.specs.Meaning.{layer_set_in, or_empty}
 use Rattle.notation.specs.WellFormed.{is_some, inside, layers_ok}
@@ -26,7 +23,7 @@ use Rattle.simplify.specs.Reach.{range_from, marked_all, turned_over, Gathered}
 use Rattle.simplify.specs.Elements.{marked_set}
 use Rattle.simplify.proofs.Table.{gathers}
 use Rattle.simplify.proofs.Over.{turned-over}
-use Rattle.simplify.proofs.Sweep.{length-range_bytes, all-written, write-one}
+use Rattle.simplify.proofs.Sweep.{length-range_bytes}
 use Rattle.simplify.proofs.Few.{set-on-axis}
 
 -- ── a buffer with room, and one without ──
@@ -39,24 +36,6 @@ module _ (l found : List Range) (same : found ≡ l) (out : List ℕ) where
 
   pub refused : length out < 4 * length found → lent (Refused 5) out ≡ in_entries 4 (lend (result (range_bytes l)) out)
   refused full = rw (← same, length-range_bytes found, lt-leb (4 * length found) (length out) full)
-
--- ── at most one range ──
-
-pub one-range : (r : Range) (o : Option Range) → some r ≡ o → r ∷ [] ≡ simplified (keep o [])
-unfolding insert sort join_from join
-one-range r o e = rw (← e)
-
-pub no-range : (o : Option Range) → none ≡ o → [] ≡ simplified (keep o [])
-unfolding sort join
-no-range o e = rw (← e)
-
-pub nothing_written : (out : List ℕ) → out ≡ range_bytes [] ++ drop 0 out
-unfolding range_bytes
-nothing_written out = refl
-
-pub range-written : (out out' : List ℕ) (r : Range) → 4 ≤ length out → out' ≡ sets out 0 (big_endian 2 r.low ++ big_endian 2 r.high) →
-    out' ≡ range_bytes (r ∷ []) ++ drop 4 out
-range-written out out' r room e = e ∙ write-one out 0 r room ∙ all-written out (r ∷ [])
 
 -- ── the table of a set ──
 

@@ -6,7 +6,6 @@ use mathlib.Core.List.{List, [], ◌∷◌, ◌++◌}
 use mathlib.Core.Option.{none, some}
 use native.Mathlib.Omega.{arith}
 use lib.Dec.{leb}
-use lib.ListN.{length}
 use borrow.Author.Tests.{leb-true, leb-false, le-leb, lt-leb}
 use Rattle.notation.specs.Basics.{pick, between}
 use Rattle.notation.specs.Layers.{Range, contains, complement, clamp_to_layer_count, keep}
@@ -31,12 +30,6 @@ both-have : (a b : List Range) (i : ℕ) → contains (a ++ b) i ≡ (contains a
 unfolding contains
 both-have [] b i = refl
 both-have (r ∷ a) b i = rw (both-have a b i) (sym (or_assoc (between r.low r.high i) (contains a i) (contains b i)))
-
-pub few-some : (low high : ℕ) → length (some_from low high) ≤ 1
-few-some low high = go (leb low high) where
-  go : (t : Bool) → length (pick t (range_from low high ∷ []) []) ≤ 1
-  go true = omega arith
-  go false = omega arith
 
 some-apart : (k low high : ℕ) → (low ≤ high → k ≤ low) → Apart k (some_from low high)
 some-apart k low high h = go (leb low high) refl where
@@ -67,16 +60,9 @@ module _ (low high n : ℕ) (real : IsRange (range_from low high)) where
     go true e = or-false (between low (min high n) i) ∙ ap (λ (t : Bool). leb low i && t) (cut (leb i high) refl)
     go false e = sym (below low high i (omega (arith, leb-false low n e)))
 
-  module _ (before : ℕ) (e : before ≡ pick (leb low n) (low - 1) n) where
-    -- where the layers before it end
-    ends : (P : ℕ → Type 0) → (low ≤ n → P (low - 1)) → (n < low → P n) → P before
-    ends P p q = rw e (go (leb low n) refl) where
-      go : (t : Bool) → leb low n ≡ t → P (pick t (low - 1) n)
-      go true f = p (leb-true low n f)
-      go false f = q (leb-false low n f)
-
+  module _ (before : ℕ) (e : before ≡ min n (low - 1)) where
     short : before ≤ n
-    short = ends (λ k. k ≤ n) (λ h. omega arith) (λ h. omega arith)
+    short = omega (arith, e)
 
     beside-have : (i : ℕ) → contains (some_from 1 before ++ some_from (high + 1) n) i ≡ (between 1 before i || between (high + 1) n i)
     beside-have i = both-have (some_from 1 before) (some_from (high + 1) n) i ∙ rw (some-has 1 before i, some-has (high + 1) n i)
@@ -84,17 +70,17 @@ module _ (low high n : ℕ) (real : IsRange (range_from low high)) where
     beside : (i : ℕ) → 1 ≤ i → i ≤ n → (between 1 before i || between (high + 1) n i) ≡ not (between low high i)
     beside i p q = go (leb low i) (leb i high) refl refl where
       past : low ≤ i → before < i
-      past h = ends (λ k. k < i) (λ m. omega (arith, real.low)) (λ m. omega arith)
+      past h = omega (arith, e, real.low)
 
       go : (t u : Bool) → leb low i ≡ t → leb i high ≡ u → (between 1 before i || between (high + 1) n i) ≡ not (t && u)
       go true true f g = rw (above 1 before i (past (leb-true low i f)), below (high + 1) n i (omega (arith, leb-true i high g)))
       go true false f g = rw (above 1 before i (past (leb-true low i f)), has (range_from (high + 1) n) i (omega (arith, leb-false i high g)) q)
-      go false u f g = rw (has (range_from 1 before) i p (ends (λ k. i ≤ k) (λ m. omega (arith, leb-false low i f)) (λ m. q)))
+      go false u f g = rw (has (range_from 1 before) i p (omega (arith, e, leb-false low i f)))
 
     pub around : some_from 1 before ++ some_from (high + 1) n ≡ complement n (keep (clamp_to_layer_count n (range_from low high)) [])
     around =
         sym (complement-is n kept (some_from 1 before ++ some_from (high + 1) n)
-        (two-apart before (high + 1) n (λ h. ends (λ k. k + 2 ≤ high + 1) (λ m. omega (arith, real.low, real.ordered)) (λ m. omega (arith, real.ordered))) (omega arith))
+        (two-apart before (high + 1) n (λ h. omega (arith, e, real.low, real.ordered)) (omega arith))
         (λ i p q. beside-have i ∙ beside i p q ∙ ap not (sym (kept-has i q)))
         (λ i p. beside-have i ∙ rw (below 1 before i p, below (high + 1) n i (omega arith)))
         (λ i p. beside-have i ∙ rw (above 1 before i (omega (arith, short)), above (high + 1) n i p)))

@@ -1,4 +1,4 @@
--- The range of an element by the steps of the code. Assumes nothing.
+-- The ranges of a set are ranges of the axis. Assumes nothing.
 use Prim.Native.Nat.{ℕ, suc, ◌-◌, ◌≤◌, max}
 use mathlib.Core.Path.{◌≡◌, refl}
 use mathlib.Core.Bool.{Bool, true, false, ◌&&◌, ◌||◌}
@@ -11,34 +11,13 @@ use borrow.Author.Tests.{leb-true}
 use Rattle.notation.specs.Basics.{pick, every}
 use Rattle.notation.specs.Layers as rule
 use Rattle.notation.specs.Layers.{LayerSetElement, single, range, Range, alone, keep}
-use Rattle.numbers.specs.Sign.{is_negative}
-use Rattle.layer.specs.Meaning.{IsLayer, LayerUpTo, RangeUpTo, Each, with_sign}
+use Rattle.layer.specs.Meaning.{IsLayer, LayerUpTo, RangeUpTo, Each}
 use Rattle.layer.proofs.Laws.{range-up-to}
 use Rattle.laws.proofs.Bools.{and_left, and_right}
 use Rattle.laws.proofs.InRange.{element_in_range}
 use Rattle.complement_laws.proofs.Sorted.{All, nothing, ◌and◌}
 use Rattle.simplify.proofs.SetElements.{layer-numbers}
 use Rattle.simplify.specs.Elements.{IsElement}
-
-pub sign-and-magnitude : (z : ℤ) (negative : Bool) (i : ℕ) → negative ≡ is_negative z → i ≡ nat_abs z → with_sign negative i ≡ z
-sign-and-magnitude (pos n) negative i p q = rw (p, q)
-sign-and-magnitude (negsuc n) negative i p q = rw (p, q)
-
--- the element is named by an equation, as a `match` gives it
-module _ (n : ℕ) (neg : Bool) (e : LayerSetElement) where
-  pub single-range : (i z : ℤ) (found : Option ℕ) → e ≡ single i → z ≡ i → found ≡ rule.resolve n neg z → alone found ≡ rule.element_range n neg e
-  single-range i z found p q r = rw (p, r, q)
-
-  pub range-range : (i j a b : ℤ) (found : Option Range) → e ≡ range i j → a ≡ i → b ≡ j → found ≡ rule.resolve_range n neg a b → found ≡ rule.element_range n neg e
-  range-range i j a b found p q r f = rw (p, f, q, r)
-
-pub single-is : (i : ℤ) {e : LayerSetElement} → e ≡ single i → IsElement e → IsLayer (nat_abs i)
-single-is i p h = rw p at h
-
-pub range-is : (i j : ℤ) {e : LayerSetElement} → e ≡ range i j → IsElement e → IsLayer (nat_abs i) × IsLayer (nat_abs j)
-range-is i j p h = rw p at h
-
--- ── the ranges of a set are ranges of the axis ──
 
 module _ (n : ℕ) (neg : Bool) where
   resolved : (i : ℤ) → IsLayer (nat_abs i) → Each (LayerUpTo n) (rule.resolve n neg i)

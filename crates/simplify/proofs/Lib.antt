@@ -6,7 +6,7 @@ pub mod Over
 pub mod Sweep
 -- A walk over a layer set meets its elements.
 pub mod SetElements
--- What each of them marks.
+-- They give ranges of the axis.
 pub mod ElementRanges
 -- The layers beside one range.
 pub mod Beside
@@ -14,3 +14,5 @@ pub mod Beside
 pub mod Few
 -- What is answered.
 pub mod Answers
+-- A range, if there is one, as a list.
+pub mod Listed

@@ -1,30 +1,22 @@
 -- The runs of a table as a walk over it meets them: entry by entry, and as bytes. Assumes nothing.
 use Prim.Native.Nat.{ℕ, zero, suc, ◌+◌, ◌*◌, ◌≤◌, ◌<◌, min, max}
 use mathlib.Core.Path.{◌≡◌, refl, sym, ap, ◌∙◌}
-use mathlib.Core.Bool.{Bool, true, false}
+use mathlib.Core.Bool.{Bool, true, false, not}
 use mathlib.Core.List.{List, [], ◌∷◌, ◌++◌, append_assoc}
 use native.Mathlib.Omega.{arith}
 use native.Mathlib.Numerals.{add-one}
 use lib.Dec.{eqb, leb}
-use lib.ListN.{length, take, drop, get_or, set, drop_of_length-le, length-append, take-append-drop}
-use lib.Seq.{drop-cons, set-get_or, sets, sets-eq, take_at, drop-append-add, drop-drop, length-take-le}
-use borrow.Author.Tests.{eqb-true, eqb-false, ne_eqb, le-leb, lt-leb}
-use Rattle.notation.specs.Basics.{pick}
-use Rattle.notation.specs.Layers.{Range, join_from, join}
+use lib.ListN.{length, take, drop, get_or, drop_of_length-le, length-append, length-drop, take-append-drop}
+use lib.Seq.{get_or-drop, drop-cons, sets, sets-eq, take_at, drop-append-add, drop-drop, length-take-le}
+use borrow.Author.Tests.{ltb-true, ltb-false, eqb-true, eqb-false, ne_eqb, le-leb, lt-leb}
+use Rattle.std.specs.Prelude.{nat_eq, nat_lt, cond, Some, None, position}
+use Rattle.std.specs.List.{position_or_len}
+use Rattle.notation.specs.Basics.{pick, choose}
+use Rattle.notation.specs.Layers.{Range, touching, joined, join_from, join}
 use Rattle.notation.specs.Numbers.{big_endian, digits}
 use Rattle.notation.specs.Entries.{range_bytes}
 use Rattle.numbers.proofs.BigEndian.{length-big_endian, sets-append}
-use Rattle.simplify.specs.Reach.{range_from, ranges, runs_from, Reaches, IsRun, IsNextStart, written}
-
--- ── a mark ──
-
-pub marks : (s : List ℕ) (i high : ℕ) → get_or s i 0 < high → set s i high ≡ set s i (max (get_or s i 0) high)
-marks s i high h = ap (set s i) (let e : high ≡ max (get_or s i 0) high = omega arith in e)
-
-pub marks-nothing : (s : List ℕ) (i high : ℕ) → high ≤ get_or s i 0 → s ≡ set s i (max (get_or s i 0) high)
-marks-nothing s i high h =
-    let e : max (get_or s i 0) high ≡ get_or s i 0 = omega arith in
-    rw (e, set-get_or)
+use Rattle.simplify.specs.Reach.{range_from, ranges, runs_from, Reaches, IsNextStart, written}
 
 pub positive : (x : ℕ) → (x ≡ 0 → ⊥) → 0 < x
 positive zero h = absurd (h refl)
@@ -43,6 +35,64 @@ module _ (s : List ℕ) (i : ℕ) (inside : i < length s) where
 
   pub skipped : get_or s i 0 ≡ 0 → runs_from s i ≡ runs_from s (i + 1)
   skipped e = ap join (none-starts e)
+
+-- ── where the next range begins ──
+
+-- how many entries stand before the first at which one does
+abbrev pub idle : List ℕ → ℕ
+idle reach = position_or_len (λ far. not (nat_eq far 0)) reach
+
+passed : (i : ℕ) (s : List ℕ) → ranges i s ≡ ranges (i + idle s) (drop (idle s) s)
+unfolding ranges
+passed i [] = refl
+passed i (zero ∷ s) =
+    let one : 1 + idle s ≡ suc (idle s) = omega arith in
+    let e : i + suc (idle s) ≡ suc i + idle s = omega arith in
+    rw (one, e) (passed (suc i) s)
+passed i (suc far ∷ s) =
+    let here : idle (suc far ∷ s) ≡ 0 = rw (ne_eqb (suc far) 0 (λ h. omega arith)) in
+    let e : i + 0 ≡ i = omega arith in
+    rw (here, e)
+
+begins : (s : List ℕ) → idle s < length s → 0 < get_or s (idle s) 0
+begins [] h = absurd (omega arith)
+begins (zero ∷ s) h = let one : 1 + idle s ≡ suc (idle s) = omega arith in rw one (begins s (omega (arith, one)))
+begins (suc far ∷ s) h = let some-far : 0 < suc far = omega arith in rw (ne_eqb (suc far) 0 (λ h. omega arith)) some-far
+
+-- the place that a search finds
+found : (s : List ℕ) (k : ℕ) → Some k ≡ position (λ far. not (nat_eq far 0)) s → (k ≡ idle s) × (idle s < length s)
+found s k e = go (nat_lt (idle s) (length s)) refl e where
+  some-none : Some k ≡ None → ⊥
+  some-none e = cc
+
+  go : (t : Bool) → nat_lt (idle s) (length s) ≡ t → Some k ≡ cond t (Some (idle s)) None → (k ≡ idle s) × (idle s < length s)
+  go true f e = (cc, ltb-true (idle s) (length s) f)
+  go false f e = absurd (some-none e)
+
+none-found : (s : List ℕ) → None ≡ position (λ far. not (nat_eq far 0)) s → length s ≤ idle s
+none-found s e = go (nat_lt (idle s) (length s)) refl e where
+  none-some : None ≡ Some (idle s) → ⊥
+  none-some e = cc
+
+  go : (t : Bool) → nat_lt (idle s) (length s) ≡ t → None ≡ cond t (Some (idle s)) None → length s ≤ idle s
+  go true f e = absurd (none-some e)
+  go false f e = ltb-false (idle s) (length s) f
+
+module _ (s rest : List ℕ) (at : ℕ) (e : rest ≡ drop at s) where
+  pub next-starts : (k : ℕ) → Some k ≡ position (λ far. not (nat_eq far 0)) rest → IsNextStart s at (at + k)
+  next-starts k f =
+      let h = found (drop at s) k (rw e at f) in
+      let inside : at + k < length s = omega (arith, h.0, h.1, length-drop at s) in
+      record {
+        later = omega arith;
+        same = ap join (passed at (drop at s) ∙ rw (← h.0, drop-drop k at s));
+        inside = inside;
+        starts = rw (← get_or-drop at s k 0, h.0) (begins (drop at s) h.1);
+      }
+
+  pub none-start : None ≡ position (λ far. not (nat_eq far 0)) rest → runs_from s at ≡ []
+  unfolding ranges join
+  none-start f = ap join (passed at (drop at s)) ∙ rw (drop_of_length-le (drop at s) (none-found (drop at s) (rw e at f)))
 
 -- a run from `low` that reaches to `high` so far, and the entries from i on
 abbrev pub open-run : List ℕ → ℕ → ℕ → ℕ → List Range
@@ -89,13 +139,36 @@ module _ (s : List ℕ) (low high i : ℕ) where
   unfolding ranges join_from join
   ends-with-table h k = rw (drop_of_length-le s k, drop_of_length-le s (let m : length s ≤ high + 2 = omega arith in m))
 
--- the first run and the place where the next one begins
-pub next-run : (s : List ℕ) (low high next : ℕ) → IsRun s low high → IsNextStart s (high + 2) next → runs_from s low ≡ range_from low high ∷ runs_from s next
-next-run s low high next r n = r.run ∙ ap (◌∷◌ (range_from low high)) n.same
-
 pub no-runs : (s : List ℕ) (i : ℕ) → length s ≤ i → runs_from s i ≡ []
 unfolding ranges join
 no-runs s i h = rw (drop_of_length-le s h)
+
+-- each run begins at an entry of its own
+join-shorter : (r : Range) (l : List Range) → length (join_from r l) ≤ suc (length l)
+unfolding join_from
+join-shorter r [] = omega arith
+join-shorter r (a ∷ l) = go (touching r a) (join-shorter (joined r a) l) (join-shorter a l) where
+  go : (t : Bool) →
+      length (join_from (joined r a) l) ≤ suc (length l) →
+      length (join_from a l) ≤ suc (length l) →
+      length (choose t (λ _. join_from (joined r a) l) (λ _. r ∷ join_from a l)) ≤ suc (suc (length l))
+  go true h k = omega (arith, h)
+  go false h k = omega (arith, k)
+
+ranges-shorter : (i : ℕ) (s : List ℕ) → length (ranges i s) ≤ length s
+unfolding ranges
+ranges-shorter i [] = omega arith
+ranges-shorter i (far ∷ s) = go (eqb far 0) (ranges-shorter (suc i) s) where
+  go : (t : Bool) → length (ranges (suc i) s) ≤ length s → length (pick t (ranges (suc i) s) (range_from i far ∷ ranges (suc i) s)) ≤ suc (length s)
+  go true h = omega (arith, h)
+  go false h = omega (arith, h)
+
+pub runs-shorter : (s : List ℕ) (i : ℕ) → length (runs_from s i) ≤ length s
+unfolding join
+runs-shorter s i = go (ranges i (drop i s)) (ranges-shorter i (drop i s)) where
+  go : (l : List Range) → length l ≤ length (drop i s) → length (join l) ≤ length s
+  go [] h = omega arith
+  go (r ∷ l) h = omega (arith, h, join-shorter r l, length-drop i s)
 
 -- ── as bytes ──
 

@@ -30,6 +30,10 @@ marked_set n neg es reach = marked_all (set_ranges n neg es) reach
 abbrev pub lit_set : ℕ → Bool → (inverted : Bool) → List ℕ → List Range
 lit_set n neg inverted part = lit n inverted (set_ranges n neg (or_empty (layer_set_in part)))
 
--- the answer for some ranges: simplified, and lent as entries of four bytes
+-- the answer for ranges as they stand: lent as entries of four bytes
+abbrev pub Gives : List Range → Answer → List ℕ → List ℕ → Type 0
+Gives l answer after before = lent answer after ≡ in_entries 4 (lend (result (range_bytes l)) before)
+
+-- the answer for some ranges: simplified
 abbrev pub GivesRanges : List Range → Answer → List ℕ → List ℕ → Type 0
-GivesRanges l answer after before = lent answer after ≡ in_entries 4 (lend (result (range_bytes (simplified l))) before)
+GivesRanges l answer after before = Gives (simplified l) answer after before

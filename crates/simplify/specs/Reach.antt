@@ -1,8 +1,10 @@
 -- The table that the ranges of a set are gathered in: entry i is how far the ranges reach that begin at layer i, 0 where none does.
-use Rattle.std.specs.Prelude.{ℕ, suc, ◌+◌, ◌*◌, ◌≤◌, ◌<◌, max, ◌≡◌, List, [], ◌∷◌, ◌++◌, eqb, leb, length, take, drop, get_or, set}
+use Rattle.std.specs.Prelude.{ℕ, suc, ◌+◌, ◌*◌, ◌≤◌, ◌<◌, max, ◌≡◌, List, [], ◌∷◌, ◌++◌, eqb, leb, length, take, drop, get_or, set, Option, Some, None, MatchOption}
 use Rattle.notation.specs.Basics.{pick}
 use Rattle.notation.specs.Layers.{Range, join, simplified}
 use Rattle.notation.specs.Entries.{range_bytes}
+use Rattle.layer.specs.declared.range.LayerRange.{LayerRange}
+use Rattle.layer.specs.Meaning.{range}
 
 abbrev pub range_from : ℕ → ℕ → Range
 range_from low high = record { low = low; high = high }
@@ -29,11 +31,16 @@ runs_from reach i = join (ranges i (drop i reach))
 pub record Reaches (reach : List ℕ) : Type 0 where
   pub far : (i : ℕ) → 0 < get_or reach i 0 → i ≤ get_or reach i 0
 
--- no range begins from one place on up to the other, and if the other is in the table one begins there
+-- no range begins from one place on up to the other, and there one does
 pub record IsNextStart (reach : List ℕ) (at next : ℕ) : Type 0 where
   pub later : at ≤ next
   pub same : runs_from reach at ≡ runs_from reach next
-  pub starts : next < length reach → 0 < get_or reach next 0
+  pub inside : next < length reach
+  pub starts : 0 < get_or reach next 0
+
+-- the next place from one on where a range begins, or none where none does
+abbrev pub NextStart : List ℕ → (at : ℕ) → Option ℕ → Type 0
+NextStart reach at found = MatchOption found (runs_from reach at ≡ []) (λ next. IsNextStart reach at next)
 
 -- the first run from `low` on goes from there to `high`, and the next begins beyond the layer after it
 pub record IsRun (reach : List ℕ) (low high : ℕ) : Type 0 where
@@ -51,6 +58,11 @@ pub record Gathered (n : ℕ) (l : List Range) (reach : List ℕ) : Type 0 where
 unfoldable pub turned_over : (far i : ℕ) → List ℕ → List ℕ
 turned_over far i [] = []
 turned_over far i (high ∷ reach) = pick (leb i (max far high)) 0 i ∷ turned_over (max far high) (suc i) reach
+
+-- a range, if there is one
+abbrev pub listed : Option LayerRange → List Range
+listed (Some r) = range r ∷ []
+listed None = []
 
 -- the layers from `low` to `high`, if there are such layers
 abbrev pub some_from : ℕ → ℕ → List Range

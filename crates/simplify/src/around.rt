@@ -1,50 +1,89 @@
-// The layers that one range leaves over, those before it and those after it: what a tilde makes of a prefix that is no
-// set. It needs no table.
-ghost use Rattle.std.specs.Prelude.{◌≡◌, [], ◌+◌, ◌*◌, ◌≤◌, length};
+// Prefixes that are no set: they give at most one range, and with a tilde the layers before it and those after it. None of
+// these needs a table.
+ghost use Rattle.std.specs.Prelude.{◌≡◌, ◌++◌, ◌+◌, ◌*◌, ◌≤◌, [], length};
 ghost use Rattle.notation.specs.Layers as rule;
 ghost use Rattle.layer.specs.Meaning as meaning;
 ghost use Rattle.simplify.specs.Reach as table;
 ghost use Rattle.simplify.specs.Elements as elements;
 
 use crate::reach::write_range;
+use layer::{Layer, LayerRange};
 use notation::answer::Answer;
 use notation::limits::RANGE;
 use notation::refusals::NO_ROOM;
 
-// How many ranges the layers from `low` to `high` are: one, or none where there are no such layers.
-fn count_some(low: u16, high: u16) -> usize
-    ensures { result ≡ length (table.some_from low high) }
-{
-    if low <= high { 1 } else { 0 }
-}
-
-// Writes that range, if there is one, over the bytes from `at` on. Where the next one goes.
-fn write_some(out: &mut [u8], at: usize, low: u16, high: u16) -> usize
-    requires { at + 4 * length (table.some_from low high) ≤ length out.old }
-    ensures out_after { out.new ≡ table.written out.old at (table.some_from low high) }
-    ensures value { result ≡ at + 4 * length (table.some_from low high) }
+// The layers from `low` to `high`, if there are such layers.
+fn some_range(low: u16, high: u16) -> Option<LayerRange>
+    ensures { table.listed result ≡ table.some_from low high }
 {
     if high < low {
-        return at;
+        return None;
     }
-    write_range(out, at, low, high);
+    Some(LayerRange {
+        min: Layer(low),
+        max: Layer(high),
+    })
+}
+
+// Writes a range, if there is one, over the bytes from `at` on. Where the next one goes.
+fn write_some(out: &mut [u8], at: usize, range: Option<LayerRange>) -> usize
+    requires { at + 4 * length (table.listed range) ≤ length out.old }
+    ensures out_after { out.new ≡ table.written out.old at (table.listed range) }
+    ensures value { result ≡ at + 4 * length (table.listed range) }
+{
+    let Some(range) = range else {
+        return at;
+    };
+    write_range(out, at, range);
     at + RANGE
 }
 
-// The layers of the axis without those from `low` to `high`.
-pub fn simplify_around(low: u16, high: u16, max_layer: u16, out: &mut [u8]) -> Answer
-    requires range { meaning.IsRange (table.range_from low high) }
-    requires layer { meaning.IsLayer max_layer }
-    ensures { elements.GivesRanges
-        (rule.others max_layer (rule.keep (rule.clamp_to_layer_count max_layer (table.range_from low high)) [])) result
-        out.new out.old }
+// Answers the ranges of two, either of which may be none.
+fn answer_both(first: Option<LayerRange>, second: Option<LayerRange>, out: &mut [u8]) -> Answer
+    ensures { elements.Gives (table.listed first ++ table.listed second) result out.new out.old }
 {
-    let before = if low <= max_layer { low - 1 } else { max_layer };
-    let ranges = count_some(1, before) + count_some(high + 1, max_layer);
+    let ranges = first.is_some() as usize + second.is_some() as usize;
     if out.len() / RANGE < ranges {
         return Answer::Refused(NO_ROOM);
     }
-    let at = write_some(out, 0, 1, before);
-    write_some(out, at, high + 1, max_layer);
+    let at = write_some(out, 0, first);
+    write_some(out, at, second);
     Answer::Value(ranges as u64)
+}
+
+// The layers of the range as far as the axis has them.
+fn simplify_range(range: LayerRange, max_layer: u16, out: &mut [u8]) -> Answer
+    requires { meaning.IsRange (meaning.range range) }
+    ensures { elements.GivesRanges (rule.keep (rule.clamp_to_layer_count max_layer (meaning.range range)) []) result
+        out.new out.old }
+{
+    answer_both(range.clamp_to_layer_count(max_layer), None, out)
+}
+
+// The layers of the axis without those of the range.
+fn simplify_around(range: LayerRange, max_layer: u16, out: &mut [u8]) -> Answer
+    requires range { meaning.IsRange (meaning.range range) }
+    requires layer { meaning.IsLayer max_layer }
+    ensures { elements.GivesRanges
+        (rule.others max_layer (rule.keep (rule.clamp_to_layer_count max_layer (meaning.range range)) [])) result
+        out.new out.old }
+{
+    let before = some_range(1, max_layer.min(range.min.0 - 1));
+    let after = some_range(range.max.0 + 1, max_layer);
+    answer_both(before, after, out)
+}
+
+// Simplifies a prefix that is no set, with a tilde before it or without one.
+pub fn simplify_no_set(range: LayerRange, inverted: bool, max_layer: u16, out: &mut [u8]) -> Answer
+    requires range { meaning.IsRange (meaning.range range) }
+    requires layer { meaning.IsLayer max_layer }
+    ensures { elements.GivesRanges
+        (rule.lit max_layer inverted (rule.keep (rule.clamp_to_layer_count max_layer (meaning.range range)) [])) result
+        out.new out.old }
+{
+    if inverted {
+        simplify_around(range, max_layer, out)
+    } else {
+        simplify_range(range, max_layer, out)
+    }
 }

@@ -1,13 +1,13 @@
 // The table that the ranges of a layer set are gathered in: entry i is how far the ranges reach that begin at layer i, 0
 // where none does. The index sorts the ranges, and of those that begin at one layer only the longest counts.
-ghost use Rattle.std.specs.Prelude.{◌≡◌, ◌++◌, ◌+◌, ◌*◌, ◌≤◌, ◌<◌, length, drop, get_or};
+ghost use Rattle.std.specs.Prelude.{◌≡◌, not, ◌==◌, ◌++◌, ◌+◌, ◌*◌, ◌≤◌, ◌<◌, length, drop, get_or, position};
 ghost use Rattle.std.proofs.lemmas.List.Edits.{sets};
 ghost use Rattle.notation.specs.Numbers.{big_endian};
 ghost use Rattle.notation.specs.Entries.{range_bytes};
 ghost use Rattle.layer.specs.Meaning as meaning;
 ghost use Rattle.simplify.specs.Reach as table;
 
-use layer::LayerRange;
+use layer::{Layer, LayerRange};
 use notation::limits::RANGE;
 use numbers::big_endian::write_u16;
 
@@ -17,10 +17,7 @@ pub fn mark(reach: &mut [u16], range: LayerRange)
     ensures { reach.new ≡ table.marked (meaning.range range) reach.old }
 {
     let low = range.min.0 as usize;
-    let high = range.max.0;
-    if reach[low] < high {
-        reach[low] = high;
-    }
+    reach[low] = reach[low].max(range.max.0);
 }
 
 // Turns the table over: each layer that no range has becomes a range of its own, and no other layer begins one.
@@ -30,29 +27,25 @@ pub fn turn_over(reach: &mut [u16])
 {
     // How far the ranges reach that begin at layer i or before it.
     let mut far: u16 = 0;
-    let mut i: usize = 0;
-    while i < reach.len() {
-        let high = reach[i];
-        if far < high {
-            far = high;
-        }
-        reach[i] = if (far as usize) < i { i as u16 } else { 0 };
-        i += 1;
+    for (i, entry) in reach.iter_mut().enumerate() {
+        far = far.max(*entry);
+        *entry = if (far as usize) < i { i as u16 } else { 0 };
     }
 }
 
-// The first layer from `at` on where a range begins, or one beyond the table.
-fn next_start(reach: &[u16], at: usize) -> usize
-    ensures { table.IsNextStart reach.now at result }
+// How many entries stand before the first at which a range begins.
+fn before_start(reach: &[u16]) -> Option<usize>
+    ensures { result ≡ position (λ far. not (far == 0)) reach.now }
 {
-    let mut i = at;
-    while i < reach.len() {
-        if reach[i] != 0 {
-            return i;
-        }
-        i += 1;
-    }
-    i
+    reach.iter().position(|far| *far != 0)
+}
+
+// The first layer from `at` on where a range begins.
+fn next_start(reach: &[u16], at: usize) -> Option<usize>
+    ensures { table.NextStart reach.now at result }
+{
+    let rest = reach.get(at..)?;
+    Some(at + before_start(rest)?)
 }
 
 // The last layer of the run that begins at `low`. The layer after it belongs to no range.
@@ -62,18 +55,53 @@ fn run_end(reach: &[u16], low: usize) -> u16
     ensures { table.IsRun reach.now low result }
 {
     let mut high = reach[low];
-    let mut i = low + 1;
-    while i < reach.len() {
+    for i in low + 1..reach.len() {
         if (high as usize) + 1 < i {
             return high;
         }
-        let far = reach[i];
-        if high < far {
-            high = far;
-        }
-        i += 1;
+        high = high.max(reach[i]);
     }
     high
+}
+
+// The runs of a table, by depth.
+#[derive(Clone, Copy)]
+pub struct Runs<'a> {
+    reach: &'a [u16],
+    // Where the next run is looked for.
+    at: usize,
+    ghost reaches: { table.Reaches reach.now },
+}
+
+impl<'a> Runs<'a> {
+    // All the runs.
+    pub fn new(reach: &'a [u16]) -> Runs<'a>
+        requires { table.Reaches reach.now }
+        ensures table { result.reach.now ≡ reach.now }
+        ensures start { result.at ≡ 0 }
+    {
+        Runs { reach, at: 0 }
+    }
+}
+
+impl<'a> Iterator for Runs<'a> {
+    ghost use Rattle.std.specs.Iterator.{YieldsFirstBy, item_count};
+
+    type Item = LayerRange;
+
+    ghost next_gives = { YieldsFirstBy meaning.range (λ runs. table.runs_from runs.reach.now runs.at) };
+
+    ghost remaining = { item_count (λ runs. table.runs_from runs.reach.now runs.at) };
+
+    fn next(&mut self) -> Option<LayerRange> {
+        let low = next_start(self.reach, self.at)?;
+        let high = run_end(self.reach, low);
+        self.at = high as usize + 2;
+        Some(LayerRange {
+            min: Layer(low as u16),
+            max: Layer(high),
+        })
+    }
 }
 
 // How many runs there are.
@@ -81,40 +109,27 @@ pub fn count_runs(reach: &[u16]) -> usize
     requires { table.Reaches reach.now }
     ensures { result ≡ length (table.runs_from reach.now 0) }
 {
-    let mut runs: usize = 0;
-    let mut low = next_start(reach, 0);
-    while low < reach.len() {
-        let high = run_end(reach, low);
-        runs += 1;
-        low = next_start(reach, high as usize + 2);
-    }
-    runs
+    Runs::new(reach).count()
 }
 
 // Writes a range over the four bytes from `at` on.
-pub fn write_range(out: &mut [u8], at: usize, low: u16, high: u16)
+pub fn write_range(out: &mut [u8], at: usize, range: LayerRange)
     requires { at + 4 ≤ length out.old }
-    ensures { out.new ≡ sets out.old at (big_endian 2 low ++ big_endian 2 high) }
+    ensures { out.new ≡ sets out.old at (big_endian 2 range.min.0 ++ big_endian 2 range.max.0) }
 {
-    write_u16(out, at, low);
-    write_u16(out, at + 2, high);
+    write_u16(out, at, range.min.0);
+    write_u16(out, at + 2, range.max.0);
 }
 
 // Writes the runs one after another.
 pub fn write_runs(reach: &[u16], out: &mut [u8])
     requires reaches { table.Reaches reach.now }
-    requires reach_len_bound { length reach.now ≤ 65536 }
     requires reach_in_bounds { 4 * length (table.runs_from reach.now 0) ≤ length out.old }
     ensures { out.new
         ≡ range_bytes (table.runs_from reach.now 0) ++ drop (4 * length (table.runs_from reach.now 0))
         out.old }
 {
-    let mut at: usize = 0;
-    let mut low = next_start(reach, 0);
-    while low < reach.len() {
-        let high = run_end(reach, low);
-        write_range(out, at, low as u16, high);
-        at += RANGE;
-        low = next_start(reach, high as usize + 2);
+    for (k, run) in Runs::new(reach).enumerate() {
+        write_range(out, RANGE * k, run);
     }
 }

@@ -14,26 +14,28 @@ ghost use Rattle.parse.specs.Meaning.{layer_set_element_of, end_reading};
 ghost use Rattle.simplify.specs.Reach as table;
 ghost use Rattle.simplify.specs.Elements as elements;
 
-use crate::around::simplify_around;
-use crate::reach::{count_runs, mark, turn_over, write_range, write_runs};
+use crate::around::simplify_no_set;
+use crate::reach::{count_runs, mark, turn_over, write_runs};
 use charsets::whitespace_end;
-use layer::{AxisLayersInfo, Layer, LayerOption, LayerRange, LayerRangeOption, SignedLayer};
+use layer::{AxisLayersInfo, Layer, LayerRange, SignedLayer};
 use notation::answer::Answer;
-use notation::limits::RANGE;
+use notation::limits::{MAX_LAYER, RANGE};
 use notation::refusals::NO_ROOM;
 use numbers::signed::{is_negative, magnitude};
 use parse::layer_set_element;
 use parse::parts::{LayerSetElement, LayerSetElementAnswer, Taken};
 use record::spanned::LayerPrefixContents;
 
-// Axes with fewer layers than this have a small table: clearing the large one costs more than all the rest.
-const FEW_LAYERS: u16 = 128;
+// The entries of the table of an axis with few layers: clearing the large one costs more than all the rest.
+const FEW_LAYERS: usize = 128;
+
+// The entries of the table of any axis.
+const ALL_LAYERS: usize = MAX_LAYER as usize + 1;
 
 // The layer that 32 bits of a signed number name.
 fn signed_layer(bits: u32) -> SignedLayer
     requires { meaning.IsLayer (nat_abs (from_bits 32 bits)) }
-    ensures result_value { meaning.signed result ≡ from_bits 32 bits }
-    ensures signed_layer { meaning.IsSignedLayer result }
+    ensures { meaning.signed result ≡ from_bits 32 bits }
 {
     SignedLayer {
         negative: is_negative(bits),
@@ -42,34 +44,26 @@ fn signed_layer(bits: u32) -> SignedLayer
 }
 
 // The layers that an element of a set names.
-fn element_range(axis: AxisLayersInfo, element: LayerSetElement) -> LayerRangeOption
-    requires layer { meaning.IsLayer axis.max_layer }
-    requires element { elements.IsElement (layer_set_element_of element) }
+fn element_range(axis: AxisLayersInfo, element: LayerSetElement) -> Option<LayerRange>
+    requires { elements.IsElement (layer_set_element_of element) }
     ensures result_value { meaning.range_option result
         ≡ rule.element_range axis.max_layer axis.allow_negatives (layer_set_element_of element) }
     ensures each { meaning.Each (meaning.RangeUpTo axis.max_layer) (meaning.range_option result) }
 {
     match element {
-        LayerSetElement::Single(i) => match axis.resolve(signed_layer(i)) {
-            LayerOption::Some(layer) => LayerRangeOption::Some(LayerRange {
-                min: layer,
-                max: layer,
-            }),
-            LayerOption::None => LayerRangeOption::None,
-        },
+        LayerSetElement::Single(i) => axis.resolve(signed_layer(i)).map(LayerRange::from),
         LayerSetElement::Range(i, j) => axis.resolve_range(signed_layer(i), signed_layer(j)),
     }
 }
 
 // Gathers the range of one element.
 fn mark_element(reach: &mut [u16], axis: AxisLayersInfo, element: LayerSetElement)
-    requires layer { meaning.IsLayer axis.max_layer }
     requires max_layer_in_bounds { axis.max_layer < length reach.old }
     requires element { elements.IsElement (layer_set_element_of element) }
     ensures { reach.new
         ≡ elements.marked_element axis.max_layer axis.allow_negatives (layer_set_element_of element) reach.old }
 {
-    if let LayerRangeOption::Some(range) = element_range(axis, element) {
+    if let Some(range) = element_range(axis, element) {
         mark(reach, range);
     }
 }
@@ -90,7 +84,6 @@ fn after_comma(part: &[u8], at: usize) -> Taken
 
 // Gathers the ranges of a layer set, braces and all.
 fn mark_set(part: &[u8], axis: AxisLayersInfo, reach: &mut [u16])
-    requires layer { meaning.IsLayer axis.max_layer }
     requires max_layer_in_bounds { axis.max_layer < length reach.old }
     requires part_value { is_some (layer_set_in part.now) ≡ true }
     ensures { reach.new
@@ -112,7 +105,6 @@ fn mark_set(part: &[u8], axis: AxisLayersInfo, reach: &mut [u16])
 
 // Gathers the ranges of a layer set in an empty table of the axis, or with a tilde the layers that they do not give.
 fn gather_set(part: &[u8], axis: AxisLayersInfo, inverted: bool, reach: &mut [u16])
-    requires layer { meaning.IsLayer axis.max_layer }
     requires reach_value { reach.old ≡ replicate (axis.max_layer + 1) 0 }
     requires part_value { is_some (layer_set_in part.now) ≡ true }
     ensures { table.Gathered axis.max_layer
@@ -132,7 +124,6 @@ fn simplify_set(
     reach: &mut [u16],
     out: &mut [u8],
 ) -> Answer
-    requires layer { meaning.IsLayer axis.max_layer }
     requires reach_value { reach.old ≡ replicate (axis.max_layer + 1) 0 }
     requires part_value { is_some (layer_set_in part.now) ≡ true }
     ensures { elements.GivesRanges
@@ -148,66 +139,23 @@ fn simplify_set(
     Answer::Value(runs as u64)
 }
 
-// Simplifies a layer set on an axis with few layers. The large table is in a function of its own, so that this one's
-// stack stays small.
-fn simplify_set_of_few(part: &[u8], axis: AxisLayersInfo, inverted: bool, out: &mut [u8]) -> Answer
-    requires bound { (1 ≤ axis.max_layer) × (axis.max_layer < 128) }
+// Simplifies a layer set by a table of N entries, which the stack of this function holds and no other's.
+fn simplify_set_by<const N: usize>(
+    part: &[u8],
+    axis: AxisLayersInfo,
+    inverted: bool,
+    out: &mut [u8],
+) -> Answer
+    requires max_layer_in_bounds { axis.max_layer < N }
+    requires table_len_bound { N ≤ 65536 }
     requires part_value { is_some (layer_set_in part.now) ≡ true }
     ensures { elements.GivesRanges
         (elements.lit_set axis.max_layer axis.allow_negatives inverted part.now) result out.new
         out.old }
 {
-    let mut reach = [0u16; 128];
+    let mut reach = [0u16; N];
     let layers = axis.max_layer as usize + 1;
     simplify_set(part, axis, inverted, &mut reach[..layers], out)
-}
-
-// Simplifies a layer set on an axis with any number of layers.
-fn simplify_set_of_many(part: &[u8], axis: AxisLayersInfo, inverted: bool, out: &mut [u8]) -> Answer
-    requires layer { meaning.IsLayer axis.max_layer }
-    requires part_value { is_some (layer_set_in part.now) ≡ true }
-    ensures { elements.GivesRanges
-        (elements.lit_set axis.max_layer axis.allow_negatives inverted part.now) result out.new
-        out.old }
-{
-    let mut reach = [0u16; 32768];
-    let layers = axis.max_layer as usize + 1;
-    simplify_set(part, axis, inverted, &mut reach[..layers], out)
-}
-
-// The ranges of a prefix that is no set: the layers from `low` to `high` as far as the axis has them.
-fn simplify_range(low: u16, high: u16, max_layer: u16, out: &mut [u8]) -> Answer
-    requires { meaning.IsRange (table.range_from low high) }
-    ensures { elements.GivesRanges (rule.keep (rule.clamp_to_layer_count max_layer (table.range_from low high)) []) result
-        out.new out.old }
-{
-    let range = LayerRange {
-        min: Layer(low),
-        max: Layer(high),
-    };
-    let LayerRangeOption::Some(range) = range.clamp_to_layer_count(max_layer) else {
-        return Answer::Value(0);
-    };
-    if out.len() < RANGE {
-        return Answer::Refused(NO_ROOM);
-    }
-    write_range(out, 0, range.min.0, range.max.0);
-    Answer::Value(1)
-}
-
-// Simplifies a prefix that is no set, with a tilde before it or without one.
-fn simplify_no_set(low: u16, high: u16, inverted: bool, max_layer: u16, out: &mut [u8]) -> Answer
-    requires range { meaning.IsRange (table.range_from low high) }
-    requires layer { meaning.IsLayer max_layer }
-    ensures { elements.GivesRanges
-        (rule.lit max_layer inverted (rule.keep (rule.clamp_to_layer_count max_layer (table.range_from low high)) [])) result
-        out.new out.old }
-{
-    if inverted {
-        simplify_around(low, high, max_layer, out)
-    } else {
-        simplify_range(low, high, max_layer, out)
-    }
 }
 
 // The layers that a move turns on an axis with `max_layer` layers: ranges that neither overlap nor touch, by depth. With
@@ -228,9 +176,21 @@ pub fn simplify(
         out.new out.old }
 {
     match layers {
-        LayerPrefixContents::None => simplify_no_set(1, 1, inverted, max_layer, out),
-        LayerPrefixContents::Single(i) => simplify_no_set(i, i, inverted, max_layer, out),
-        LayerPrefixContents::Range(i, j) => simplify_no_set(i, j, inverted, max_layer, out),
+        LayerPrefixContents::None => {
+            let range = LayerRange::from(Layer::SHALLOWEST);
+            simplify_no_set(range, inverted, max_layer, out)
+        }
+        LayerPrefixContents::Single(i) => {
+            let range = LayerRange::from(Layer(i));
+            simplify_no_set(range, inverted, max_layer, out)
+        }
+        LayerPrefixContents::Range(i, j) => {
+            let range = LayerRange {
+                min: Layer(i),
+                max: Layer(j),
+            };
+            simplify_no_set(range, inverted, max_layer, out)
+        }
         LayerPrefixContents::Set(span) => {
             let from = span.offset as usize;
             let to = from + span.size as usize;
@@ -239,10 +199,10 @@ pub fn simplify(
                 max_layer,
                 allow_negatives,
             };
-            if max_layer < FEW_LAYERS {
-                simplify_set_of_few(part, axis, inverted, out)
+            if (max_layer as usize) < FEW_LAYERS {
+                simplify_set_by::<FEW_LAYERS>(part, axis, inverted, out)
             } else {
-                simplify_set_of_many(part, axis, inverted, out)
+                simplify_set_by::<ALL_LAYERS>(part, axis, inverted, out)
             }
         }
     }

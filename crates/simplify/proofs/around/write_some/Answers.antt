@@ -1,27 +1,15 @@
 -- `write_some` meets its contract. Assumes nothing.
-use borrow.Author.Tests.{le-leb, lt-leb}
 use Prim.Native.Nat.{◌+◌, ◌≤◌}
 use mathlib.Core.Path.{sym, ◌∙◌}
 use lib.ListN.{length}
-use native.Mathlib.Omega.{arith}
-use Rattle.simplify.specs.Reach.{range_from}
+use Rattle.layer.specs.Meaning.{range}
 use Rattle.simplify.proofs.Sweep.{none_written, write-one}
 use Rattle.simplify.proofs.around.write_some.Goals as goal
 
-pub returns-then-high-low : goal.returns-then-high-low
-returns-then-high-low c =
-    let a = c.args in
-    rw (lt-leb a.low a.high c.if-high-low.true) (record { out_after = sym (none_written a.out.now a.at); value = omega arith })
+pub returns-in_default-clause-out_after : goal.returns-in_default-clause-out_after
+returns-in_default-clause-out_after c = rw c.in_default.is (sym (none_written c.args.out.now c.args.at))
 
-pub write_range-requires : goal.write_range-requires
-write_range-requires c =
-    rw (le-leb c.args.low c.args.high c.if-high-low.false) at c.requires
-
-pub returns : goal.returns
-returns c =
-    let some-layers = le-leb c.args.low c.args.high c.if-high-low.false in
-    let room : c.args.at + 4 ≤ length c.args.out.now = rw some-layers at c.requires in
-    rw some-layers (record {
-      out_after = c.write_range.ensures ∙ write-one c.args.out.now c.args.at (range_from c.args.low c.args.high) room;
-      value = omega arith;
-    })
+pub returns-clause-out_after : goal.returns-clause-out_after
+returns-clause-out_after c =
+    let room : c.args.at + 4 ≤ length c.args.out.now = rw c.in-Some.is at c.requires in
+    rw c.in-Some.is (c.write_range.ensures ∙ write-one c.args.out.now c.args.at (range c.in-Some.range) room)

@@ -1,50 +1,33 @@
--- `write_runs` meets its contract. The invariant: with the runs from `low` on written from `at` on, the bytes are those asked for. Assumes nothing.
-use mathlib.Core.Path.{refl, ◌∙◌, sym, ap}
+-- `write_runs` meets its contract. The invariant: with the runs that are left written behind those before them, the bytes are those asked for. Assumes nothing.
+use Prim.Native.Nat.{suc, ◌+◌, ◌*◌, ◌≤◌}
+use mathlib.Core.Path.{◌≡◌, refl, ◌∙◌, sym, ap}
 use native.Mathlib.Omega.{arith}
 use lib.ListN.{length}
-use Rattle.simplify.specs.Reach.{range_from, runs_from, written}
-use Rattle.simplify.proofs.Sweep.{none_written, all-written, one_written, next-run, no-runs}
+use Rattle.layer.specs.Meaning.{range}
+use Rattle.simplify.specs.Reach.{runs_from, written}
+use Rattle.simplify.proofs.Sweep.{none_written, all-written, one_written}
 use Rattle.simplify.proofs.reach.write_runs.Goals as goal
 
-pub next_start-low-requires : goal.next_start-low-requires
-next_start-low-requires c = tt
+pub loop-k-init : goal.loop-k-init
+loop-k-init c =
+    rw (c.into_iter-k-iterator.ensures.into_iter_gives, c.enumerate-k-items.ensures.source, c.enumerate-k-items.ensures.count, c.new.ensures.table, c.new.ensures.start) (omega (arith, c.requires.reach_in_bounds), refl)
 
-pub loop-low-init : goal.loop-low-init
-loop-low-init c =
-    let same = c.next_start-low.ensures.same in
-    (refl, omega (arith, ap length same), ap (written c.args.out.now 0) (sym same), c.next_start-low.ensures.starts)
-
-pub run_end-high-requires : goal.run_end-high-requires
-run_end-high-requires c = record { reaches = c.requires.reaches; low_in_bounds = (c.loop-low-test.true, c.loop-low.invariant.3 c.loop-low-test.true) }
-
-pub write_range-requires : goal.write_range-requires
-write_range-requires c = omega (arith, ap length c.run_end-high.ensures.run)
-
-pub overflow_add-at : goal.overflow_add-at
-overflow_add-at c = omega (arith, ap length c.run_end-high.ensures.run)
-
-pub next_start-low-requires-in-loop-low : goal.next_start-low-requires-in-loop-low
-next_start-low-requires-in-loop-low c = tt
-
-pub loop-low-smaller : goal.loop-low-smaller
-loop-low-smaller c = omega (arith, c.run_end-high.ensures.ordered, c.next_start-low-in-loop-low.ensures.later)
-
-pub loop-low-preserved : goal.loop-low-preserved
-loop-low-preserved c =
-    let run = next-run c.args.reach.now c.loop-low.low c.run_end-high.result c.next_start-low-in-loop-low.result c.run_end-high.ensures c.next_start-low-in-loop-low.ensures in
-    let rest = runs_from c.args.reach.now c.next_start-low-in-loop-low.result in (
-      omega (arith, c.write_range.auto.out, c.loop-low.invariant.0),
-      omega (arith, c.write_range.auto.out, c.loop-low.invariant.1, ap length run),
-      one_written c.loop-low.out c.loop-low.at (range_from c.loop-low.low c.run_end-high.result) rest c.write_range.new.out (omega (arith, c.loop-low.invariant.1, ap length run)) c.write_range.ensures
-          ∙ ap (written c.loop-low.out c.loop-low.at) (sym run) ∙ c.loop-low.invariant.2,
-      c.next_start-low-in-loop-low.ensures.starts,
+pub loop-k-preserved : goal.loop-k-preserved
+loop-k-preserved c =
+    let out = c.loop-k.out in
+    let k = c.in-Some.k in
+    let step = c.in-Some.ensures.steps in
+    let kept = c.loop-k.invariant in
+    let left = runs_from c.next.new.self.iter.reach.now c.next.new.self.iter.at in
+    let next : 4 * c.next.new.self.count ≡ 4 * k + 4 = omega (arith, step.1, step.2) in
+    let room : 4 * k + 4 * suc (length left) ≤ length out = omega (arith, kept.0, ap length step.0, step.1) in (
+      omega (arith, c.write_range.auto.out, room, next),
+      rw next (one_written out (4 * k) (range c.in-Some.run') left c.write_range.new.out room c.write_range.ensures)
+          ∙ ap (written out (4 * k)) (sym step.0) ∙ rw step.1 kept.1,
     )
-
-pub shape_of-out : goal.shape_of-out
-shape_of-out c = c.loop-low.invariant.0
 
 pub returns : goal.returns
 returns c =
-    sym (none_written c.loop-low.out c.loop-low.at)
-    ∙ ap (written c.loop-low.out c.loop-low.at) (sym (no-runs c.args.reach.now c.loop-low.low c.loop-low-test.false))
-    ∙ c.loop-low.invariant.2 ∙ all-written c.args.out.now (runs_from c.args.reach.now 0)
+    sym (none_written c.loop-k.out (4 * c.loop-k.k-iterator.count))
+    ∙ ap (written c.loop-k.out (4 * c.loop-k.k-iterator.count)) (sym c.in-None.ensures.steps.0.0)
+    ∙ c.loop-k.invariant.1 ∙ all-written c.args.out.now (runs_from c.args.reach.now 0)

@@ -2,6 +2,7 @@
 use Prim.Native.Nat.{ℕ, ◌+◌, ◌-◌}
 use mathlib.Core.Path.{◌≡◌, sym, ap, ◌∙◌}
 use mathlib.Core.List.{List}
+use native.Mathlib.Omega.{arith}
 use lib.ListN.{take, drop}
 use Rattle.notation.specs.Layers.{Range, lit, simplified}
 use Rattle.notation.specs.Tree.{Layers, Span, no_layers, layer_set}
@@ -14,7 +15,7 @@ use Rattle.simplify.proofs.unspanned.simplify.Goals as goal
 use Rattle.simplify.proofs.unspanned.simplify.Goals.{Start}
 
 pub simplify_no_set-requires-in-Single : goal.simplify_no_set-requires-in-Single
-simplify_no_set-requires-in-Single c = record { range = single-real c.args.text.now _ (ap layers c.in-Single.is) c.requires.layers_value; layer = c.requires.layer }
+simplify_no_set-requires-in-Single c = record { range = rw (c.from-range-in-Single.ensures.0, c.from-range-in-Single.ensures.1) (single-real c.args.text.now _ (ap layers c.in-Single.is) c.requires.layers_value); layer = c.requires.layer }
 
 pub simplify_no_set-requires-in-Range : goal.simplify_no_set-requires-in-Range
 simplify_no_set-requires-in-Range c = record { range = range-real c.args.text.now _ _ (ap layers c.in-Range.is) c.requires.layers_value; layer = c.requires.layer }
@@ -22,13 +23,13 @@ simplify_no_set-requires-in-Range c = record { range = range-real c.args.text.no
 pub slice_bounds-part-end : goal.slice_bounds-part-end
 slice_bounds-part-end c = part-inside c.args.text.now _ (ap layers c.in-Set.is) c.requires.layers_value
 
-pub simplify_set_of_few-requires : goal.simplify_set_of_few-requires
-simplify_set_of_few-requires c =
-    record { bound = (c.requires.layer.low, c.if-max_layer-lt-FEW_LAYERS.true); part_value = part-read c.args.text.now _ (ap layers c.in-Set.is) c.requires.layers_value }
+pub simplify_set_by-requires : goal.simplify_set_by-requires
+simplify_set_by-requires c =
+    record { max_layer_in_bounds = c.if-max_layer-lt-FEW_LAYERS.true; table_len_bound = omega arith; part_value = part-read c.args.text.now _ (ap layers c.in-Set.is) c.requires.layers_value }
 
-pub simplify_set_of_many-requires : goal.simplify_set_of_many-requires
-simplify_set_of_many-requires c =
-    record { layer = c.requires.layer; part_value = part-read c.args.text.now _ (ap layers c.in-Set.is) c.requires.layers_value }
+pub simplify_set_by-requires-else-max_layer-lt-FEW_LAYERS : goal.simplify_set_by-requires-else-max_layer-lt-FEW_LAYERS
+simplify_set_by-requires-else-max_layer-lt-FEW_LAYERS c =
+    record { max_layer_in_bounds = omega (arith, c.requires.layer.high); table_len_bound = omega arith; part_value = part-read c.args.text.now _ (ap layers c.in-Set.is) c.requires.layers_value }
 
 -- the answer for some ranges, and for the layers as the `match` names them
 abbrev lent-for : Start → List Range → Lent ℕ
@@ -47,16 +48,16 @@ of-set c p e =
     ∙ named c e
 
 pub returns-in-None : goal.returns-in-None
-returns-in-None c = c.simplify_no_set.ensures ∙ named (goal.at.returns-in-None c).Start {l = no_layers} (ap layers c.in-None.is)
+returns-in-None c = rw (c.from-range.ensures.0, c.from-range.ensures.1) at c.simplify_no_set.ensures ∙ named (goal.at.returns-in-None c).Start {l = no_layers} (ap layers c.in-None.is)
 
 pub returns-in-Single : goal.returns-in-Single
-returns-in-Single c = c.simplify_no_set-in-Single.ensures ∙ named (goal.at.returns-in-Single c).Start (ap layers c.in-Single.is)
+returns-in-Single c = rw (c.from-range-in-Single.ensures.0, c.from-range-in-Single.ensures.1) at c.simplify_no_set-in-Single.ensures ∙ named (goal.at.returns-in-Single c).Start (ap layers c.in-Single.is)
 
 pub returns-in-Range : goal.returns-in-Range
 returns-in-Range c = c.simplify_no_set-in-Range.ensures ∙ named (goal.at.returns-in-Range c).Start (ap layers c.in-Range.is)
 
 pub returns-then-max_layer-lt-FEW_LAYERS : goal.returns-then-max_layer-lt-FEW_LAYERS
-returns-then-max_layer-lt-FEW_LAYERS c = c.simplify_set_of_few.ensures ∙ of-set (goal.at.returns-then-max_layer-lt-FEW_LAYERS c).Start _ (ap layers c.in-Set.is)
+returns-then-max_layer-lt-FEW_LAYERS c = c.simplify_set_by.ensures ∙ of-set (goal.at.returns-then-max_layer-lt-FEW_LAYERS c).Start _ (ap layers c.in-Set.is)
 
 pub returns-else-max_layer-lt-FEW_LAYERS : goal.returns-else-max_layer-lt-FEW_LAYERS
-returns-else-max_layer-lt-FEW_LAYERS c = c.simplify_set_of_many.ensures ∙ of-set (goal.at.returns-else-max_layer-lt-FEW_LAYERS c).Start _ (ap layers c.in-Set.is)
+returns-else-max_layer-lt-FEW_LAYERS c = c.simplify_set_by-else-max_layer-lt-FEW_LAYERS.ensures ∙ of-set (goal.at.returns-else-max_layer-lt-FEW_LAYERS c).Start _ (ap layers c.in-Set.is)

@@ -12,7 +12,7 @@ returns-then-out-runs c =
 
 pub write_runs-requires : goal.write_runs-requires
 write_runs-requires c =
-    record { reaches = c.gather_set.ensures.reaches; reach_len_bound = omega (arith, c.gather_set.ensures.size, c.requires.layer.high); reach_in_bounds = omega (arith, c.count_runs-runs.ensures, c.if-out-runs.false) }
+    record { reaches = c.gather_set.ensures.reaches; reach_in_bounds = omega (arith, c.count_runs-runs.ensures, c.if-out-runs.false) }
 
 pub returns : goal.returns
 returns c =
