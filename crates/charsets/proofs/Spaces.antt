@@ -6,25 +6,28 @@ use mathlib.Core.Logic.{inl, inr}
 use Prim.Native.Nat.{ℕ, ◌≤◌, ◌<◌}
 use native.Mathlib.Omega.{arith}
 use borrow.Author.Tests.{le-leb, lt-leb, ne_eqb, ltb-true, ltb-false}
-use lib.Dec.{leb, ltb}
+use lib.Dec.{eqb, leb, ltb}
 use Rattle.notation.specs.Basics.{between, one_of, every}
 use Rattle.notation.specs.Chars.{white_space}
 use Rattle.charsets.proofs.Bools.{below, above, or-false}
 use Rattle.charsets.proofs.Among.{Among, apart, not-among, passed}
 
-pub ascii : (c : ℕ) → c ≤ 0x7f → (c ≡ 0x20 → ⊥) → white_space c ≡ between 0x9 0xd c
-unfolding white_space one_of every
-ascii c h n =
+pub ascii : (c : ℕ) → c ≤ 0x7f → white_space c ≡ (between 0x9 0xd c || eqb 0x20 c)
+unfolding white_space one_of
+ascii c h =
     rw (
       below 0x2000 0x200a c (omega arith),
-      ne_eqb 0x20 c (λ e. n (sym e)),
-      apart (λ x. leb x 0x7f) (0x85 ∷ 0xa0 ∷ 0x1680 ∷ 0x2028 ∷ 0x2029 ∷ 0x202f ∷ 0x205f ∷ 0x3000 ∷ []) c refl (le-leb c 0x7f h),
+      ne_eqb 0x85 c (λ e. omega arith),
+      ne_eqb 0xa0 c (λ e. omega arith),
+      ne_eqb 0x1680 c (λ e. omega arith),
+      ne_eqb 0x2028 c (λ e. omega arith),
+      ne_eqb 0x2029 c (λ e. omega arith),
+      ne_eqb 0x202f c (λ e. omega arith),
+      ne_eqb 0x205f c (λ e. omega arith),
+      ne_eqb 0x3000 c (λ e. omega arith),
       or-false (between 0x9 0xd c),
-      or-false (between 0x9 0xd c),
+      or-false (eqb 0x20 c),
     )
-
-pub above-space : (c : ℕ) → c ≤ 0x7f → 0x20 < c → leb c 0x20 ≡ white_space c
-above-space c h l = lt-leb c 0x20 l ∙ sym (ascii c h (λ e. omega arith) ∙ above 0x9 0xd c (omega arith))
 
 pub listed : (c : ℕ) → Among 0x85 (0xa0 ∷ 0x1680 ∷ 0x202f ∷ 0x205f ∷ 0x3000 ∷ []) c → white_space c ≡ true
 unfolding white_space one_of every
