@@ -131,9 +131,6 @@ module _ (p : ℕ → Bool) where
     pub inside : end ≤ length s
     pub same : end + run p (drop end s) ≡ at + run p (drop at s)
 
-  pub set_out : {s : List ℕ} {at : ℕ} → at ≤ length s → Reached s at at
-  set_out h = record { inside = h; same = refl }
-
   -- a walk that comes to the end of the text is at the end of the run
   pub at-the-end : {s : List ℕ} {at end : ℕ} → Reached s at end → length s ≤ end → end ≡ at + run p (drop at s)
   at-the-end {s} {at} {end} h l = omega (arith, h.same, run_length 0 (drop end s), length-drop end s)

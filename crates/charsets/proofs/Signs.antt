@@ -1,5 +1,5 @@
 -- The primes by their bytes. Assumes nothing.
-use Prim.Native.Nat.{ℕ, zero, suc, ◌+◌, ◌≤◌, ◌<◌}
+use Prim.Native.Nat.{ℕ, zero, suc, ◌≤◌, ◌<◌}
 use mathlib.Core.Path.{◌≡◌, refl, sym, ◌∙◌}
 use mathlib.Core.Logic.{◌⊎◌, inl, inr, ⊎_elim}
 use mathlib.Core.Bool.{Bool, true, false, ◌&&◌, ◌||◌}
@@ -7,13 +7,13 @@ use mathlib.Core.List.{List, [], ◌∷◌}
 use native.Mathlib.Omega.{arith}
 use borrow.Author.Tests.{eq-eqb, eqb-true, ne_eqb}
 use lib.Dec.{eqb}
-use lib.ListN.{length, get_or, drop}
+use lib.ListN.{length, get_or}
 use Rattle.notation.specs.Basics.{pick, one_of}
 use Rattle.notation.specs.Chars.{curly_prime_codes, is_prime}
 use Rattle.notation.specs.Utf8.{byte_at, char_width, code_point, width_if}
 use Rattle.charsets.proofs.Bools.{contra, and_left, and_right}
 use Rattle.notation.proofs.Bools.{and_both, pick_same}
-use Rattle.charsets.proofs.Texts.{in-text, is_byte, byte-drop, first_byte}
+use Rattle.charsets.proofs.Texts.{in-text, is_byte}
 use Rattle.charsets.proofs.Points.{Point, no-point, one_byte, two_bytes, three-bytes, four_bytes, point}
 use Rattle.charsets.proofs.Sets.{prime-is}
 

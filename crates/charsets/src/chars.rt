@@ -9,6 +9,7 @@ use crate::classes::CLASSES;
 use notation::char_set::{CharSet, Class};
 
 // The primes past the table's end, which word processors write for an apostrophe.
+#[tactic(auto, unfolding(notation::specs::Basics::one_of))]
 fn is_curly_prime(c: u32) -> bool
     ensures { result ≡ one_of curly_prime_codes c }
 {
@@ -44,6 +45,7 @@ pub fn classify(c: u32) -> Class
 
 // Whether a family name may hold the ASCII character. It is the usual case and does without the table, which the compiler
 // builds anew at each read.
+#[tactic(auto, using(crate::proofs::Sets::ascii_family))]
 pub fn is_ascii_family_char(c: u32) -> bool
     requires { c ≤ 127 }
     ensures { result ≡ is_family_char c }
@@ -52,7 +54,6 @@ pub fn is_ascii_family_char(c: u32) -> bool
 }
 
 // Whether a family name may hold the character: one that has a class, and is no prime.
-#[inline(never)]
 pub fn is_family_char(c: u32) -> bool
     ensures { result ≡ is_family_char c }
 {
@@ -78,6 +79,7 @@ pub fn is_latin_letter(c: u32) -> bool
 }
 
 // Whether the ASCII character is white space. Most characters lie above the space, which one test tells.
+#[tactic(auto, using(crate::proofs::Spaces::ascii))]
 pub fn is_ascii_whitespace(c: u32) -> bool
     requires { c ≤ 127 }
     ensures { result ≡ white_space c }
@@ -86,7 +88,7 @@ pub fn is_ascii_whitespace(c: u32) -> bool
 }
 
 // Unicode's White_Space, as Rust's `char::is_whitespace`.
-#[inline(never)]
+#[tactic(auto, unfolding(notation::specs::Basics::one_of, notation::specs::Chars::white_space))]
 pub fn is_whitespace(c: u32) -> bool
     ensures { result ≡ white_space c }
 {

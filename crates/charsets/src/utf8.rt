@@ -33,9 +33,21 @@ struct Lead {
     most: u32,
 }
 
-const THREE: Lead = Lead { first: 0xe0, last: 0xef, least: 0xa0, capped: 0xed, most: 0x9f };
+const THREE: Lead = Lead {
+    first: 0xe0,
+    last: 0xef,
+    least: 0xa0,
+    capped: 0xed,
+    most: 0x9f,
+};
 
-const FOUR: Lead = Lead { first: 0xf0, last: 0xf4, least: 0x90, capped: 0xf4, most: 0x8f };
+const FOUR: Lead = Lead {
+    first: 0xf0,
+    last: 0xf4,
+    least: 0x90,
+    capped: 0xf4,
+    most: 0x8f,
+};
 
 impl Lead {
     // Whether a character may begin with these two bytes.
@@ -180,7 +192,11 @@ fn wide_width<W: Wanted>(s: &[u8], at: usize) -> usize
     ensures { result ≡ width_if W.rule (drop at s.now) }
 {
     let width = char_width(s, at);
-    if width != 0 && W::is_wanted(code_point(s, at)) { width } else { 0 }
+    if width != 0 && W::is_wanted(code_point(s, at)) {
+        width
+    } else {
+        0
+    }
 }
 
 // How many bytes the character at `at` takes, 0 where none of the wanted ones stands there, as the rule has it.
