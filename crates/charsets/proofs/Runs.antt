@@ -39,21 +39,21 @@ utf8-next s at w e h = sym (rw (drop-drop w at s) at (utf8-step (drop at s) w e 
 pub width_fits : (s : List ℕ) (at w : ℕ) → at ≤ length s → w ≡ char_width (drop at s) → at + w ≤ length s
 width_fits s at w h e = omega (arith, width-length (drop at s), length-drop at s)
 
--- the byte at a place and the n behind it, joined by `|`
-abbrev pub joined : List ℕ → ℕ → ℕ → ℕ
-joined s at zero = get_or s at 0
-joined s at (suc n) = bit_or (joined s at n) (get_or s (at + suc n) 0)
+-- the first byte and the n behind it, joined by `|`
+abbrev pub joined : List ℕ → ℕ → ℕ
+joined s zero = get_or s 0 0
+joined s (suc n) = bit_or (joined s n) (get_or s (suc n) 0)
 
 -- where they are ASCII joined, each is by itself, and the text behind them is as well formed
-pub utf8-ascii : (s : List ℕ) (at n : ℕ) → at + n < length s → joined s at n ≤ 0x7f → utf8 (drop (at + suc n) s) ≡ utf8 (drop at s)
-utf8-ascii s at zero h l = utf8-next s at 1 (width_one s at (omega arith) l) (omega arith)
-utf8-ascii s at (suc n) h l =
-    let a : ℕ = joined s at n in
-    let b : ℕ = get_or s (at + suc n) 0 in
+pub utf8-ascii : (s : List ℕ) (n : ℕ) → n < length s → joined s n ≤ 0x7f → utf8 (drop (suc n) s) ≡ utf8 s
+utf8-ascii s zero h l = utf8-next s 0 1 (width_one s 0 h l) (omega arith)
+utf8-ascii s (suc n) h l =
+    let a : ℕ = joined s n in
+    let b : ℕ = get_or s (suc n) 0 in
     let e : bit_or a b + bit_and a b ≡ a + b = or_add_and a b in
-    let k : at + suc n + 1 ≡ at + suc (suc n) = omega arith in
-    rw k at (utf8-next s (at + suc n) 1 (width_one s (at + suc n) h (omega (arith, e, and_le_l a b))) (omega arith))
-    ∙ utf8-ascii s at n (omega arith) (omega (arith, e, and_le_r a b))
+    let k : suc n + 1 ≡ suc (suc n) = omega arith in
+    rw k at (utf8-next s (suc n) 1 (width_one s (suc n) h (omega (arith, e, and_le_l a b))) (omega arith))
+    ∙ utf8-ascii s n (omega arith) (omega (arith, e, and_le_r a b))
 
 module _ (p : ℕ → Bool) where
   pub width_if-length : (s : List ℕ) → width_if p s ≤ length s
@@ -130,9 +130,6 @@ module _ (p : ℕ → Bool) where
   pub record Reached (s : List ℕ) (at end : ℕ) : Type 0 where
     pub inside : end ≤ length s
     pub same : end + run p (drop end s) ≡ at + run p (drop at s)
-
-  pub set_out : {s : List ℕ} {at : ℕ} → at ≤ length s → Reached s at at
-  set_out h = record { inside = h; same = refl }
 
   -- a walk that comes to the end of the text is at the end of the run
   pub at-the-end : {s : List ℕ} {at end : ℕ} → Reached s at end → length s ≤ end → end ≡ at + run p (drop at s)

@@ -1,53 +1,16 @@
 -- A character's class, its number in the table, and what the sets of characters have to do with each other.
 use mathlib.Core.Path.{◌≡◌, refl, ap}
 use mathlib.Core.Bool.{Bool, true, false, not, ◌||◌}
-use mathlib.Core.List.{[], ◌∷◌}
+use mathlib.Core.List.{◌∷◌}
 use Prim.Native.Nat.{ℕ, ◌≤◌}
 use borrow.Author.Tests.{le-leb, ne_eqb}
 use lib.Dec.{eqb, leb}
-use Rattle.notation.specs.declared.char_set.CharSet.{CharSet}
 use Rattle.notation.specs.declared.char_set.CharSet.TheVariants.{LowercaseLatin, UppercaseLatin, UppercaseGreek, TallLowercaseGreek, ShortLowercaseGreek, Underscore, Prime}
 use Rattle.std.specs.Prelude.{Option, Some, None}
 use Rattle.notation.specs.Basics.{pick, between, one_of, every}
-use Rattle.notation.specs.Chars.{classify, class_number, set_number, is_family_class, is_family_char, is_prime_class, is_prime, is_latin_letter, uppercase_greek, tall_lowercase_greek, short_lowercase_greek, curly_prime_codes}
+use Rattle.notation.specs.Chars.{classify, class_number, is_family_class, is_family_char, is_prime_class, is_prime, is_latin_letter, uppercase_greek, tall_lowercase_greek, short_lowercase_greek, curly_prime_codes}
 use Rattle.charsets.proofs.Bools.{contra}
 use Rattle.charsets.proofs.Among.{apart}
-
--- the class that a number of the table stands for
-abbrev pub class_of : ℕ → Option CharSet
-class_of n =
-    pick (eqb n 1) (Some LowercaseLatin)
-    (pick (eqb n 2) (Some UppercaseLatin)
-    (pick (eqb n 3) (Some UppercaseGreek)
-    (pick (eqb n 4) (Some TallLowercaseGreek)
-    (pick (eqb n 5) (Some ShortLowercaseGreek)
-    (pick (eqb n 6) (Some Underscore)
-    (pick (eqb n 7) (Some Prime) None))))))
-
-set-of : (q : CharSet) → class_of (set_number q) ≡ Some q
-set-of LowercaseLatin = refl
-set-of UppercaseLatin = refl
-set-of UppercaseGreek = refl
-set-of TallLowercaseGreek = refl
-set-of ShortLowercaseGreek = refl
-set-of Underscore = refl
-set-of Prime = refl
-
-pub class-of : (q : Option CharSet) (n : ℕ) → n ≡ class_number q → class_of n ≡ q
-class-of None n e = rw e
-class-of (Some q) n e = rw e (set-of q)
-
--- a family holds the characters of all classes but the number 7, the primes
-pub family-number : (q : Option CharSet) → one_of (0 ∷ 7 ∷ []) (class_number q) ≡ not (is_family_class q)
-unfolding one_of
-family-number None = refl
-family-number (Some LowercaseLatin) = refl
-family-number (Some UppercaseLatin) = refl
-family-number (Some UppercaseGreek) = refl
-family-number (Some TallLowercaseGreek) = refl
-family-number (Some ShortLowercaseGreek) = refl
-family-number (Some Underscore) = refl
-family-number (Some Prime) = refl
 
 -- the primes are three
 pub prime-is : (c : ℕ) → one_of (0x27 ∷ curly_prime_codes) c ≡ is_prime c
@@ -86,24 +49,10 @@ no-letter p c u t s h l m n =
     go true = refl
     go false = refl
 
--- the sets of Greek letters
-abbrev pub greek_set : CharSet → Bool
-greek_set LowercaseLatin = false
-greek_set UppercaseLatin = false
-greek_set UppercaseGreek = true
-greek_set TallLowercaseGreek = true
-greek_set ShortLowercaseGreek = true
-greek_set Underscore = false
-greek_set Prime = false
-
-abbrev pub greek : Option CharSet → Bool
-greek None = false
-greek (Some q) = greek_set q
-
 -- in ASCII a family character is a Latin letter or the underscore
-pub ascii-family : (c : ℕ) → c ≤ 0x7f → is_family_char c ≡ (is_latin_letter c || eqb c 0x5f)
+pub ascii_family : (c : ℕ) → c ≤ 0x7f → is_family_char c ≡ (is_latin_letter c || eqb c 0x5f)
 unfolding classify every
-ascii-family c h =
+ascii_family c h =
     let a : leb c 0x7f ≡ true = le-leb c 0x7f h in
     rw (apart (λ x. leb x 0x7f) uppercase_greek c refl a, apart (λ x. leb x 0x7f) tall_lowercase_greek c refl a, apart (λ x. leb x 0x7f) short_lowercase_greek c refl a)
     (go (between 0x61 0x7a c) (between 0x41 0x5a c) (eqb c 0x5f) (one_of (0x27 ∷ curly_prime_codes) c))

@@ -1,5 +1,5 @@
 -- The primes by their bytes. Assumes nothing.
-use Prim.Native.Nat.{ℕ, zero, suc, ◌+◌, ◌≤◌, ◌<◌}
+use Prim.Native.Nat.{ℕ, zero, suc, ◌≤◌, ◌<◌}
 use mathlib.Core.Path.{◌≡◌, refl, sym, ◌∙◌}
 use mathlib.Core.Logic.{◌⊎◌, inl, inr, ⊎_elim}
 use mathlib.Core.Bool.{Bool, true, false, ◌&&◌, ◌||◌}
@@ -7,13 +7,13 @@ use mathlib.Core.List.{List, [], ◌∷◌}
 use native.Mathlib.Omega.{arith}
 use borrow.Author.Tests.{eq-eqb, eqb-true, ne_eqb}
 use lib.Dec.{eqb}
-use lib.ListN.{length, get_or, drop}
+use lib.ListN.{length, get_or}
 use Rattle.notation.specs.Basics.{pick, one_of}
 use Rattle.notation.specs.Chars.{curly_prime_codes, is_prime}
 use Rattle.notation.specs.Utf8.{byte_at, char_width, code_point, width_if}
 use Rattle.charsets.proofs.Bools.{contra, and_left, and_right}
 use Rattle.notation.proofs.Bools.{and_both, pick_same}
-use Rattle.charsets.proofs.Texts.{in-text, is_byte, byte-drop, first_byte}
+use Rattle.charsets.proofs.Texts.{in-text, is_byte}
 use Rattle.charsets.proofs.Points.{Point, no-point, one_byte, two_bytes, three-bytes, four_bytes, point}
 use Rattle.charsets.proofs.Sets.{prime-is}
 
@@ -107,8 +107,6 @@ curly-short s h = go (bytes (byte_at s 0) (byte_at s 1) (byte_at s 2)) refl
     go false e = refl
     go true e = absurd (omega (arith, is_byte s 2 (low (byte_at s 2) (and_right (eqb (byte_at s 0) 0xe2 && eqb (byte_at s 1) 0x80) _ e))))
 
--- the bytes at a place
-pub bytes-at : (s : List ℕ) (at : ℕ) → at + 3 ≤ length s →
-    bytes (get_or s at 0) (get_or s (at + 1) 0) (get_or s (at + 2) 0) ≡ bytes (byte_at (drop at s) 0) (byte_at (drop at s) 1) (byte_at (drop at s) 2)
-bytes-at s at h =
-    rw (first_byte s at, byte-drop s at 1, byte-drop s at 2, in-text s at (omega arith), in-text s (at + 1) (omega arith), in-text s (at + 2) (omega arith))
+-- enough of them
+pub curly-at : (s : List ℕ) (r : Bool) → 3 ≤ length s → r ≡ bytes (get_or s 0 0) (get_or s 1 0) (get_or s 2 0) → pick r 3 0 ≡ width_if (one_of curly_prime_codes) s
+curly-at s r h e = curly-is s r (rw (in-text s 0 (omega arith), in-text s 1 (omega arith), in-text s 2 (omega arith)) at e)

@@ -2,20 +2,18 @@
 // its code point.
 
 ghost use Rattle.std.specs.Prelude.{◌≡◌, ◌≤◌};
-ghost use Rattle.notation.specs.Basics.{between, one_of};
+ghost use Rattle.notation.specs.Basics.{one_of};
 ghost use Rattle.notation.specs.Chars.{class_number, classify, curly_prime_codes, is_family_char, is_latin_letter, is_prime, white_space};
 
 use crate::classes::CLASSES;
 use notation::char_set::CharSet;
 
 // The primes past the table's end, which word processors write for an apostrophe.
+#[tactic(auto, unfolding(notation::specs::Basics::one_of))]
 fn is_curly_prime(c: u32) -> bool
     ensures { result ≡ one_of curly_prime_codes c }
 {
-    match c {
-        0x2019 | 0x2032 => true,
-        _ => false,
-    }
+    matches!(c, 0x2019 | 0x2032)
 }
 
 // The class number of a character: 0 outside all classes, else as in the table.
@@ -47,11 +45,12 @@ pub fn classify(c: u32) -> Option<CharSet>
 
 // Whether a family name may hold the ASCII character. It is the usual case and does without the table, which the compiler
 // builds anew at each read.
+#[tactic(auto, using(crate::proofs::Sets::ascii_family))]
 pub fn is_ascii_family_char(c: u32) -> bool
     requires { c ≤ 127 }
     ensures { result ≡ is_family_char c }
 {
-    is_latin_letter(c) || c == 0x5f
+    matches!(c, 0x61..=0x7a | 0x41..=0x5a | 0x5f)
 }
 
 // Whether a family name may hold the character: one that has a class, and is no prime.
@@ -61,10 +60,7 @@ pub fn is_family_char(c: u32) -> bool
     if c <= 0x7f {
         return is_ascii_family_char(c);
     }
-    match class_number(c) {
-        0 | 7 => false,
-        _ => true,
-    }
+    !matches!(class_number(c), 0 | 7)
 }
 
 // Whether the character is a prime: the class's own test of a code point, which the comparison with the Rust calls. Reading
@@ -75,37 +71,32 @@ pub fn is_prime(c: u32) -> bool
     c == 0x27 || is_curly_prime(c)
 }
 
-// a <= x <= b
-pub fn between(a: u32, b: u32, x: u32) -> bool
-    ensures { result ≡ between a b x }
-{
-    a <= x && x <= b
-}
-
 // Whether the character is one of a-z and A-Z.
 pub fn is_latin_letter(c: u32) -> bool
     ensures { result ≡ is_latin_letter c }
 {
-    between(0x61, 0x7a, c) || between(0x41, 0x5a, c)
+    matches!(c, 0x61..=0x7a | 0x41..=0x5a)
 }
 
 // Whether the ASCII character is white space. Most characters lie above the space, which one test tells.
+#[tactic(auto, using(crate::proofs::Spaces::ascii))]
 pub fn is_ascii_whitespace(c: u32) -> bool
     requires { c ≤ 127 }
     ensures { result ≡ white_space c }
 {
-    c <= 0x20 && (c == 0x20 || between(0x9, 0xd, c))
+    c <= 0x20 && matches!(c, 0x20 | 0x9..=0xd)
 }
 
 // Unicode's White_Space, as Rust's `char::is_whitespace`.
+#[tactic(auto, unfolding(notation::specs::Basics::one_of, notation::specs::Chars::white_space))]
 pub fn is_whitespace(c: u32) -> bool
     ensures { result ≡ white_space c }
 {
     if c <= 0x7f {
         return is_ascii_whitespace(c);
     }
-    match c {
-        0x85 | 0xa0 | 0x1680 | 0x2028 | 0x2029 | 0x202f | 0x205f | 0x3000 => true,
-        _ => between(0x2000, 0x200a, c),
-    }
+    matches!(
+        c,
+        0x85 | 0xa0 | 0x1680 | 0x2000..=0x200a | 0x2028 | 0x2029 | 0x202f | 0x205f | 0x3000
+    )
 }

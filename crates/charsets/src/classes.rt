@@ -1,6 +1,7 @@
 // The table of character classes, in a file of its own: one row has 32 code points, and a formatter would give each a line.
 
-// The class number of each code point below 1,024: 0 outside, then the sets in the order of `CharSet`.
+// The class number of each code point below 1,024: 0 outside, then the sets in the order of `CharSet`. Numbers, since with
+// names of sets a row would not show 32 code points (`class_number` in notation/specs/Chars says what each stands for).
 pub const CLASSES: [u8; 1024] = [
     0, 0, 0, 0, 0, 0, 0, 0, 0, 0, 0, 0, 0, 0, 0, 0, 0, 0, 0, 0, 0, 0, 0, 0, 0, 0, 0, 0, 0, 0, 0, 0,
     0, 0, 0, 0, 0, 0, 0, 7, 0, 0, 0, 0, 0, 0, 0, 0, 0, 0, 0, 0, 0, 0, 0, 0, 0, 0, 0, 0, 0, 0, 0, 0,

@@ -1,48 +1,71 @@
 // UTF-8: the characters of a text, by the Unicode Standard's table 3-7, and runs of them.
 
-ghost use Rattle.std.specs.Prelude.{◌≡◌, true, ◌&&◌, [], ◌∷◌, ◌+◌, ◌%◌, ◌<◌, ◌≤◌, eqb, length, drop};
+ghost use Rattle.std.specs.Prelude.{◌≡◌, ℕ, Bool, true, ◌&&◌, ◌+◌, ◌%◌, ◌<◌, ◌≤◌, eqb, length, drop};
 ghost use Rattle.notation.specs.Basics.{between, one_of, pick};
 ghost use Rattle.notation.specs.Chars.{curly_prime_codes, is_family_char, white_space};
 ghost use Rattle.notation.specs.Utf8.{byte_at, char_width, code_point, continuation, run, utf8, width_if};
 
-use crate::chars::{
-    between, is_ascii_family_char, is_ascii_whitespace, is_family_char, is_whitespace,
-};
+use crate::chars::{is_ascii_family_char, is_ascii_whitespace, is_family_char, is_whitespace};
 
-// The byte at i; past the end 256, which is no byte.
+// The byte at i; past the end 256, which is no byte: the number that the rule has there (`byte_at` in
+// notation/specs/Utf8), so that each row of the table is one comparison of numbers.
 fn byte_at(s: &[u8], i: usize) -> u32
     ensures { result ≡ byte_at s.now i }
 {
     if i < s.len() { s[i] as u32 } else { 256 }
 }
 
-// The first number where the test holds, else the second.
-fn pick(test: bool, a: u32, b: u32) -> u32
-    ensures { result ≡ pick test a b }
-{
-    if test { a } else { b }
-}
-
 // Whether a byte continues a character.
 fn is_continuation(b: u32) -> bool
     ensures { result ≡ continuation b }
 {
-    between(0x80, 0xbf, b)
+    matches!(b, 0x80..=0xbf)
+}
+
+// How the characters of three or of four bytes begin: the first byte lies from `first` to `last`. After `first` a second
+// byte below `least` would be an overlong form, and after `capped` one above `most` a surrogate, or past U+10FFFF.
+#[derive(Clone, Copy)]
+struct Lead {
+    first: u32,
+    last: u32,
+    least: u32,
+    capped: u32,
+    most: u32,
+}
+
+const THREE: Lead = Lead {
+    first: 0xe0,
+    last: 0xef,
+    least: 0xa0,
+    capped: 0xed,
+    most: 0x9f,
+};
+
+const FOUR: Lead = Lead {
+    first: 0xf0,
+    last: 0xf4,
+    least: 0x90,
+    capped: 0xf4,
+    most: 0x8f,
+};
+
+impl Lead {
+    // Whether a character may begin with these two bytes.
+    fn begins(self, a: u32, b: u32) -> bool
+        ensures { result
+            ≡ (between self.first self.last a && between (pick (eqb a self.first) self.least 0x80) (pick (eqb a self.capped) self.most 0xbf) b) }
+    {
+        let least = if a == self.first { self.least } else { 0x80 };
+        let most = if a == self.capped { self.most } else { 0xbf };
+        (self.first..=self.last).contains(&a) && (least..=most).contains(&b)
+    }
 }
 
 // Whether the two bytes are a character. A first byte below c2 would be an overlong form.
 fn is_two_bytes(a: u32, b: u32) -> bool
     ensures { result ≡ (between 0xc2 0xdf a && continuation b) }
 {
-    between(0xc2, 0xdf, a) && is_continuation(b)
-}
-
-// Whether a character of three bytes may begin with these two: after e0 a low second byte would be an
-// overlong form, after ed a high one a surrogate.
-fn starts_three(a: u32, b: u32) -> bool
-    ensures { result ≡ (between 0xe0 0xef a && between (pick (eqb a 0xe0) 0xa0 0x80) (pick (eqb a 0xed) 0x9f 0xbf) b) }
-{
-    between(0xe0, 0xef, a) && between(pick(a == 0xe0, 0xa0, 0x80), pick(a == 0xed, 0x9f, 0xbf), b)
+    matches!(a, 0xc2..=0xdf) && is_continuation(b)
 }
 
 // Whether the three bytes are a character.
@@ -50,15 +73,7 @@ fn is_three_bytes(a: u32, b: u32, c: u32) -> bool
     ensures { result
         ≡ (between 0xe0 0xef a && between (pick (eqb a 0xe0) 0xa0 0x80) (pick (eqb a 0xed) 0x9f 0xbf) b && continuation c) }
 {
-    starts_three(a, b) && is_continuation(c)
-}
-
-// Whether a character of four bytes may begin with these two: after f0 a low second byte would be an
-// overlong form, after f4 a high one past U+10FFFF.
-fn starts_four(a: u32, b: u32) -> bool
-    ensures { result ≡ (between 0xf0 0xf4 a && between (pick (eqb a 0xf0) 0x90 0x80) (pick (eqb a 0xf4) 0x8f 0xbf) b) }
-{
-    between(0xf0, 0xf4, a) && between(pick(a == 0xf0, 0x90, 0x80), pick(a == 0xf4, 0x8f, 0xbf), b)
+    THREE.begins(a, b) && is_continuation(c)
 }
 
 // Whether the four bytes are a character.
@@ -67,10 +82,10 @@ fn is_four_bytes(a: u32, b: u32, c: u32, d: u32) -> bool
         ≡ (between 0xf0 0xf4 a && between (pick (eqb a 0xf0) 0x90 0x80) (pick (eqb a 0xf4) 0x8f 0xbf) b && continuation c &&
         continuation d) }
 {
-    starts_four(a, b) && is_continuation(c) && is_continuation(d)
+    FOUR.begins(a, b) && is_continuation(c) && is_continuation(d)
 }
 
-// How many bytes the character at `at` takes: 0 where no well-formed one stands there.
+// How many bytes the character at `at` takes: 0 where no well-formed one stands there, as the rule has it.
 pub fn char_width(s: &[u8], at: usize) -> usize
     ensures { result ≡ char_width (drop at s.now) }
 {
@@ -124,79 +139,82 @@ pub fn code_point(s: &[u8], at: usize) -> u32
     a % 8 * 262144 + b * 4096 + c * 64 + d
 }
 
-// The width where the character passes, else 0.
-fn width_if(passes: bool, width: usize) -> usize
-    ensures { result ≡ pick passes width 0 }
-{
-    if passes { width } else { 0 }
+// Which characters a run is made of.
+trait Wanted {
+    // The characters that are wanted, as the rules have it.
+    ghost rule: { ℕ → Bool };
+
+    // Whether the ASCII character is wanted.
+    fn is_ascii_wanted(c: u32) -> bool
+        requires { c ≤ 127 }
+        ensures { result ≡ rule c };
+
+    // Whether the character is wanted.
+    fn is_wanted(c: u32) -> bool
+        ensures { result ≡ rule c };
 }
 
-// The width of a character past ASCII, 0 where none of the wanted ones stands there: white space, or else what a family
-// name may hold. Apart, because it is rare: the tests for ASCII alone are small enough to stand in their callers.
-fn wide_width(s: &[u8], at: usize, white: bool) -> usize
-    ensures { result ≡ width_if (pick white white_space is_family_char) (drop at s.now) }
-{
-    let width = char_width(s, at);
-    if width == 0 {
-        return 0;
-    }
-    let c = code_point(s, at);
-    if white {
-        width_if(is_whitespace(c), width)
-    } else {
-        width_if(is_family_char(c), width)
-    }
-}
+// White space.
+struct WhiteSpace;
 
-// Whether the ASCII character is a wanted one.
-fn is_ascii_wanted(c: u32, white: bool) -> bool
-    requires { c ≤ 127 }
-    ensures { result ≡ pick white white_space is_family_char c }
-{
-    if white {
+// What a family name may hold.
+struct FamilyChar;
+
+impl Wanted for WhiteSpace {
+    ghost rule = { white_space };
+
+    fn is_ascii_wanted(c: u32) -> bool {
         is_ascii_whitespace(c)
-    } else {
+    }
+
+    fn is_wanted(c: u32) -> bool {
+        is_whitespace(c)
+    }
+}
+
+impl Wanted for FamilyChar {
+    ghost rule = { is_family_char };
+
+    fn is_ascii_wanted(c: u32) -> bool {
         is_ascii_family_char(c)
     }
+
+    fn is_wanted(c: u32) -> bool {
+        is_family_char(c)
+    }
 }
 
-// How many bytes the character at `at` takes, 0 where none of the wanted ones stands there. The flag is spelled out for
-// `wide_width`: were that called in one place, the compiler would copy it in here, and this into its callers no more.
-fn width(s: &[u8], at: usize, white: bool) -> usize
-    ensures { result ≡ width_if (pick white white_space is_family_char) (drop at s.now) }
+// The width of a character past ASCII, 0 where none of the wanted ones stands there. Apart, because it is rare: the tests
+// for ASCII alone are small enough to stand in their callers.
+#[cold]
+#[inline(never)]
+fn wide_width<W: Wanted>(s: &[u8], at: usize) -> usize
+    ensures { result ≡ width_if W.rule (drop at s.now) }
+{
+    let width = char_width(s, at);
+    if width != 0 && W::is_wanted(code_point(s, at)) {
+        width
+    } else {
+        0
+    }
+}
+
+// How many bytes the character at `at` takes, 0 where none of the wanted ones stands there, as the rule has it.
+fn width<W: Wanted>(s: &[u8], at: usize) -> usize
+    ensures { result ≡ width_if W.rule (drop at s.now) }
 {
     let a = byte_at(s, at);
     if a <= 0x7f {
-        return width_if(is_ascii_wanted(a, white), 1);
+        return if W::is_ascii_wanted(a) { 1 } else { 0 };
     }
-    if white {
-        wide_width(s, at, true)
-    } else {
-        wide_width(s, at, false)
-    }
+    wide_width::<W>(s, at)
 }
 
 // How many bytes the white space character at `at` takes, 0 where none stands there.
 pub fn whitespace_width(s: &[u8], at: usize) -> usize
     ensures { result ≡ width_if white_space (drop at s.now) }
 {
-    width(s, at, true)
-}
-
-// The bytes of U+2019 and of U+2032.
-fn are_curly_prime(a: u8, b: u8, c: u8) -> bool
-    ensures { result ≡ (eqb a 0xe2 && eqb b 0x80 && one_of (0x99 ∷ 0xb2 ∷ []) c) }
-{
-    if a != 0xe2 {
-        return false;
-    }
-    if b != 0x80 {
-        return false;
-    }
-    match c {
-        0x99 | 0xb2 => true,
-        _ => false,
-    }
+    width::<WhiteSpace>(s, at)
 }
 
 // Whether a prime past the table stands at `at`. By its bytes, without decoding them: reading asks after every multiplier.
@@ -204,10 +222,7 @@ pub fn has_curly_prime(s: &[u8], at: usize) -> bool
     requires { at ≤ length s.now }
     ensures { pick result 3 0 ≡ width_if (one_of curly_prime_codes) (drop at s.now) }
 {
-    if s.len() - at < 3 {
-        return false;
-    }
-    are_curly_prime(s[at], s[at + 1], s[at + 2])
+    matches!(&s[at..], [0xe2, 0x80, 0x99 | 0xb2, ..])
 }
 
 // Whether eight bytes stand from `at` on, all of them ASCII. They are joined and tested once, so that no test stands
@@ -217,11 +232,10 @@ fn all_ascii(s: &[u8], at: usize) -> bool
     ensures { result ≡ true → (at + 8 ≤ length s.now) ×
         (utf8 (drop (at + 8) s.now) ≡ utf8 (drop at s.now)) }
 {
-    if s.len() - at < 8 {
+    let [a, b, c, d, e, f, g, h, ..] = &s[at..] else {
         return false;
-    }
-    let first = s[at] | s[at + 1] | s[at + 2] | s[at + 3];
-    (first | s[at + 4] | s[at + 5] | s[at + 6] | s[at + 7]) <= 0x7f
+    };
+    a | b | c | d | e | f | g | h <= 0x7f
 }
 
 // Whether the text is well-formed UTF-8.
@@ -246,13 +260,13 @@ pub fn is_utf8(s: &[u8]) -> bool
 }
 
 // Where the run of wanted characters that begins at `at` ends.
-fn run_end(s: &[u8], at: usize, white: bool) -> usize
+fn run_end<W: Wanted>(s: &[u8], at: usize) -> usize
     requires { at ≤ length s.now }
-    ensures { result ≡ at + run (pick white white_space is_family_char) (drop at s.now) }
+    ensures { result ≡ at + run W.rule (drop at s.now) }
 {
     let mut end = at;
     while end < s.len() {
-        let width = width(s, end, white);
+        let width = width::<W>(s, end);
         if width == 0 {
             return end;
         }
@@ -266,7 +280,7 @@ pub fn family_end(s: &[u8], at: usize) -> usize
     requires { at ≤ length s.now }
     ensures { result ≡ at + run is_family_char (drop at s.now) }
 {
-    run_end(s, at, false)
+    run_end::<FamilyChar>(s, at)
 }
 
 // Where the run of white space that begins at `at` ends.
@@ -274,5 +288,5 @@ pub fn whitespace_end(s: &[u8], at: usize) -> usize
     requires { at ≤ length s.now }
     ensures { result ≡ at + run white_space (drop at s.now) }
 {
-    run_end(s, at, true)
+    run_end::<WhiteSpace>(s, at)
 }

@@ -8,9 +8,8 @@ ghost use Rattle.simplify.specs.Elements as elements;
 
 use crate::reach::write_range;
 use layer::{Layer, LayerRange};
-use notation::answer::Answer;
 use notation::limits::RANGE;
-use notation::refusals::NO_ROOM;
+use notation::refusals::Refusal;
 
 // The layers from `low` to `high`, if there are such layers.
 fn some_range(low: u16, high: u16) -> Option<LayerRange>
@@ -39,20 +38,20 @@ fn write_some(out: &mut [u8], at: usize, range: Option<LayerRange>) -> usize
 }
 
 // Answers the ranges of two, either of which may be none.
-fn answer_both(first: Option<LayerRange>, second: Option<LayerRange>, out: &mut [u8]) -> Answer
+fn answer_both(first: Option<LayerRange>, second: Option<LayerRange>, out: &mut [u8]) -> Result<u64, Refusal>
     ensures { elements.Gives (table.listed first ++ table.listed second) result out.new out.old }
 {
     let ranges = first.is_some() as usize + second.is_some() as usize;
     if out.len() / RANGE < ranges {
-        return Answer::Refused(NO_ROOM);
+        return Err(Refusal::NoRoom);
     }
     let at = write_some(out, 0, first);
     write_some(out, at, second);
-    Answer::Value(ranges as u64)
+    Ok(ranges as u64)
 }
 
 // The layers of the range as far as the axis has them.
-fn simplify_range(range: LayerRange, max_layer: u16, out: &mut [u8]) -> Answer
+fn simplify_range(range: LayerRange, max_layer: u16, out: &mut [u8]) -> Result<u64, Refusal>
     requires { meaning.IsRange (meaning.range range) }
     ensures { elements.GivesRanges (rule.keep (rule.clamp_to_layer_count max_layer (meaning.range range)) []) result
         out.new out.old }
@@ -61,7 +60,7 @@ fn simplify_range(range: LayerRange, max_layer: u16, out: &mut [u8]) -> Answer
 }
 
 // The layers of the axis without those of the range.
-fn simplify_around(range: LayerRange, max_layer: u16, out: &mut [u8]) -> Answer
+fn simplify_around(range: LayerRange, max_layer: u16, out: &mut [u8]) -> Result<u64, Refusal>
     requires range { meaning.IsRange (meaning.range range) }
     requires layer { meaning.IsLayer max_layer }
     ensures { elements.GivesRanges
@@ -74,7 +73,7 @@ fn simplify_around(range: LayerRange, max_layer: u16, out: &mut [u8]) -> Answer
 }
 
 // Simplifies a prefix that is no set, with a tilde before it or without one.
-pub fn simplify_no_set(range: LayerRange, inverted: bool, max_layer: u16, out: &mut [u8]) -> Answer
+pub fn simplify_no_set(range: LayerRange, inverted: bool, max_layer: u16, out: &mut [u8]) -> Result<u64, Refusal>
     requires range { meaning.IsRange (meaning.range range) }
     requires layer { meaning.IsLayer max_layer }
     ensures { elements.GivesRanges

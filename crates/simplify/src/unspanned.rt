@@ -18,12 +18,11 @@ use crate::around::simplify_no_set;
 use crate::reach::{count_runs, mark, turn_over, write_runs};
 use charsets::whitespace_end;
 use layer::{AxisLayersInfo, Layer, LayerRange, SignedLayer};
-use notation::answer::Answer;
 use notation::limits::{MAX_LAYER, RANGE};
-use notation::refusals::NO_ROOM;
+use notation::refusals::Refusal;
 use numbers::signed::{is_negative, magnitude};
 use parse::layer_set_element;
-use parse::parts::{LayerSetElement, LayerSetElementAnswer, Taken};
+use parse::parts::LayerSetElement;
 use record::spanned::LayerPrefixContents;
 
 // The entries of the table of an axis with few layers: clearing the large one costs more than all the rest.
@@ -69,17 +68,17 @@ fn mark_element(reach: &mut [u16], axis: AxisLayersInfo, element: LayerSetElemen
 }
 
 // Where the next element of a set starts, if a comma follows.
-fn after_comma(part: &[u8], at: usize) -> Taken
+fn after_comma(part: &[u8], at: usize) -> Option<usize>
     requires { at ≤ length part.now }
     ensures { end_reading part.now result ≡ padded (just ",") at (drop at part.now) }
 {
     let comma = whitespace_end(part, at);
     if comma < part.len() {
         if part[comma] == b',' {
-            return Taken::To(whitespace_end(part, comma + 1));
+            return Some(whitespace_end(part, comma + 1));
         }
     }
-    Taken::Nothing
+    None
 }
 
 // Gathers the ranges of a layer set, braces and all.
@@ -92,11 +91,11 @@ fn mark_set(part: &[u8], axis: AxisLayersInfo, reach: &mut [u16])
 {
     let mut at = whitespace_end(part, 1);
     loop {
-        let LayerSetElementAnswer::Took(element, next) = layer_set_element(part, at, true) else {
+        let Some(element) = layer_set_element(part, at, true) else {
             return;
         };
-        mark_element(reach, axis, element);
-        let Taken::To(from) = after_comma(part, next) else {
+        mark_element(reach, axis, element.value);
+        let Some(from) = after_comma(part, element.next) else {
             return;
         };
         at = from;
@@ -123,7 +122,7 @@ fn simplify_set(
     inverted: bool,
     reach: &mut [u16],
     out: &mut [u8],
-) -> Answer
+) -> Result<u64, Refusal>
     requires reach_value { reach.old ≡ replicate (axis.max_layer + 1) 0 }
     requires part_value { is_some (layer_set_in part.now) ≡ true }
     ensures { elements.GivesRanges
@@ -133,10 +132,10 @@ fn simplify_set(
     gather_set(part, axis, inverted, reach);
     let runs = count_runs(reach);
     if out.len() / RANGE < runs {
-        return Answer::Refused(NO_ROOM);
+        return Err(Refusal::NoRoom);
     }
     write_runs(reach, out);
-    Answer::Value(runs as u64)
+    Ok(runs as u64)
 }
 
 // Simplifies a layer set by a table of N entries, which the stack of this function holds and no other's.
@@ -145,7 +144,7 @@ fn simplify_set_by<const N: usize>(
     axis: AxisLayersInfo,
     inverted: bool,
     out: &mut [u8],
-) -> Answer
+) -> Result<u64, Refusal>
     requires max_layer_in_bounds { axis.max_layer < N }
     requires table_len_bound { N ≤ 65536 }
     requires part_value { is_some (layer_set_in part.now) ≡ true }
@@ -167,7 +166,7 @@ pub fn simplify(
     max_layer: u16,
     allow_negatives: bool,
     out: &mut [u8],
-) -> Answer
+) -> Result<u64, Refusal>
     requires layer { meaning.IsLayer max_layer }
     requires text_len_bound { length text.now ≤ MAX-TEXT }
     requires layers_value { layers_ok text.now (record'.layers layers) ≡ true }

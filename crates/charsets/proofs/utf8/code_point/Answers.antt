@@ -1,7 +1,6 @@
 -- `charsets::utf8::code_point` meets its contract: a character that stands there has every byte that is read.
 use Prim.Native.Nat.{◌+◌}
 use mathlib.Core.Path.{refl}
-use native.Mathlib.Omega.{arith}
 use borrow.Author.Tests.{le-leb, lt-leb}
 use Rattle.charsets.proofs.Texts.{in-text}
 use Rattle.charsets.proofs.Widths.{Stands, stands, point_at}
@@ -14,15 +13,9 @@ known c = stands c.args.s.now c.args.at c.requires
 pub bounds-s-at : goal.bounds-s-at
 bounds-s-at c = (known (goal.at.bounds-s-at c).Start).first
 
-pub overflow_cast-a : goal.overflow_cast-a
-overflow_cast-a c = omega (arith, c.type_inv.s c.args.at)
-
 pub returns-then-a-le127 : goal.returns-then-a-le127
 returns-then-a-le127 c =
     point_at c.args.s.now c.args.at _ _ _ _ (in-text c.args.s.now c.args.at (known (goal.at.returns-then-a-le127 c).Start).first) refl refl refl (le-leb _ _ c.if-a-le127.true) refl refl
-
-pub overflow_add-at : goal.overflow_add-at
-overflow_add-at c = omega (arith, (known (goal.at.overflow_add-at c).Start).second c.if-a-le127.false)
 
 pub bounds-s-at-2 : goal.bounds-s-at-2
 bounds-s-at-2 c = (known (goal.at.bounds-s-at-2 c).Start).second c.if-a-le127.false
@@ -33,9 +26,6 @@ returns-then-a-le223 c =
     (point_at c.args.s.now c.args.at _ _ _ _ (in-text c.args.s.now c.args.at (known (goal.at.returns-then-a-le223 c).Start).first) (in-text c.args.s.now (c.args.at + 1) ((known (goal.at.returns-then-a-le223 c).Start).second c.if-a-le127.false)) refl refl
     (lt-leb _ _ c.if-a-le127.false) (le-leb _ _ c.if-a-le223.true) refl)
 
-pub overflow_add-at-2 : goal.overflow_add-at-2
-overflow_add-at-2 c = omega (arith, (known (goal.at.overflow_add-at-2 c).Start).third c.if-a-le223.false)
-
 pub bounds-s-at-3 : goal.bounds-s-at-3
 bounds-s-at-3 c = (known (goal.at.bounds-s-at-3 c).Start).third c.if-a-le223.false
 
@@ -45,9 +35,6 @@ returns-then-a-le239 c =
     (point_at c.args.s.now c.args.at _ _ _ _ (in-text c.args.s.now c.args.at (known (goal.at.returns-then-a-le239 c).Start).first) (in-text c.args.s.now (c.args.at + 1) ((known (goal.at.returns-then-a-le239 c).Start).second c.if-a-le127.false))
     (in-text c.args.s.now (c.args.at + 2) ((known (goal.at.returns-then-a-le239 c).Start).third c.if-a-le223.false)) refl
     (lt-leb _ _ c.if-a-le127.false) (lt-leb _ _ c.if-a-le223.false) (le-leb _ _ c.if-a-le239.true))
-
-pub overflow_add-at-3 : goal.overflow_add-at-3
-overflow_add-at-3 c = omega (arith, (known (goal.at.overflow_add-at-3 c).Start).fourth c.if-a-le239.false)
 
 pub bounds-s-at-4 : goal.bounds-s-at-4
 bounds-s-at-4 c = (known (goal.at.bounds-s-at-4 c).Start).fourth c.if-a-le239.false

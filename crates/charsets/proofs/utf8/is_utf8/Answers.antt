@@ -1,7 +1,7 @@
 -- `charsets::utf8::is_utf8` meets its contract: what is left of the text at each turn is as well formed as the whole.
 use Prim.Native.Nat.{ℕ, ◌+◌, ◌≤◌}
 use mathlib.Core.List.{List}
-use mathlib.Core.Path.{◌∙◌, refl, sym}
+use mathlib.Core.Path.{◌∙◌, sym}
 use native.Mathlib.Omega.{arith}
 use lib.ListN.{length, drop, length-drop, drop_of_length-le}
 use Rattle.notation.specs.Utf8.{utf8_from}
@@ -9,29 +9,6 @@ use Rattle.charsets.proofs.Widths.{width_one}
 use Rattle.charsets.proofs.Runs.{utf8-next, utf8-stop, width_fits}
 use Rattle.charsets.proofs.utf8.is_utf8.Goals as goal
 use Rattle.charsets.proofs.utf8.is_utf8.Goals.{Else-width-eq0}
-
-pub loop-at-init : goal.loop-at-init
-loop-at-init c = (omega arith, refl)
-
-pub overflow_add-at : goal.overflow_add-at
-overflow_add-at c = omega (arith, (c.all_ascii.ensures c.if-all_ascii.true).0)
-
-pub loop-at-smaller-then-all_ascii : goal.loop-at-smaller-then-all_ascii
-loop-at-smaller-then-all_ascii c = omega (arith, (c.all_ascii.ensures c.if-all_ascii.true).0)
-
-pub loop-at-preserved-then-all_ascii : goal.loop-at-preserved-then-all_ascii
-loop-at-preserved-then-all_ascii c =
-    let skips = c.all_ascii.ensures c.if-all_ascii.true in
-    (skips.0, skips.1 ∙ c.loop-at.invariant.1)
-
-pub bounds-s-at : goal.bounds-s-at
-bounds-s-at c = omega arith
-
-pub overflow_add-at-then-s-at-le127 : goal.overflow_add-at-then-s-at-le127
-overflow_add-at-then-s-at-le127 c = omega arith
-
-pub loop-at-smaller-then-s-at-le127 : goal.loop-at-smaller-then-s-at-le127
-loop-at-smaller-then-s-at-le127 c = omega arith
 
 pub loop-at-preserved-then-s-at-le127 : goal.loop-at-preserved-then-s-at-le127
 loop-at-preserved-then-s-at-le127 c =
@@ -52,9 +29,6 @@ found c = width_fits (text c) c.loop-at.at _ c.loop-at.invariant.0 c.char_width-
 
 pub overflow_add-at-else-s-at-le127 : goal.overflow_add-at-else-s-at-le127
 overflow_add-at-else-s-at-le127 c = omega (arith, found c)
-
-pub loop-at-smaller : goal.loop-at-smaller
-loop-at-smaller c = omega (arith, found c)
 
 pub loop-at-preserved : goal.loop-at-preserved
 loop-at-preserved c =

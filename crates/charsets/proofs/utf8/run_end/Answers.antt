@@ -1,23 +1,16 @@
 -- `charsets::utf8::run_end` meets its contract: by the laws of a walk along a run.
 use native.Mathlib.Omega.{arith}
-use Rattle.charsets.proofs.Runs.{set_out, fits, goes_on, arrived, at-the-end}
+use Rattle.charsets.proofs.Runs.{fits, goes_on, arrived, at-the-end}
 use Rattle.charsets.proofs.utf8.run_end.Goals as goal
-use Rattle.charsets.proofs.utf8.run_end.Invariants.{wanted}
-
-pub loop-end-init : goal.loop-end-init
-loop-end-init c = set_out (wanted c.args.white) c.requires
 
 pub returns-then-width-eq0 : goal.returns-then-width-eq0
-returns-then-width-eq0 c = arrived _ c.loop-end.invariant c.width-width.ensures c.if-width-eq0.true
+returns-then-width-eq0 g c = arrived _ c.loop-end.invariant c.width-width.ensures c.if-width-eq0.true
 
 pub overflow_add-end : goal.overflow_add-end
-overflow_add-end c = omega (arith, fits _ c.loop-end.invariant c.width-width.ensures)
-
-pub loop-end-smaller : goal.loop-end-smaller
-loop-end-smaller c = omega (arith, fits _ c.loop-end.invariant c.width-width.ensures)
+overflow_add-end g c = omega (arith, fits _ c.loop-end.invariant c.width-width.ensures)
 
 pub loop-end-preserved : goal.loop-end-preserved
-loop-end-preserved c = goes_on _ c.loop-end.invariant c.width-width.ensures (omega arith)
+loop-end-preserved g c = goes_on _ c.loop-end.invariant c.width-width.ensures (omega arith)
 
 pub returns : goal.returns
-returns c = at-the-end _ c.loop-end.invariant c.loop-end-test.false
+returns g c = at-the-end _ c.loop-end.invariant c.loop-end-test.false

@@ -1,16 +1,14 @@
 -- `charsets::utf8::width` meets its contract: by the law of an ASCII character's width under a test.
-use Rattle.notation.specs.Basics.{pick}
-use Rattle.notation.specs.Chars.{is_family_char, white_space}
+use mathlib.Core.Path.{◌∙◌, refl, sym}
 use Rattle.charsets.proofs.Widths.{width-ascii}
 use Rattle.charsets.proofs.utf8.width.Goals as goal
 
-pub returns-then-a-le127 : goal.returns-then-a-le127
-returns-then-a-le127 c =
+pub returns-then-is_ascii_wanted : goal.returns-then-is_ascii_wanted
+returns-then-is_ascii_wanted g c =
     let a = c.args in
-    width-ascii (pick a.white white_space is_family_char) a.s.now a.at c.byte_at-a.ensures c.if-a-le127.true c.is_ascii_wanted.ensures c.width_if.ensures
+    width-ascii g.W.Wanted.rule a.s.now a.at c.byte_at-a.ensures c.if-a-le127.true (sym c.if-is_ascii_wanted.true ∙ c.is_ascii_wanted.ensures) refl
 
-pub returns-then-white : goal.returns-then-white
-returns-then-white c = rw c.if-white.true c.wide_width.ensures
-
-pub returns-else-white : goal.returns-else-white
-returns-else-white c = rw c.if-white.false c.wide_width-else-white.ensures
+pub returns-else-is_ascii_wanted : goal.returns-else-is_ascii_wanted
+returns-else-is_ascii_wanted g c =
+    let a = c.args in
+    width-ascii g.W.Wanted.rule a.s.now a.at c.byte_at-a.ensures c.if-a-le127.true (sym c.if-is_ascii_wanted.false ∙ c.is_ascii_wanted.ensures) refl
