@@ -14,7 +14,8 @@ use Rattle.notation.specs.Meaning.{layer_set_in, or_empty}
 use Rattle.notation.specs.WellFormed.{is_some, inside, layers_ok}
 use Rattle.notation.specs.Refusals.{result}
 use Rattle.notation.specs.Entries.{lent, lend, in_entries, range_bytes}
-use Rattle.notation.specs.declared.answer.Answer.TheVariants.{Value, Refused}
+use Rattle.std.specs.Prelude.{Ok, Err}
+use Rattle.notation.specs.declared.refusals.Refusal.TheVariants.{NoRoom}
 use Rattle.layer.specs.Meaning.{IsLayer, IsRange, RangeUpTo}
 use Rattle.complement_laws.proofs.Sorted.{All}
 use Rattle.complement_laws.proofs.Complement.{others-on-axis}
@@ -30,11 +31,11 @@ use Rattle.simplify.proofs.Few.{set-on-axis}
 
 module _ (l found : List Range) (same : found ≡ l) (out : List ℕ) where
   pub answered : (n : ℕ) (out' : List ℕ) → n ≡ length found → 4 * length found ≤ length out → out' ≡ range_bytes found ++ drop (4 * length found) out →
-      lent (Value n) out' ≡ in_entries 4 (lend (result (range_bytes l)) out)
+      lent (Ok n) out' ≡ in_entries 4 (lend (result (range_bytes l)) out)
   answered n out' e room f =
       rw (← same, length-range_bytes found, le-leb (4 * length found) (length out) room, mul-div_cancel_left (length found) {n = 4} (omega arith), e, f)
 
-  pub refused : length out < 4 * length found → lent (Refused 5) out ≡ in_entries 4 (lend (result (range_bytes l)) out)
+  pub refused : length out < 4 * length found → lent (Err NoRoom) out ≡ in_entries 4 (lend (result (range_bytes l)) out)
   refused full = rw (← same, length-range_bytes found, lt-leb (4 * length found) (length out) full)
 
 -- ── the table of a set ──

@@ -1,11 +1,11 @@
 -- The elements of a layer set, one after another.
-use Rattle.std.specs.Prelude.{ℕ, ◌≡◌, Bool, List, nat_abs}
+use Rattle.std.specs.Prelude.{ℕ, ◌≡◌, Bool, List, nat_abs, Result}
 use Rattle.std.proofs.Math.Option.{Option, none, some}
 use Rattle.notation.specs.Layers.{Range, LayerSetElement, single, range, element_range, set_ranges, lit, simplified}
 use Rattle.notation.specs.Meaning.{layer_set_in, or_empty}
 use Rattle.notation.specs.Refusals.{result}
 use Rattle.notation.specs.Entries.{lent, lend, in_entries, range_bytes}
-use Rattle.notation.specs.declared.answer.Answer.{Answer}
+use Rattle.notation.specs.declared.refusals.Refusal.{Refusal}
 use Rattle.layer.specs.Meaning.{IsLayer}
 use Rattle.simplify.specs.Reach.{marked, marked_all}
 
@@ -31,9 +31,9 @@ abbrev pub lit_set : ℕ → Bool → (inverted : Bool) → List ℕ → List Ra
 lit_set n neg inverted part = lit n inverted (set_ranges n neg (or_empty (layer_set_in part)))
 
 -- the answer for ranges as they stand: lent as entries of four bytes
-abbrev pub Gives : List Range → Answer → List ℕ → List ℕ → Type 0
+abbrev pub Gives : List Range → Result ℕ Refusal → List ℕ → List ℕ → Type 0
 Gives l answer after before = lent answer after ≡ in_entries 4 (lend (result (range_bytes l)) before)
 
 -- the answer for some ranges: simplified
-abbrev pub GivesRanges : List Range → Answer → List ℕ → List ℕ → Type 0
+abbrev pub GivesRanges : List Range → Result ℕ Refusal → List ℕ → List ℕ → Type 0
 GivesRanges l answer after before = Gives (simplified l) answer after before

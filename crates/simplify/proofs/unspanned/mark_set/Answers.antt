@@ -11,13 +11,13 @@ use Rattle.parse.specs.Meaning.{layer_set_element_of}
 use Rattle.simplify.specs.Elements.{marked_set}
 use Rattle.simplify.proofs.SetElements.{set-elements, Element, element-read, comma-read, no-element, no-comma, turned}
 use Rattle.simplify.proofs.unspanned.mark_set.Goals as goal
-use Rattle.simplify.proofs.unspanned.mark_set.Goals.{In-Took}
+use Rattle.simplify.proofs.unspanned.mark_set.Goals.{In-Some}
 
 -- the element that was read
-taken : (c : In-Took) → read (layer_set_element_of c.in-Took.element) c.in-Took.next (drop c.in-Took.next c.args.part.now) ≡ layer_set_element true c.loop-element.at (drop c.loop-element.at c.args.part.now)
-taken c = rw c.in-Took.is at c.layer_set_element.ensures
+taken : (c : In-Some) → read (layer_set_element_of c.in-Some.element.value) c.in-Some.element.next (drop c.in-Some.element.next c.args.part.now) ≡ layer_set_element true c.loop-element.at (drop c.loop-element.at c.args.part.now)
+taken c = rw c.in-Some.is at c.layer_set_element.ensures
 
-found : (c : In-Took) → Element c.args.part.now c.loop-element.at c.loop-element.invariant.2 c.in-Took.next (layer_set_element_of c.in-Took.element)
+found : (c : In-Some) → Element c.args.part.now c.loop-element.at c.loop-element.invariant.2 c.in-Some.element.next (layer_set_element_of c.in-Some.element.value)
 found c = element-read c.args.part.now c.loop-element.at c.loop-element.invariant.2 _ _ (taken c)
 
 pub whitespace_end-at-requires : goal.whitespace_end-at-requires
@@ -49,10 +49,10 @@ returns-in_default c =
 
 pub mark_element-requires : goal.mark_element-requires
 mark_element-requires c =
-    record { max_layer_in_bounds = omega (arith, c.requires.max_layer_in_bounds, c.loop-element.invariant.3); element = (found (goal.at.mark_element-requires c).In-Took).layers }
+    record { max_layer_in_bounds = omega (arith, c.requires.max_layer_in_bounds, c.loop-element.invariant.3); element = (found (goal.at.mark_element-requires c).In-Some).layers }
 
 pub after_comma-requires : goal.after_comma-requires
-after_comma-requires c = (found (goal.at.after_comma-requires c).In-Took).within
+after_comma-requires c = (found (goal.at.after_comma-requires c).In-Some).within
 
 pub shape_of-reach-in_default-after_comma : goal.shape_of-reach-in_default-after_comma
 shape_of-reach-in_default-after_comma c = omega (arith, c.mark_element.auto.reach, c.loop-element.invariant.3)
@@ -60,19 +60,19 @@ shape_of-reach-in_default-after_comma c = omega (arith, c.mark_element.auto.reac
 pub returns-in_default-after_comma : goal.returns-in_default-after_comma
 returns-in_default-after_comma c =
     no-comma c.args.axis.max_layer c.args.axis.allow_negatives c.args.part.now c.loop-element.invariant.0 c.loop-element.at c.loop-element.invariant.2 c.loop-element.reach _ c.loop-element.invariant.4
-    _ _ (taken (goal.at.returns-in_default-after_comma c).In-Took) _ c.mark_element.ensures
+    _ _ (taken (goal.at.returns-in_default-after_comma c).In-Some) _ c.mark_element.ensures
     (rw c.in_default-after_comma.is at c.after_comma.ensures)
 
 pub loop-element-smaller : goal.loop-element-smaller
 loop-element-smaller c =
-    let from = rw c.in-To.is at c.after_comma.ensures in
-    let next = comma-read c.args.part.now _ (found (goal.at.loop-element-smaller c).In-Took).within _ _ from in
-    omega (arith, (found (goal.at.loop-element-smaller c).In-Took).later, next.later, next.within)
+    let from = rw c.in-Some-after_comma.is at c.after_comma.ensures in
+    let next = comma-read c.args.part.now _ (found (goal.at.loop-element-smaller c).In-Some).within _ _ from in
+    omega (arith, (found (goal.at.loop-element-smaller c).In-Some).later, next.later, next.within)
 
 pub loop-element-preserved : goal.loop-element-preserved
 loop-element-preserved c =
-    let from = rw c.in-To.is at c.after_comma.ensures in
-    let next = comma-read c.args.part.now _ (found (goal.at.loop-element-preserved c).In-Took).within _ _ from in
+    let from = rw c.in-Some-after_comma.is at c.after_comma.ensures in
+    let next = comma-read c.args.part.now _ (found (goal.at.loop-element-preserved c).In-Some).within _ _ from in
     let t = turned c.args.axis.max_layer c.args.axis.allow_negatives c.args.part.now c.loop-element.invariant.0 c.loop-element.at c.loop-element.invariant.2 c.loop-element.reach _ c.loop-element.invariant.4
-    _ _ (taken (goal.at.loop-element-preserved c).In-Took) _ c.mark_element.ensures c.loop-element.invariant.1 _ _ from in
+    _ _ (taken (goal.at.loop-element-preserved c).In-Some) _ c.mark_element.ensures c.loop-element.invariant.1 _ _ from in
     (t.fuel, t.enough, next.within, omega (arith, c.mark_element.auto.reach, c.loop-element.invariant.3), t.rest)
