@@ -1,15 +1,13 @@
 -- A reader and the grammar: what is left of its text, and where a reading leaves the cursor.
-use Rattle.std.specs.Prelude.{ℕ, ◌≤◌, ◌≡◌, List, leb, length, drop}
+use Rattle.std.specs.Prelude.{ℕ, ◌≤◌, ◌≡◌, List, leb, length, drop, Option, Some, None}
 use Rattle.notation.specs.Basics.{pick}
 use Rattle.notation.specs.Entries.{MAX-TEXT}
 use Rattle.notation.specs.Grammar.{Reading, rejected, read, and_then, done, fail, node, whitespace}
 use Rattle.notation.specs.Grammar as rule
 use Rattle.notation.specs.declared.features.Features.{Features}
 use Rattle.parse.specs.Meaning.{node_fields}
-use Rattle.parse.specs.declared.parts.LeafAnswer.{LeafAnswer}
-use Rattle.parse.specs.declared.parts.LeafAnswer.TheVariants as leaf_answer
-use Rattle.parse.specs.declared.parts.Taken.{Taken}
-use Rattle.parse.specs.declared.parts.Taken.TheVariants as taken
+use Rattle.parsed.specs.declared.Parsed.{Parsed}
+use Rattle.record.specs.declared.encode.Fields.{Fields}
 use Rattle.reader.specs.declared.Reader.{Reader}
 
 abbrev pub text : Reader → List ℕ
@@ -52,11 +50,7 @@ leaf_after_spaces f at s = and_then (whitespace at s) (λ _. leaf f)
 abbrev pub first_leaf : Features → List ℕ → Reading (List ℕ)
 first_leaf f s = pick (leb (length s) MAX-TEXT) (leaf_after_spaces f 0 s) rejected
 
--- Where an answer of `parse` leaves the cursor.
-abbrev pub after_leaf : ℕ → LeafAnswer → ℕ
-after_leaf at leaf_answer.Nothing = at
-after_leaf at (leaf_answer.Took rec next) = next
-
-abbrev pub after_set : ℕ → Taken → ℕ
-after_set at taken.Nothing = at
-after_set at (taken.To next) = next
+-- where an answer of `parse` leaves the cursor
+abbrev pub after_leaf : ℕ → Option (Parsed Fields) → ℕ
+after_leaf at None = at
+after_leaf at (Some p) = p.next

@@ -8,13 +8,16 @@ ghost use Rattle.std.specs.Prelude.{◌≡◌, ◌≤◌, eqb, length};
 ghost use Rattle.notation.specs.Entries.{MAX-TEXT};
 ghost use Rattle.notation.specs.Numbers.{from_bits};
 ghost use Rattle.notation.specs.Grammar as rule;
+ghost use Rattle.parsed.specs.Reading.{reading};
+ghost use Rattle.record.specs.Meaning.{listed};
 ghost use Rattle.parse.specs.Meaning as means;
 ghost use Rattle.reader.specs.Cursor as cursor;
 
 use charsets::whitespace_end;
 use notation::features::Features;
 use notation::limits::MAX_TEXT;
-use parse::parts::{LeafAnswer, Taken};
+use parsed::Parsed;
+use record::encode::Fields;
 
 #[derive(Clone, Copy)]
 pub struct Reader<'a> {
@@ -23,22 +26,12 @@ pub struct Reader<'a> {
 }
 
 // Where the cursor goes after a leaf.
-fn after_leaf(answer: &LeafAnswer, at: usize) -> usize
+fn after_leaf(answer: &Option<Parsed<Fields>>, at: usize) -> usize
     ensures { result ≡ cursor.after_leaf at answer.now }
 {
     match answer {
-        LeafAnswer::Took(_, next) => *next,
-        LeafAnswer::Nothing => at,
-    }
-}
-
-// Where the cursor goes after a set.
-fn after_set(answer: &Taken, at: usize) -> usize
-    ensures { result ≡ cursor.after_set at answer.now }
-{
-    match answer {
-        Taken::To(next) => *next,
-        Taken::Nothing => at,
+        Some(leaf) => leaf.next,
+        None => at,
     }
 }
 
@@ -73,24 +66,24 @@ impl<'a> Reader<'a> {
     {
         let times = parse::multiplier(self.text, self.at, features);
         self.at = times.next;
-        times.bits
+        times.value
     }
 
     // Reads a set of constraints: where it ends.
-    pub fn constraint_set(&mut self) -> Taken
+    pub fn constraint_set(&mut self) -> Option<usize>
         requires { cursor.Inside self.old }
         ensures { (means.end_reading (cursor.text self.old) result ≡ means.forget
             (cursor.reads rule.constraint_set self.old)) × cursor.Moves rule.constraint_set self.old self.new }
     {
         let answer = parse::constraint_set(self.text, self.at);
-        self.at = after_set(&answer, self.at);
+        self.at = answer.unwrap_or(self.at);
         answer
     }
 
     // Reads a leaf, a node that is no group.
-    pub fn leaf(&mut self, features: Features) -> LeafAnswer
+    pub fn leaf(&mut self, features: Features) -> Option<Parsed<Fields>>
         requires { cursor.Inside self.old × (length (cursor.text self.old) ≤ MAX-TEXT) }
-        ensures { (means.record_reading (cursor.text self.old) result ≡ cursor.reads (cursor.leaf features)
+        ensures { (reading listed (cursor.text self.old) result ≡ cursor.reads (cursor.leaf features)
             self.old) × cursor.Moves (cursor.leaf features) self.old self.new }
     {
         let answer = parse::leaf(self.text, self.at, features);
@@ -100,9 +93,9 @@ impl<'a> Reader<'a> {
 }
 
 // What `first_leaf` answers of a text that is not too long.
-fn first_leaf_of_short(text: &[u8], features: Features) -> LeafAnswer
+fn first_leaf_of_short(text: &[u8], features: Features) -> Option<Parsed<Fields>>
     requires { length text.now ≤ MAX-TEXT }
-    ensures { means.record_reading text.now result ≡ cursor.leaf_after_spaces features 0 text.now }
+    ensures { reading listed text.now result ≡ cursor.leaf_after_spaces features 0 text.now }
 {
     let mut reader = Reader::new(text);
     reader.skip_whitespace();
@@ -110,11 +103,11 @@ fn first_leaf_of_short(text: &[u8], features: Features) -> LeafAnswer
 }
 
 // The leaf that a text begins with, after white space. None is read of a text that is too long.
-pub fn first_leaf(text: &[u8], features: Features) -> LeafAnswer
-    ensures { means.record_reading text.now result ≡ cursor.first_leaf features text.now }
+pub fn first_leaf(text: &[u8], features: Features) -> Option<Parsed<Fields>>
+    ensures { reading listed text.now result ≡ cursor.first_leaf features text.now }
 {
     if MAX_TEXT < text.len() {
-        return LeafAnswer::Nothing;
+        return None;
     }
     first_leaf_of_short(text, features)
 }
