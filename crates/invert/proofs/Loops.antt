@@ -20,7 +20,11 @@ use Rattle.laws.proofs.Packing.{pack-append}
 use Rattle.laws.proofs.Walking.{no_node}
 use Rattle.nodes.specs.Nodes.{IsNode, part, FirstNode}
 use Rattle.nodes.proofs.Nodes.{part_length, length_part, part-front, alone, first-low, first_head, FirstLeaf, leaf-node}
-use Rattle.invert.specs.Nodes.{inverse, over, head_refusal}
+use Rattle.std.specs.Prelude.{None, Some}
+use Rattle.std.specs.Option.{option_or}
+use Rattle.std.specs.Prelude.{Option as Answer}
+use Rattle.invert.specs.Meaning.{meant}
+use Rattle.invert.specs.Nodes.{inverse, head_refusal}
 
 -- An inverse: the last node's comes first, and a leaf is inverted alike by both.
 pub record Reverses (f : Tree → Tree) : Type 0 where
@@ -162,38 +166,49 @@ pub deep-latest : Latest deep_refusal
 unfolding deep_refusal
 deep-latest = record { empty = refl; more = λ n l. refl }
 
-over_first : (r q : Option ℕ) (k : ℕ) → over (first r q) k ≡ over r (over q k)
-over_first none q k = refl
-over_first (some r) q k = refl
+-- of two answers, the first that is one
+or_first : (a b : Answer ℕ) → meant (option_or a b) ≡ first (meant a) (meant b)
+or_first None b = refl
+or_first (Some r) b = refl
 
--- t is what is left of tree, and found what its nodes so far are refused for, or what was found before
-pub record Looked (g : Tree → Option ℕ) (tree t : List ℕ) (before found : ℕ) : Type 0 where
+first_none : (r : Option ℕ) → first r none ≡ r
+first_none none = refl
+first_none (some r) = refl
+
+first_first : (r q o : Option ℕ) → first (first r q) o ≡ first r (first q o)
+first_first none q o = refl
+first_first (some r) q o = refl
+
+-- t is what is left of tree, and found what its nodes so far are refused for
+pub record Looked (g : Tree → Option ℕ) (tree t : List ℕ) (found : Option ℕ) : Type 0 where
   pub packed : Packed t
   pub short : length t ≤ length tree
-  pub done : over (g (unpack t)) found ≡ over (g (unpack tree)) before
+  pub done : first (g (unpack t)) found ≡ g (unpack tree)
 
-pub looked-none : (g : Tree → Option ℕ) (tree : List ℕ) (before : ℕ) → Packed tree → Looked g tree tree before before
-looked-none g tree before p = record { packed = p; short = omega arith; done = refl }
+pub looked-none : (g : Tree → Option ℕ) (tree : List ℕ) → Packed tree → Looked g tree tree none
+looked-none g tree p = record { packed = p; short = omega arith; done = first_none (g (unpack tree)) }
 
-pub looked-more : {g : Tree → Option ℕ} {tree t : List ℕ} {before found : ℕ} {e : ℕ} → Latest g → Looked g tree t before found → (s : FirstNode t e)
-    → (found' : ℕ) → found' ≡ over (g (cons s.node nil)) found → Looked g tree (part e (length t) t) before found'
-looked-more {g} {tree} {t} {before} {found} {e} r w s found' q =
+pub looked-more : {g : Tree → Option ℕ} {tree t : List ℕ} {e : ℕ} → (before here after : Answer ℕ) → Latest g → Looked g tree t (meant before) → (s : FirstNode t e)
+    → after ≡ option_or here before → meant here ≡ g (cons s.node nil) → Looked g tree (part e (length t) t) (meant after)
+looked-more {g} {tree} {t} {e} before here after r w s a q =
     let l : Tree = unpack (part e (length t) t) in
+    let found : Option ℕ = meant before in
     record {
       packed = s.packed_rest;
       short = omega (arith, w.short, part_length e (length t) t);
       done =
-          ap (over (g l)) q
-          ∙ sym (over_first (g l) (g (cons s.node nil)) found)
-          ∙ sym (ap (λ (o : Option ℕ). over o found) (r.more s.node l))
-          ∙ sym (ap (λ (x : Tree). over (g x) found) s.unpacks)
+          ap (λ (x : Answer ℕ). first (g l) (meant x)) a
+          ∙ ap (first (g l)) (or_first here before ∙ ap (λ (o : Option ℕ). first o found) q)
+          ∙ sym (first_first (g l) (g (cons s.node nil)) found)
+          ∙ sym (ap (λ (o : Option ℕ). first o found) (r.more s.node l))
+          ∙ sym (ap (λ (x : Tree). first (g x) found) s.unpacks)
           ∙ w.done;
     }
 
-pub looked-all : (g : Tree → Option ℕ) (tree t : List ℕ) (before found : ℕ) → Latest g → Looked g tree t before found → length t ≤ 0 → found ≡ over (g (unpack tree)) before
-looked-all g tree t before found r w h =
+pub looked-all : {g : Tree → Option ℕ} {tree t : List ℕ} {found : Option ℕ} → Latest g → Looked g tree t found → length t ≤ 0 → found ≡ g (unpack tree)
+looked-all {g} {tree} {t} {found} r w h =
     let none : length t ≡ 0 = omega arith in
-    sym (ap (λ (x : Tree). over (g x) found) (no_node t w.packed none) ∙ ap (λ (o : Option ℕ). over o found) r.empty) ∙ w.done
+    sym (ap (λ (x : Tree). first (g x) found) (no_node t w.packed none) ∙ ap (λ (o : Option ℕ). first o found) r.empty) ∙ w.done
 
 -- the shallow walk looks only at the first record
 pub inv-one : {t : List ℕ} {e : ℕ} (s : FirstNode t e) → head_refusal (head_at t) ≡ inv_refusal (cons s.node nil)

@@ -9,17 +9,19 @@ use Rattle.notation.specs.Refusals.{OVERFLOW}
 use Rattle.notation.specs.Packed.{Head, leaf_head, group_head, binary_head, head_at}
 use Rattle.record.specs.Undone.{overflows_at}
 use Rattle.record.proofs.Overflows.{head_overflows, overflow-test}
-use Rattle.invert.specs.Nodes.{head_refusal, over}
+use Rattle.std.specs.Bool.{then_some}
+use Rattle.invert.specs.Meaning.{meant}
+use Rattle.invert.specs.Nodes.{head_refusal}
 
 -- of any record, by the test that the code makes
-pub by-test : (bs : List ℕ) (o : Bool) → o ≡ overflows_at bs → (before : ℕ) → pick o OVERFLOW before ≡ over (head_refusal (head_at bs)) before
-by-test bs o e before = ap (λ (b : Bool). pick b OVERFLOW before) (e ∙ overflow-test bs) ∙ go (head_at bs)
+pub by-test : (bs : List ℕ) (o : Bool) → o ≡ overflows_at bs → meant (then_some o OVERFLOW) ≡ head_refusal (head_at bs)
+by-test bs o e = answer o ∙ ap (λ (b : Bool). pick b (some OVERFLOW) none) (e ∙ overflow-test bs) ∙ go (head_at bs)
   where
-    one : (b : Bool) → pick b OVERFLOW before ≡ over (pick b (some OVERFLOW) none) before
-    one true = refl
-    one false = refl
+    answer : (b : Bool) → meant (then_some b OVERFLOW) ≡ pick b (some OVERFLOW) none
+    answer true = refl
+    answer false = refl
 
-    go : (h : Head) → pick (head_overflows h) OVERFLOW before ≡ over (head_refusal h) before
-    go (leaf_head x) = one (head_overflows (leaf_head x))
+    go : (h : Head) → pick (head_overflows h) (some OVERFLOW) none ≡ head_refusal h
+    go (leaf_head x) = refl
     go (group_head k n m c) = refl
     go (binary_head k n n' m c) = refl

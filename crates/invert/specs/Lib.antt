@@ -1,2 +1,3 @@
 -- What the contracts of this crate cite beside the rules of `notation` and their laws.
+pub mod Meaning
 pub mod Nodes

@@ -1,6 +1,6 @@
 -- Nodes as the inverses take them.
 use Rattle.std.specs.Prelude.{ℕ, ◌≤◌, ◌≡◌, Bool, true, false, List, ◌++◌, length, take}
-use Rattle.std.proofs.Math.Option.{Option, none, some}
+use Rattle.std.proofs.Math.Option.{Option, none}
 use Rattle.notation.specs.Tree.{Tree}
 use Rattle.notation.specs.Packed.{RECORD, Head, leaf_head, group_head, binary_head, pack, unpack}
 use Rattle.record.specs.Meaning.{kind_at}
@@ -12,11 +12,6 @@ use Rattle.nodes.specs.Nodes.{part}
 abbrev pub inverse : Bool → Tree → Tree
 inverse true = deeply
 inverse false = inverted
-
--- a refusal, or else what was found before
-abbrev pub over : Option ℕ → ℕ → ℕ
-over none before = before
-over (some r) before = r
 
 abbrev pub head_refusal : Head → Option ℕ
 head_refusal (leaf_head x) = leaf_refusal x

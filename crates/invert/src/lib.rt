@@ -13,7 +13,8 @@ ghost use Rattle.record.specs.Meaning.{field, kind_at};
 ghost use Rattle.laws.specs.Packed.{Packed};
 ghost use Rattle.laws.specs.Inverted.{inverted, inv_refusal, deeply, deep_refusal};
 ghost use Rattle.nodes.specs.Nodes.{IsNode};
-ghost use Rattle.invert.specs.Nodes.{inverse, over};
+ghost use Rattle.invert.specs.Meaning.{meant};
+ghost use Rattle.invert.specs.Nodes.{inverse};
 
 use nodes::{first_end, node_end};
 use notation::refusals::NISS;
@@ -23,64 +24,56 @@ use record::undo::undo_record;
 use record::{RECORD, fields, kinds};
 use refusal::pair_refusal;
 
-// The refusal of the shallow inverse: 8 where a node of the outer list is a pair that has no opposite, else 0.
-pub fn inv_refusal(tree: &[u8]) -> u8
+// The refusal of the shallow inverse: 8 where a node of the outer list is a pair that has no opposite.
+pub fn inv_refusal(tree: &[u8]) -> Option<u8>
     requires { Packed tree.now }
-    ensures { result ≡ over (inv_refusal (unpack tree.now)) 0 }
+    ensures { meant result ≡ inv_refusal (unpack tree.now) }
 {
     let mut t = tree;
-    let mut found: u8 = 0;
+    let mut found = None;
     while 0 < t.len() {
-        found = pair_refusal(t, found);
+        found = pair_refusal(t).or(found);
         let e = node_end(t);
         t = &t[e..];
     }
     found
 }
 
-// The first refusal that the deep inverse meets from the last node to the first, or 0.
-pub fn inv_deep_refusal(tree: &[u8]) -> u8
+// The first refusal that the deep inverse meets from the last node to the first. A later node's refusal replaces an
+// earlier one: the walk goes forwards, the rule backwards.
+#[cycle(inv_deep_refusal_node_refusal)]
+pub fn inv_deep_refusal(tree: &[u8]) -> Option<u8>
     requires { Packed tree.now }
-    ensures { result ≡ over (deep_refusal (unpack tree.now)) 0 }
-{
-    list_refusal(tree, 0)
-}
-
-// The refusal of a list, or what was found before it. A later node's refusal replaces an earlier one: the walk goes
-// forwards, the rule backwards.
-#[cycle(list_refusal_node_refusal)]
-fn list_refusal(tree: &[u8], before: u8) -> u8
-    requires { Packed tree.now }
-    ensures { result ≡ over (deep_refusal (unpack tree.now)) before }
+    ensures { meant result ≡ deep_refusal (unpack tree.now) }
 {
     let mut t = tree;
-    let mut found = before;
+    let mut found = None;
     while 0 < t.len() {
         let e = node_end(t);
-        found = node_refusal(&t[..e], found);
+        found = node_refusal(&t[..e]).or(found);
         t = &t[e..];
     }
     found
 }
 
-// The refusal of a node, or what was found before it. Of a commutator no list is entered, of a conjugate the second.
-#[cycle(list_refusal_node_refusal)]
-fn node_refusal(node: &[u8], before: u8) -> u8
+// The refusal of a node. Of a commutator no list is entered, of a conjugate the second.
+#[cycle(inv_deep_refusal_node_refusal)]
+fn node_refusal(node: &[u8]) -> Option<u8>
     requires { (n : Node Leaf) × IsNode node.now n }
-    ensures { result ≡ over (deep_refusal (unpack node.now)) before }
+    ensures { meant result ≡ deep_refusal (unpack node.now) }
 {
     let kind = fields::kind(node);
     if kind == kinds::NISS {
-        return NISS;
+        return Some(NISS);
     }
     if kind == kinds::COMMUTATOR {
-        return before;
+        return None;
     }
     if fields::is_leaf(node) {
-        return pair_refusal(node, before);
+        return pair_refusal(node);
     }
     let m = inner_start(node);
-    list_refusal(&node[m..], before)
+    inv_deep_refusal(&node[m..])
 }
 
 // Writes the shallow inverse: what stands inside a group is kept as it is.
@@ -101,7 +94,8 @@ pub fn inv_deep(tree: &[u8], out: &mut [u8])
     invert(tree, out, true);
 }
 
-// Writes either inverse: they differ only in what is done to a group.
+// Writes either inverse: they differ only in what is done to a group. A flag says which, since a trait's method that
+// calls this function again gets no proof of its loans.
 #[cycle(invert_invert_group)]
 fn invert(tree: &[u8], out: &mut [u8], deep: bool)
     requires packed { Packed tree.now }
@@ -187,7 +181,7 @@ fn exchange_lists(node: &[u8], out: &mut [u8])
 }
 
 // Copies bytes, one after the other: `copy_from_slice` would ask the platform for memmove, which a host need not have
-// (include/hypuz_notation.h).
+// (include/hypuz_notation.h). By an index, since after a loop over `iter_mut` only the length of `out` would be known.
 fn copy(from: &[u8], out: &mut [u8])
     requires { length from.now ≡ length out.old }
     ensures { out.new ≡ from.now }

@@ -1,12 +1,13 @@
--- `invert::inv_refusal` meets its contract. The loop's invariant: the refusal of what is left, or else `found`, is the tree's.
+-- `invert::inv_refusal` meets its contract. The loop's invariant: the refusal of what is left,or else what was found, is the tree's.
 -- Assumes nothing.
 use lib.ListN.{length}
 use Rattle.laws.specs.Inverted.{inv_refusal}
+use Rattle.invert.specs.Meaning.{meant}
 use Rattle.invert.proofs.Loops.{Looked}
 use Rattle.invert.proofs.inv_refusal.Given as goal
 
 abbrev pub invariant-loop-t : goal.invariant-loop-t
-invariant-loop-t l = Looked inv_refusal l.tree l.t 0 l.found
+invariant-loop-t l = Looked inv_refusal l.tree l.t (meant l.found)
 
 abbrev pub decreases-loop-t : goal.decreases-loop-t
 decreases-loop-t l = length l.t
