@@ -10,13 +10,12 @@ use borrow.Author.Tests.{le-leb, lt-leb}
 use Rattle.notation.specs.Refusals.{Outcome, refusal, result, TOO-MANY-STEPS}
 use Rattle.notation.specs.Packed.{unpack}
 use Rattle.notation.specs.Counts.{cap, count}
-use Rattle.notation.specs.Lending.{number, value}
+use Rattle.notation.specs.Lending.{number, number_of, value}
 use Rattle.notation.specs.Entries.{steps, count_steps, MAX-STEPS}
 use Rattle.laws.proofs.Bools.{no-refusal}
 use Rattle.laws.specs.Unrolled.{first_refusal}
 use Rattle.laws.proofs.Unrolling.{flatten-is}
 use Rattle.laws.proofs.Counting.{count-is}
-use Rattle.well_formed.specs.Refusing.{refusal_of}
 use Rattle.well_formed.specs.declared.walk.Visited.{Visited}
 use Rattle.notation.specs.declared.refusals.Refusal.{Refusal}
 use Rattle.std.specs.Prelude as code
@@ -40,16 +39,16 @@ module _ (text tree : List ℕ) where
     accepted : Accepted text tree
     accepted = c.found.accepted
 
-    met : refusal_of k.met.forward ≡ first_refusal false (unpack tree)
+    met : number_of k.met.forward ≡ first_refusal false (unpack tree)
     met = ap (λ (f : Bool → Option ℕ). f false) c.found.meets
 
     pub count-refused : (r : Refusal) → k.met.forward ≡ code.Some r → Counts text tree (refusal (number r))
     unfolding steps
-    count-refused r e = refused_as text tree (number r) refl (rw (accepted.is, flatten-is (unpack tree) false, sym met ∙ ap refusal_of e))
+    count-refused r e = refused_as text tree (number r) refl (rw (accepted.is, flatten-is (unpack tree) false, sym met ∙ ap number_of e))
 
     module _ (z : k.met.forward ≡ code.None) where
       unmet : first_refusal false (unpack tree) ≡ none
-      unmet = sym met ∙ ap refusal_of z
+      unmet = sym met ∙ ap number_of z
 
       capped : k.steps ≡ cap (count (unpack tree))
       capped = counted text tree c.answer accepted refl

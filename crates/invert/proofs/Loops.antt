@@ -20,10 +20,11 @@ use Rattle.laws.proofs.Packing.{pack-append}
 use Rattle.laws.proofs.Walking.{no_node}
 use Rattle.nodes.specs.Nodes.{IsNode, part, FirstNode}
 use Rattle.nodes.proofs.Nodes.{part_length, length_part, part-front, alone, first-low, first_head, FirstLeaf, leaf-node}
-use Rattle.std.specs.Prelude.{None, Some}
 use Rattle.std.specs.Option.{option_or}
 use Rattle.std.specs.Prelude.{Option as Answer}
-use Rattle.invert.specs.Meaning.{meant}
+use Rattle.laws.proofs.FirstRefusal.{or-first}
+use Rattle.notation.specs.Lending.{number_of}
+use Rattle.notation.specs.declared.refusals.Refusal.{Refusal}
 use Rattle.invert.specs.Nodes.{inverse, head_refusal}
 
 -- An inverse: the last node's comes first, and a leaf is inverted alike by both.
@@ -166,11 +167,6 @@ pub deep-latest : Latest deep_refusal
 unfolding deep_refusal
 deep-latest = record { empty = refl; more = λ n l. refl }
 
--- of two answers, the first that is one
-or_first : (a b : Answer ℕ) → meant (option_or a b) ≡ first (meant a) (meant b)
-or_first None b = refl
-or_first (Some r) b = refl
-
 first_none : (r : Option ℕ) → first r none ≡ r
 first_none none = refl
 first_none (some r) = refl
@@ -188,17 +184,17 @@ pub record Looked (g : Tree → Option ℕ) (tree t : List ℕ) (found : Option 
 pub looked-none : (g : Tree → Option ℕ) (tree : List ℕ) → Packed tree → Looked g tree tree none
 looked-none g tree p = record { packed = p; short = omega arith; done = first_none (g (unpack tree)) }
 
-pub looked-more : {g : Tree → Option ℕ} {tree t : List ℕ} {e : ℕ} → (before here after : Answer ℕ) → Latest g → Looked g tree t (meant before) → (s : FirstNode t e)
-    → after ≡ option_or here before → meant here ≡ g (cons s.node nil) → Looked g tree (part e (length t) t) (meant after)
+pub looked-more : {g : Tree → Option ℕ} {tree t : List ℕ} {e : ℕ} → (before here after : Answer Refusal) → Latest g → Looked g tree t (number_of before) → (s : FirstNode t e)
+    → after ≡ option_or here before → number_of here ≡ g (cons s.node nil) → Looked g tree (part e (length t) t) (number_of after)
 looked-more {g} {tree} {t} {e} before here after r w s a q =
     let l : Tree = unpack (part e (length t) t) in
-    let found : Option ℕ = meant before in
+    let found : Option ℕ = number_of before in
     record {
       packed = s.packed_rest;
       short = omega (arith, w.short, part_length e (length t) t);
       done =
-          ap (λ (x : Answer ℕ). first (g l) (meant x)) a
-          ∙ ap (first (g l)) (or_first here before ∙ ap (λ (o : Option ℕ). first o found) q)
+          ap (λ (x : Answer Refusal). first (g l) (number_of x)) a
+          ∙ ap (first (g l)) (or-first here before ∙ ap (λ (o : Option ℕ). first o found) q)
           ∙ sym (first_first (g l) (g (cons s.node nil)) found)
           ∙ sym (ap (λ (o : Option ℕ). first o found) (r.more s.node l))
           ∙ sym (ap (λ (x : Tree). first (g x) found) s.unpacks)

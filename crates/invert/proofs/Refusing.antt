@@ -10,14 +10,15 @@ use Rattle.notation.specs.Packed.{Head, leaf_head, group_head, binary_head, head
 use Rattle.record.specs.Undone.{overflows_at}
 use Rattle.record.proofs.Overflows.{head_overflows, overflow-test}
 use Rattle.std.specs.Bool.{then_some}
-use Rattle.invert.specs.Meaning.{meant}
+use Rattle.notation.specs.Lending.{number_of}
+use Rattle.notation.specs.declared.refusals.Refusal.TheVariants.{Overflow}
 use Rattle.invert.specs.Nodes.{head_refusal}
 
 -- of any record, by the test that the code makes
-pub by-test : (bs : List ℕ) (o : Bool) → o ≡ overflows_at bs → meant (then_some o OVERFLOW) ≡ head_refusal (head_at bs)
+pub by-test : (bs : List ℕ) (o : Bool) → o ≡ overflows_at bs → number_of (then_some o Overflow) ≡ head_refusal (head_at bs)
 by-test bs o e = answer o ∙ ap (λ (b : Bool). pick b (some OVERFLOW) none) (e ∙ overflow-test bs) ∙ go (head_at bs)
   where
-    answer : (b : Bool) → meant (then_some b OVERFLOW) ≡ pick b (some OVERFLOW) none
+    answer : (b : Bool) → number_of (then_some b Overflow) ≡ pick b (some OVERFLOW) none
     answer true = refl
     answer false = refl
 

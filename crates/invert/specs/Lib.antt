@@ -1,3 +1,2 @@
 -- What the contracts of this crate cite beside the rules of `notation` and their laws.
-pub mod Meaning
 pub mod Nodes

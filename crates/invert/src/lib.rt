@@ -8,26 +8,26 @@ pub mod refusal;
 
 ghost use Rattle.std.specs.Prelude.{◌≡◌, ◌/◌, ◌≤◌, length};
 ghost use Rattle.notation.specs.Tree.{Leaf, Node};
+ghost use Rattle.notation.specs.Lending.{number_of};
 ghost use Rattle.notation.specs.Packed.{RECORD as record_size, pack, unpack};
 ghost use Rattle.record.specs.Meaning.{field, kind_at};
 ghost use Rattle.laws.specs.Packed.{Packed};
 ghost use Rattle.laws.specs.Inverted.{inverted, inv_refusal, deeply, deep_refusal};
 ghost use Rattle.nodes.specs.Nodes.{IsNode};
-ghost use Rattle.invert.specs.Meaning.{meant};
 ghost use Rattle.invert.specs.Nodes.{inverse};
 
 use nodes::{first_end, node_end};
-use notation::refusals::NISS;
+use notation::refusals::Refusal;
 use parts::inner_start;
 use record::copy::copy_record;
 use record::undo::undo_record;
-use record::{RECORD, fields, kinds};
+use record::{Kind, RECORD, fields};
 use refusal::pair_refusal;
 
 // The refusal of the shallow inverse: 8 where a node of the outer list is a pair that has no opposite.
-pub fn inv_refusal(tree: &[u8]) -> Option<u8>
+pub fn inv_refusal(tree: &[u8]) -> Option<Refusal>
     requires { Packed tree.now }
-    ensures { meant result ≡ inv_refusal (unpack tree.now) }
+    ensures { number_of result ≡ inv_refusal (unpack tree.now) }
 {
     let mut t = tree;
     let mut found = None;
@@ -42,9 +42,9 @@ pub fn inv_refusal(tree: &[u8]) -> Option<u8>
 // The first refusal that the deep inverse meets from the last node to the first. A later node's refusal replaces an
 // earlier one: the walk goes forwards, the rule backwards.
 #[cycle(inv_deep_refusal_node_refusal)]
-pub fn inv_deep_refusal(tree: &[u8]) -> Option<u8>
+pub fn inv_deep_refusal(tree: &[u8]) -> Option<Refusal>
     requires { Packed tree.now }
-    ensures { meant result ≡ deep_refusal (unpack tree.now) }
+    ensures { number_of result ≡ deep_refusal (unpack tree.now) }
 {
     let mut t = tree;
     let mut found = None;
@@ -58,15 +58,15 @@ pub fn inv_deep_refusal(tree: &[u8]) -> Option<u8>
 
 // The refusal of a node. Of a commutator no list is entered, of a conjugate the second.
 #[cycle(inv_deep_refusal_node_refusal)]
-fn node_refusal(node: &[u8]) -> Option<u8>
+fn node_refusal(node: &[u8]) -> Option<Refusal>
     requires { (n : Node Leaf) × IsNode node.now n }
-    ensures { meant result ≡ deep_refusal (unpack node.now) }
+    ensures { number_of result ≡ deep_refusal (unpack node.now) }
 {
     let kind = fields::kind(node);
-    if kind == kinds::NISS {
-        return Some(NISS);
+    if kind == Kind::Niss {
+        return Some(Refusal::Niss);
     }
-    if kind == kinds::COMMUTATOR {
+    if kind == Kind::Commutator {
         return None;
     }
     if fields::is_leaf(node) {
@@ -131,7 +131,7 @@ fn invert_group(node: &[u8], out: &mut [u8], deep: bool)
     ensures { out.new ≡ pack (inverse deep (unpack node.now)) }
 {
     if deep {
-        if fields::kind(node) == kinds::COMMUTATOR {
+        if fields::kind(node) == Kind::Commutator {
             exchange_lists(node, out);
             return;
         }

@@ -6,7 +6,7 @@ ghost use Rattle.nodes.specs.Nodes.{IsNode};
 ghost use Rattle.invert.specs.Nodes.{Inner};
 
 use nodes::first_end;
-use record::{RECORD, fields, kinds};
+use record::{Kind, RECORD, fields};
 
 // Where the list begins that the deep inverse enters: the only one of a group, the second of a conjugate.
 pub fn inner_start(node: &[u8]) -> usize
@@ -15,7 +15,7 @@ pub fn inner_start(node: &[u8]) -> usize
     requires no_commutator { kind_at node.now ≡ 4 → ⊥ }
     ensures { Inner node.now result }
 {
-    if fields::kind(node) == kinds::CONJUGATE {
+    if fields::kind(node) == Kind::Conjugate {
         first_end(node)
     } else {
         RECORD

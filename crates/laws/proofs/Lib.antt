@@ -5,6 +5,7 @@ pub mod ListEntries
 pub mod All
 -- Unrolling, inverses, counting, seeking.
 pub mod Unrolling
+pub mod FirstRefusal
 pub mod Inverses
 pub mod Reached
 pub mod Refused

@@ -1,6 +1,8 @@
 -- Answers, and what an entry leaves in the buffers that a caller lends. A refusal keeps every buffer; what does not fit is refused 5 and
 -- keeps them too; else what is written takes the front of its buffer and the rest stays.
 use Rattle.std.specs.Prelude.{ℕ, ◌/◌, Bool, ◌&&◌, List, ◌++◌, leb, length, drop, Result, Ok, Err}
+use Rattle.std.specs.Prelude as code
+use Rattle.std.proofs.Math.Option.{Option, none, some}
 use Rattle.notation.specs.Basics.{Bytes, pick}
 use Rattle.notation.specs.Refusals as by
 use Rattle.notation.specs.Refusals.{Outcome, refusal, result, ◌>>=◌, ◌>>◌, NO-ROOM}
@@ -33,6 +35,11 @@ number refused.FamilyInUse = by.FAMILY-IN-USE
 number refused.AtEnd = by.AT-END
 number refused.AtStart = by.AT-START
 number refused.NoSuchLeaf = by.NO-SUCH-LEAF
+
+-- that of a refusal, if there is one
+abbrev pub number_of : code.Option Refusal → Option ℕ
+number_of code.None = none
+number_of (code.Some r) = some (number r)
 
 -- The code's `Result` says an outcome; document 01's fields are the refusal's number (0 for none) and the value (0 where refused).
 abbrev pub outcome : {A : Type 0} → Result A Refusal → Outcome A

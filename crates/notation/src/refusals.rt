@@ -6,6 +6,9 @@
 ghost use Rattle.std.specs.Prelude.{◌≡◌};
 ghost use Rattle.notation.specs.Lending as rule;
 
+use std::error::Error;
+use std::fmt;
+
 // Why an entry does nothing. Each has a number of its own, by which a host that calls from C is told.
 #[derive(Clone, Copy, Debug, PartialEq, Eq)]
 pub enum Refusal {
@@ -75,6 +78,38 @@ impl Refusal {
         }
     }
 }
+
+impl fmt::Display for Refusal {
+    fn fmt<W: fmt::Write>(&self, f: &mut fmt::Formatter<W>) -> fmt::Result {
+        f.write_str(match self {
+            Refusal::TooLong => "the text is too long",
+            Refusal::NotUtf8 => "the text is not UTF-8",
+            Refusal::TooNested => "groups are nested too deep",
+            Refusal::NotNotation => "the text is no notation",
+            Refusal::NoRoom => "a buffer is too short",
+            Refusal::NotWellFormed => "the tree is not well formed",
+            Refusal::Niss => "a NISS group cannot be unrolled",
+            Refusal::Overflow => "a number has no opposite",
+            Refusal::TooManySteps => "there are too many steps",
+            Refusal::NoSuchPlace => "there is no such place",
+            Refusal::NoSuchLayerCount => "no axis has so many layers",
+            Refusal::NoSuchRecord => "there is no such record",
+            Refusal::StepTooWide => "a step is wider than a line",
+            Refusal::NoSuchCube => "no cube has so many layers",
+            Refusal::BreaksRegulations => "a step breaks the regulations",
+            Refusal::TooManyToReplay => "there are too many steps to replay",
+            Refusal::NotSq1 => "a step is none of Square-1",
+            Refusal::BlockedSlash => "a slash is blocked",
+            Refusal::NotConvertible => "a move to be converted has a tilde or layers",
+            Refusal::FamilyInUse => "a move has a family that converting writes",
+            Refusal::AtEnd => "the place is the end",
+            Refusal::AtStart => "the place is the start",
+            Refusal::NoSuchLeaf => "there is no such leaf",
+        })
+    }
+}
+
+impl Error for Refusal {}
 
 // Why a call that moves a place does nothing, and the place that was handed in.
 #[derive(Clone, Copy, Debug, PartialEq, Eq)]

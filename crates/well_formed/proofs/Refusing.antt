@@ -13,6 +13,7 @@ use Rattle.notation.specs.Numbers.{from_bits}
 use Rattle.notation.specs.Refusals.{NISS}
 use Rattle.notation.specs.Tree.{Leaf, Node, leaf, block, group, binary_group, cons, Tree}
 use Rattle.notation.specs.Packed.{group_number, binary_number, leaf_head, head_at}
+use Rattle.notation.specs.Lending.{number_of}
 use Rattle.notation.specs.Unroll.{turned}
 use Rattle.notation.specs.declared.common.GroupKind.{GroupKind}
 use Rattle.notation.specs.declared.common.GroupKind.TheVariants.{Simple, Macro, Simultaneous, Niss}
@@ -22,8 +23,9 @@ use Rattle.numbers.specs.Sign.{is_negative}
 use Rattle.record.specs.Undone.{overflows_at}
 use Rattle.record.specs.Meaning.{kind_at}
 use Rattle.record.proofs.Overflows.{over_none, head_overflows, overflow-test}
+use Rattle.laws.proofs.FirstRefusal.{or-first}
 use Rattle.laws.specs.Unrolled.{first, if_reached, first_in_order, refusal_binary, refusal_node, refusal_body, first_refusal}
-use Rattle.well_formed.specs.Refusing.{refusal_of, refuses, leaf_refuses, contents_refuse, group_refuses}
+use Rattle.well_formed.specs.Refusing.{refuses, leaf_refuses, contents_refuse, group_refuses}
 use Rattle.well_formed.specs.declared.refusals.Refusals.{Refusals}
 use Rattle.notation.specs.declared.refusals.Refusal.{Refusal}
 use Rattle.notation.specs.declared.refusals.Refusal.TheVariants.{Niss}
@@ -55,13 +57,8 @@ either_way {f} {g} p q = fun_ext at
     at false = p
     at true = q
 
--- the first of two refusals of the code
-pub or-first : (a b : code.Option Refusal) → refusal_of (option_or a b) ≡ first (refusal_of a) (refusal_of b)
-or-first code.None b = refl
-or-first (code.Some r) b = refl
-
-pub or-as : (r a b : code.Option Refusal) (q : Option ℕ) → r ≡ option_or a b → refusal_of b ≡ q → refusal_of r ≡ first (refusal_of a) q
-or-as r a b q e p = ap refusal_of e ∙ or-first a b ∙ ap (first (refusal_of a)) p
+pub or-as : (r a b : code.Option Refusal) (q : Option ℕ) → r ≡ option_or a b → number_of b ≡ q → number_of r ≡ first (number_of a) q
+or-as r a b q e p = ap number_of e ∙ or-first a b ∙ ap (first (number_of a)) p
 
 -- what is found of a leaf that passes a test and does not overflow
 pub passes : (b : Bool) (r : code.Option Refusals) → r ≡ then_some b none-met → code.is_some r ≡ b
@@ -86,7 +83,7 @@ none-met-is true = refl
 none-met-is false = refl
 
 pub met-none : (s : Refusals) → s.forward ≡ code.None → s.backward ≡ code.None → refuses s ≡ (λ (d : Bool). none)
-met-none s e h = either_way (ap refusal_of e) (ap refusal_of h)
+met-none s e h = either_way (ap number_of e) (ap number_of h)
 
 -- A group, by the number of its kind: the ways of `of_group`, with a and b for its lists.
 module _ (k : ℕ) (a b : Bool → Option ℕ) where
@@ -188,7 +185,7 @@ pub nothing-met : (t : Tree) → after (refuses none-met) (of_tree t) ≡ of_tre
 nothing-met t = either_way refl (first-none (first_refusal true t))
 
 pub nothing_left : (met : Refusals) → after (refuses met) (λ d. none) ≡ refuses met
-nothing_left met = either_way (first-none (refusal_of met.forward)) refl
+nothing_left met = either_way (first-none (number_of met.forward)) refl
 
 pub met-more : (met one next : Refusals) (n : Node Leaf) (t : Tree) → refuses one ≡ of_node n → refuses next ≡ after (refuses met) (refuses one) →
     after (refuses next) (of_tree t) ≡ after (refuses met) (of_tree (cons n t))

@@ -1,25 +1,18 @@
 -- The first refusal that unrolling meets, as the code has it, and that of a group by those of its lists. As in specs/Unroll of `notation`
 -- a direction is a Bool: `true` is inverted.
-use Rattle.std.specs.Prelude as code
 use Rattle.std.specs.Prelude.{ℕ, Bool, ◌&&◌, eqb, ℤ, nat_abs}
 use Rattle.std.proofs.Math.Option.{Option, none, some}
 use Rattle.notation.specs.Basics.{pick}
 use Rattle.notation.specs.Refusals.{NISS, OVERFLOW}
-use Rattle.notation.specs.Lending.{number}
+use Rattle.notation.specs.Lending.{number_of}
 use Rattle.notation.specs.Unroll.{turned}
-use Rattle.notation.specs.declared.refusals.Refusal.{Refusal}
 use Rattle.notation.specs.declared.common.BinaryGroupKind.TheVariants.{Commutator, Conjugate}
 use Rattle.laws.specs.Unrolled.{if_reached, refusal_binary}
 use Rattle.well_formed.specs.declared.refusals.Refusals.{Refusals}
 
--- a refusal by its number, or none
-abbrev pub refusal_of : code.Option Refusal → Option ℕ
-refusal_of code.None = none
-refusal_of (code.Some r) = some (number r)
-
 -- the first refusal met in each direction
 abbrev pub refuses : Refusals → Bool → Option ℕ
-refuses s d = pick d (refusal_of s.backward) (refusal_of s.forward)
+refuses s d = pick d (number_of s.backward) (number_of s.forward)
 
 -- a leaf that cannot be undone, or can
 abbrev pub leaf_refuses : Bool → Bool → Option ℕ

@@ -6,6 +6,8 @@ use Rattle.laws.specs.Inverted.{deep_refusal}
 use Rattle.nodes.proofs.Nodes.{list-less, node-room, alone}
 use Rattle.invert.proofs.Nodes.{node-starts, niss-refused, commutator-refused, leaf-refused}
 use Rattle.invert.proofs.Loops.{looked-none, looked-more, looked-all, deep-latest, front-node, front_long}
+use Rattle.record.proofs.SameKind.{is-kind, not-kind}
+use Rattle.record.specs.declared.kinds.Kind.TheVariants.{Niss, Commutator}
 use Rattle.record.proofs.KindTests.{leaf-high, no-leaf-low}
 use Rattle.invert.proofs.+inv_deep_refusal_node_refusal.Goals as goal
 
@@ -34,13 +36,13 @@ inv_deep_refusal-returns t c = looked-all deep-latest c.loop-t.invariant c.loop-
 pub node_refusal-kind-kind-requires : goal.node_refusal-kind-kind-requires
 node_refusal-kind-kind-requires t c = node-room c.requires.1
 
-pub node_refusal-returns-then-kind-eq-NISS : goal.node_refusal-returns-then-kind-eq-NISS
-node_refusal-returns-then-kind-eq-NISS t c =
-    sym (niss-refused _ c.requires.1 (sym c.kind-kind.ensures ∙ c.if-kind-eq-NISS.true))
+pub node_refusal-returns-then-eq : goal.node_refusal-returns-then-eq
+node_refusal-returns-then-eq t c =
+    sym (niss-refused _ c.requires.1 (sym c.kind-kind.ensures ∙ is-kind _ Niss c.eq.ensures c.if-eq.true))
 
-pub node_refusal-returns-then-kind-eq-COMMUTATOR : goal.node_refusal-returns-then-kind-eq-COMMUTATOR
-node_refusal-returns-then-kind-eq-COMMUTATOR t c =
-    sym (commutator-refused _ c.requires.1 (sym c.kind-kind.ensures ∙ c.if-kind-eq-COMMUTATOR.true))
+pub node_refusal-returns-then-eq-2 : goal.node_refusal-returns-then-eq-2
+node_refusal-returns-then-eq-2 t c =
+    sym (commutator-refused _ c.requires.1 (sym c.kind-kind.ensures ∙ is-kind _ Commutator c.eq-2.ensures c.if-eq-2.true))
 
 pub node_refusal-is_leaf-requires : goal.node_refusal-is_leaf-requires
 node_refusal-is_leaf-requires t c = node-room c.requires.1
@@ -56,7 +58,7 @@ node_refusal-returns-then-is_leaf t c =
 
 pub node_refusal-inner_start-m-requires : goal.node_refusal-inner_start-m-requires
 node_refusal-inner_start-m-requires t c =
-    record { node = c.requires; node_bound = no-leaf-low c.is_leaf.ensures c.if-is_leaf.false; no_commutator = λ e. c.if-kind-eq-COMMUTATOR.false (c.kind-kind.ensures ∙ e) }
+    record { node = c.requires; node_bound = no-leaf-low c.is_leaf.ensures c.if-is_leaf.false; no_commutator = λ e. not-kind _ Commutator c.eq-2.ensures c.if-eq-2.false (c.kind-kind.ensures ∙ e) }
 
 pub node_refusal-inv_deep_refusal-requires : goal.node_refusal-inv_deep_refusal-requires
 node_refusal-inv_deep_refusal-requires t c =
@@ -65,4 +67,4 @@ node_refusal-inv_deep_refusal-requires t c =
 
 pub node_refusal-returns : goal.node_refusal-returns
 node_refusal-returns t c =
-    c.inv_deep_refusal.ensures ∙ c.inner_start-m.ensures.refusal (λ e. c.if-kind-eq-NISS.false (c.kind-kind.ensures ∙ e))
+    c.inv_deep_refusal.ensures ∙ c.inner_start-m.ensures.refusal (λ e. not-kind _ Niss c.eq.ensures c.if-eq.false (c.kind-kind.ensures ∙ e))

@@ -3,7 +3,7 @@
 use Prim.Native.Nat.{◌+◌, ◌*◌}
 use lib.ListN.{length}
 use Rattle.laws.specs.Inverted.{deep_refusal}
-use Rattle.invert.specs.Meaning.{meant}
+use Rattle.notation.specs.Lending.{number_of}
 use Rattle.invert.proofs.Loops.{Looked}
 use Rattle.invert.proofs.+inv_deep_refusal_node_refusal.Given as goal
 
@@ -14,7 +14,7 @@ abbrev pub decreases-node_refusal : goal.decreases-node_refusal
 decreases-node_refusal l = length l.node.now * 2
 
 abbrev pub invariant-inv_deep_refusal-loop-t : goal.invariant-inv_deep_refusal-loop-t
-invariant-inv_deep_refusal-loop-t l = Looked deep_refusal l.tree l.t (meant l.found)
+invariant-inv_deep_refusal-loop-t l = Looked deep_refusal l.tree l.t (number_of l.found)
 
 abbrev pub decreases-inv_deep_refusal-loop-t : goal.decreases-inv_deep_refusal-loop-t
 decreases-inv_deep_refusal-loop-t l = length l.t

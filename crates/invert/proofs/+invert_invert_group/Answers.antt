@@ -6,6 +6,8 @@ use mathlib.Core.List.{List, ◌++◌}
 use native.Mathlib.Omega.{arith}
 use lib.ListN.{length, drop, length-append, length-drop}
 use lib.Seq.{length-take-le}
+use Rattle.record.proofs.SameKind.{is-kind, not-kind}
+use Rattle.record.specs.declared.kinds.Kind.TheVariants.{Commutator}
 use Rattle.nodes.proofs.Nodes.{record-room, list-less, node-room, FirstLeaf, first_leaf, leaf-node, leaf-record}
 use Rattle.invert.proofs.Loops.{wrote_none, wrote-leaf, wrote-more, wrote-all, node-place, front-node, front_long, front_low, inverse-reverses, told, same-length-parts, two-parts}
 use Rattle.invert.proofs.+invert_invert_group.Goals as goal
@@ -67,15 +69,15 @@ invert_group-kind-requires t c = node-room c.requires.node.1
 
 pub invert_group-exchange_lists-requires : goal.invert_group-exchange_lists-requires
 invert_group-exchange_lists-requires t c =
-    record { node = c.requires.node; commutator = sym c.kind.ensures ∙ c.if-kind-eq-COMMUTATOR.true; out_len = c.requires.out_len }
+    record { node = c.requires.node; commutator = sym c.kind.ensures ∙ is-kind _ Commutator c.eq.ensures c.if-eq.true; out_len = c.requires.out_len }
 
-pub invert_group-returns-then-kind-eq-COMMUTATOR : goal.invert_group-returns-then-kind-eq-COMMUTATOR
-invert_group-returns-then-kind-eq-COMMUTATOR t c =
+pub invert_group-returns-then-eq : goal.invert_group-returns-then-eq
+invert_group-returns-then-eq t c =
     c.exchange_lists.ensures ∙ told c.if-deep.true c.args.node.now
 
 pub invert_group-inner_start-m-requires : goal.invert_group-inner_start-m-requires
 invert_group-inner_start-m-requires t c =
-    record { node = c.requires.node; node_bound = c.requires.node_bound; no_commutator = λ e. c.if-kind-eq-COMMUTATOR.false (c.kind.ensures ∙ e) }
+    record { node = c.requires.node; node_bound = c.requires.node_bound; no_commutator = λ e. not-kind _ Commutator c.eq.ensures c.if-eq.false (c.kind.ensures ∙ e) }
 
 pub invert_group-invert-requires : goal.invert_group-invert-requires
 invert_group-invert-requires t c =

@@ -2,12 +2,12 @@
 -- Assumes nothing.
 use lib.ListN.{length}
 use Rattle.laws.specs.Inverted.{inv_refusal}
-use Rattle.invert.specs.Meaning.{meant}
+use Rattle.notation.specs.Lending.{number_of}
 use Rattle.invert.proofs.Loops.{Looked}
 use Rattle.invert.proofs.inv_refusal.Given as goal
 
 abbrev pub invariant-loop-t : goal.invariant-loop-t
-invariant-loop-t l = Looked inv_refusal l.tree l.t (meant l.found)
+invariant-loop-t l = Looked inv_refusal l.tree l.t (number_of l.found)
 
 abbrev pub decreases-loop-t : goal.decreases-loop-t
 decreases-loop-t l = length l.t
