@@ -11,11 +11,11 @@ use Rattle.notation.specs.Print.{printed}
 use Rattle.notation.specs.Entries.{display, display_entry}
 use Rattle.display.specs.Written.{MOST}
 use Rattle.checked.specs.Checked.{Accepted, checked_steps}
-use Rattle.checked.proofs.Outcomes.{refused, lend-handed, lend-short, lend-fits}
+use Rattle.checked.proofs.Outcomes.{refused, lend-refused, lend-short, lend-fits}
 
 module _ (text tree buffer : List ℕ) where
-  pub display-unaccepted : {a : Outcome ℕ} {r : ℕ} → a ≡ checked_steps text tree → a ≡ refusal r → record { answer = a; buffer = buffer } ≡ display_entry text tree buffer
-  display-unaccepted c q = lend-handed (display text tree) buffer q (rw (refused text tree c q))
+  pub display-unaccepted : (r : ℕ) → refusal r ≡ checked_steps text tree → record { answer = refusal r; buffer = buffer } ≡ display_entry text tree buffer
+  display-unaccepted r c = lend-refused (display text tree) buffer r (rw (refused text tree c refl))
 
   module _ (accepted : Accepted text tree) (size : ℕ) (counts : size ≡ min (length (printed text (unpack tree))) MOST) where
     given : display text tree ≡ result (printed text (unpack tree))

@@ -114,9 +114,9 @@ abbrev pub found : List ℕ → ℕ → List ℕ
 found tree k = take (length tree - RECORD * k) (drop (RECORD * k) tree)
 
 module _ (text tree : List ℕ) (k : ℕ) where
-  pub family-unaccepted : {a : Outcome ℕ} {r : ℕ} → a ≡ checked_steps text tree → a ≡ refusal r → refusal r ≡ family_span text tree k
+  pub family-unaccepted : (r : ℕ) → refusal r ≡ checked_steps text tree → refusal r ≡ family_span text tree k
   unfolding family_span
-  family-unaccepted c q = rw (refused text tree c q)
+  family-unaccepted r c = rw (refused text tree c refl)
 
   module _ (s : Accepted text tree) where
     pub family-none : length tree / RECORD ≤ k → refusal NO-SUCH-RECORD ≡ family_span text tree k
@@ -153,10 +153,9 @@ module _ (text tree : List ℕ) (k n : ℕ) (neg : Bool) (buffer : List ℕ) whe
   abbrev Refused : ℕ → Type 0
   Refused r = record { answer = refusal r; buffer = buffer } ≡ simplify_bytes text tree k n neg buffer
 
-  pub simplify-unaccepted : {a : Outcome ℕ} {r : ℕ} → a ≡ checked_steps text tree → a ≡ refusal r →
-      record { answer = a; buffer = buffer } ≡ simplify_bytes text tree k n neg buffer
+  pub simplify-unaccepted : (r : ℕ) → refusal r ≡ checked_steps text tree → Refused r
   unfolding layer_ranges
-  simplify-unaccepted c q = rw (q, refused text tree c q)
+  simplify-unaccepted r c = rw (refused text tree c refl)
 
   module _ (s : Accepted text tree) where
     pub simplify-no-layers : n ≡ 0 → Refused NO-SUCH-LAYER-COUNT

@@ -22,26 +22,26 @@ use Rattle.expand.specs.Steps.{WroteSteps}
 use Rattle.expand.proofs.Steps.{length-records}
 use Rattle.checked.specs.Checked.{Counted}
 use Rattle.laws.proofs.Bools.{no-refusal}
-use Rattle.checked.proofs.Outcomes.{lend-refused, lend-handed, lend-short, lend-fits}
+use Rattle.checked.proofs.Outcomes.{lend-refused, lend-short, lend-fits}
 
 -- Where the count is refused, unrolling and seeking are; the answer is handed on as it is.
-module _ (text tree : List ℕ) (o : Outcome ℕ) (e : o ≡ count_steps text tree) (r : ℕ) (q : o ≡ refusal r) (buffer : List ℕ) where
+module _ (text tree : List ℕ) (r : ℕ) (e : refusal r ≡ count_steps text tree) (buffer : List ℕ) where
   pub refused-steps : steps text tree ≡ refusal r
   refused-steps = go (steps text tree) refl
     where
       go : (l : Outcome (List Leaf)) → steps text tree ≡ l → steps text tree ≡ refusal r
       go (refusal k) p =
-          let z : refusal k ≡ o = rw p at (sym e) in
-          p ∙ ap refusal (ap refusal_number (z ∙ q))
+          let z : refusal k ≡ refusal r = rw p at (sym e) in
+          p ∙ ap refusal (ap refusal_number z)
       go (result l) p =
-          let z : result (length l) ≡ o = rw p at (sym e) in
-          no-refusal (sym q ∙ sym z)
+          let z : result (length l) ≡ refusal r = rw p at (sym e) in
+          no-refusal (sym z)
 
-  pub flatten-refused : record { answer = o; buffer = buffer } ≡ flatten_entry text tree buffer
-  flatten-refused = lend-handed (unrolled text tree) buffer q (rw refused-steps)
+  pub flatten-refused : record { answer = refusal r; buffer = buffer } ≡ flatten_entry text tree buffer
+  flatten-refused = lend-refused (unrolled text tree) buffer r (rw refused-steps)
 
-  pub seek-refused : (k : ℕ) → record { answer = o; buffer = buffer } ≡ seek_step text tree k buffer
-  seek-refused k = lend-handed (step_at text tree k) buffer q (rw refused-steps)
+  pub seek-refused : (k : ℕ) → record { answer = refusal r; buffer = buffer } ≡ seek_step text tree k buffer
+  seek-refused k = lend-refused (step_at text tree k) buffer r (rw refused-steps)
 
 -- Where it is not, the steps are those of the tree.
 module _ (text tree : List ℕ) (n : ℕ) (c : Counted text tree n) (buffer : List ℕ) where

@@ -1,22 +1,28 @@
 -- Parts of the text, as an outcome.
-use Rattle.std.specs.Prelude.{ℕ, ◌≡◌, true, List}
+use Rattle.std.specs.Prelude.{ℕ, ◌≡◌, true, List, Option, Some, None, Result, Ok, Err}
 use Rattle.notation.specs.Refusals.{Outcome, refusal, result}
 use Rattle.notation.specs.Tree as tree
 use Rattle.notation.specs.WellFormed.{inside}
 use Rattle.record.specs.Meaning.{span}
 use Rattle.record.specs.Range.{FitsSpan}
-use Rattle.entries.specs.declared.parts.PartAnswer.{PartAnswer}
-use Rattle.entries.specs.declared.parts.PartAnswer.TheVariants.{Part, Refused}
+use Rattle.record.specs.declared.spanned.Span.{Span}
+use Rattle.notation.specs.Lending.{number}
+use Rattle.notation.specs.declared.refusals.Refusal.{Refusal}
 
-abbrev pub part_outcome : PartAnswer → Outcome tree.Span
-part_outcome (Part p) = result (span p)
-part_outcome (Refused r) = refusal r
+abbrev pub part_outcome : Result Span Refusal → Outcome tree.Span
+part_outcome (Ok p) = result (span p)
+part_outcome (Err r) = refusal (number r)
+
+-- a refusal by its number, 0 for none
+abbrev pub or_zero : Option Refusal → ℕ
+or_zero (Some r) = number r
+or_zero None = 0
 
 -- a part that is given stands inside the text, and its numbers have the width of their fields
-abbrev pub Inside : List ℕ → PartAnswer → Type 0
-Inside text (Part p) = inside text (span p) ≡ true
-Inside text (Refused r) = Unit {0}
+abbrev pub Inside : List ℕ → Result Span Refusal → Type 0
+Inside text (Ok p) = inside text (span p) ≡ true
+Inside text (Err r) = Unit {0}
 
-abbrev pub Fits : PartAnswer → Type 0
-Fits (Part p) = FitsSpan (span p)
-Fits (Refused r) = Unit {0}
+abbrev pub Fits : Result Span Refusal → Type 0
+Fits (Ok p) = FitsSpan (span p)
+Fits (Err r) = Unit {0}

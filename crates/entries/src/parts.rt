@@ -1,27 +1,16 @@
 // What one record of a tree names: the layers that a move turns, and a family's part of the text.
-ghost use Rattle.std.specs.Prelude.{◌≡◌, true, ℕ};
-ghost use Rattle.notation.specs.Refusals.{refusal};
+ghost use Rattle.std.specs.Prelude.{◌≡◌, true};
 ghost use Rattle.notation.specs.Entries as rule;
-ghost use Rattle.notation.specs.WellFormed.{inside};
-ghost use Rattle.record.specs.Meaning as means;
-ghost use Rattle.entries.specs.Parts.{part_outcome, Inside, Fits};
+ghost use Rattle.entries.specs.Parts.{part_outcome, or_zero, Inside, Fits};
 
 use checked::check;
-use notation::answer::Answer;
 use notation::limits;
-use notation::refusals::{NO_SUCH_LAYER_COUNT, NO_SUCH_RECORD};
+use notation::refusals::Refusal;
 use record::decode::{family_of, layers};
 use record::spanned::Span;
-use record::{RECORD, fields, kinds};
+use record::{Kind, RECORD, fields};
 
 const MAX_LAYER: u32 = limits::MAX_LAYER as u32;
-
-// A part of the text, or why there is none.
-#[derive(Drop)]
-pub enum PartAnswer {
-    Part(Span),
-    Refused(u8),
-}
 
 // The layers that the move at a record turns, on an axis of `max_layer` layers, with a tilde those that its prefix
 // without it does not give: the number of ranges, each written as low and high, 16 bits big-endian. Refusals 1, 2, 6,
@@ -33,27 +22,24 @@ pub fn simplify(
     max_layer: u32,
     allow_negatives: bool,
     out: &mut [u8],
-) -> Answer
+) -> Result<u64, Refusal>
     ensures { rule.lent result out.new
         ≡ rule.simplify_bytes text.now tree.now «record» max_layer allow_negatives out.old }
 {
-    let checked = check(text, tree).answer;
-    let Answer::Value(_) = checked else {
-        return checked;
-    };
+    check(text, tree)?;
     if max_layer == 0 {
-        return Answer::Refused(NO_SUCH_LAYER_COUNT);
+        return Err(Refusal::NoSuchLayerCount);
     }
     if MAX_LAYER < max_layer {
-        return Answer::Refused(NO_SUCH_LAYER_COUNT);
+        return Err(Refusal::NoSuchLayerCount);
     }
     if (tree.len() / RECORD) as u64 <= record {
-        return Answer::Refused(NO_SUCH_RECORD);
+        return Err(Refusal::NoSuchRecord);
     }
     let from = RECORD * (record as usize);
     let found = &tree[from..];
-    if fields::kind(found) != kinds::MOVE {
-        return Answer::Refused(NO_SUCH_RECORD);
+    if fields::kind(found) != Kind::Move {
+        return Err(Refusal::NoSuchRecord);
     }
     let inverted = fields::tilde(found);
     let layers = layers(found);
@@ -67,38 +53,22 @@ pub fn simplify(
     )
 }
 
-// Turns a refusal that `check` answers into the refusal of a part.
-fn no_part(answer: Answer) -> PartAnswer
-    ensures { (n : ℕ) → rule.outcome answer ≡ refusal n → result ≡ PartAnswer.Refused n }
-{
-    match answer {
-        Answer::Value(_) => PartAnswer::Refused(NO_SUCH_RECORD),
-        Answer::Refused(number) => PartAnswer::Refused(number),
-    }
-}
-
 // Where the family of a record stands in the text: refusals 1, 2, 6, 12.
-pub fn family_part(text: &[u8], tree: &[u8], record: u64) -> PartAnswer
+pub fn family_part(text: &[u8], tree: &[u8], record: u64) -> Result<Span, Refusal>
     ensures result_value { part_outcome result ≡ rule.family_span text.now tree.now «record» }
     ensures inside { Inside text.now result }
     ensures fits { Fits result }
 {
-    let checked = check(text, tree).answer;
-    let Answer::Value(_) = checked else {
-        return no_part(checked);
-    };
+    check(text, tree)?;
     if (tree.len() / RECORD) as u64 <= record {
-        return PartAnswer::Refused(NO_SUCH_RECORD);
+        return Err(Refusal::NoSuchRecord);
     }
     let from = RECORD * (record as usize);
     let found = &tree[from..];
-    if fields::is_group(found) {
-        return PartAnswer::Refused(NO_SUCH_RECORD);
+    match fields::kind(found) {
+        Kind::Rotation | Kind::Move => Ok(family_of(found)),
+        _ => Err(Refusal::NoSuchRecord),
     }
-    if kinds::MOVE < fields::kind(found) {
-        return PartAnswer::Refused(NO_SUCH_RECORD);
-    }
-    PartAnswer::Part(family_of(found))
 }
 
 // The family itself: the very part of the caller's text, and an empty one where there is none.
@@ -106,21 +76,18 @@ pub fn family<'a>(text: &'a [u8], tree: &[u8], record: u64) -> &'a [u8]
     ensures { result.now ≡ rule.family text.now tree.now «record» }
 {
     match family_part(text, tree, record) {
-        PartAnswer::Part(p) => {
+        Ok(p) => {
             let from = p.offset as usize;
             let to = from + (p.size as usize);
             &text[from..to]
         }
-        PartAnswer::Refused(_) => &text[0..0],
+        Err(_) => &text[0..0],
     }
 }
 
-// The refusal beside it; 0 for none.
-pub fn family_refusal(text: &[u8], tree: &[u8], record: u64) -> u8
-    ensures { result ≡ rule.family_refusal text.now tree.now «record» }
+// The refusal beside it, if there is one.
+pub fn family_refusal(text: &[u8], tree: &[u8], record: u64) -> Option<Refusal>
+    ensures { or_zero result ≡ rule.family_refusal text.now tree.now «record» }
 {
-    match family_part(text, tree, record) {
-        PartAnswer::Part(_) => 0,
-        PartAnswer::Refused(number) => number,
-    }
+    family_part(text, tree, record).err()
 }

@@ -3,27 +3,23 @@ ghost use Rattle.std.specs.Prelude.{◌≡◌};
 ghost use Rattle.notation.specs.Entries as rule;
 
 use checked::check;
-use notation::answer::Answer;
-use notation::refusals::NO_ROOM;
+use notation::refusals::Refusal;
 
 // Refusals 1, 2, 6, 5. Where the buffer may be too short, a first run has no room and only measures.
-pub fn display(text: &[u8], tree: &[u8], out: &mut [u8]) -> Answer
+pub fn display(text: &[u8], tree: &[u8], out: &mut [u8]) -> Result<u64, Refusal>
     ensures { rule.lent result out.new ≡ rule.display_entry text.now tree.now out.old }
 {
-    let checked = check(text, tree).answer;
-    let Answer::Value(_) = checked else {
-        return checked;
-    };
+    check(text, tree)?;
     // Most buffers surely suffice; then one run prints.
     if display::fits(tree, out.len()) {
         let written = display::display(text, tree, out);
-        return Answer::Value(written as u64);
+        return Ok(written as u64);
     }
     let mut nothing = [0u8; 0];
     let size = display::display(text, tree, &mut nothing);
     if out.len() < size {
-        return Answer::Refused(NO_ROOM);
+        return Err(Refusal::NoRoom);
     }
     display::display(text, tree, &mut out[0..size]);
-    Answer::Value(size as u64)
+    Ok(size as u64)
 }

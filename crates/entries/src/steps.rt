@@ -5,12 +5,11 @@ ghost use Rattle.notation.specs.Entries as rule;
 ghost use Rattle.checked.specs.Checked.{Counted};
 
 use checked::{check, count_checked};
-use notation::answer::Answer;
-use notation::refusals::{NO_ROOM, NO_SUCH_PLACE};
+use notation::refusals::Refusal;
 use record::RECORD;
 
 // How many steps a tree unrolls into: refusals 1, 2, 6, 7 or 8, 9.
-pub fn count_steps(text: &[u8], tree: &[u8]) -> Answer
+pub fn count_steps(text: &[u8], tree: &[u8]) -> Result<u64, Refusal>
     ensures answer { rule.outcome result ≡ rule.count_steps text.now tree.now }
     ensures counted { (n : ℕ) → rule.outcome result ≡ accepted n → Counted text.now tree.now n }
 {
@@ -18,36 +17,30 @@ pub fn count_steps(text: &[u8], tree: &[u8]) -> Answer
 }
 
 // The unrolled list, a record for each step: refusals 1, 2, 6, 7 or 8, 9, 5.
-pub fn flatten(text: &[u8], tree: &[u8], out: &mut [u8]) -> Answer
+pub fn flatten(text: &[u8], tree: &[u8], out: &mut [u8]) -> Result<u64, Refusal>
     ensures { rule.lent result out.new ≡ rule.flatten_entry text.now tree.now out.old }
 {
-    let counted = count_steps(text, tree);
-    let Answer::Value(steps) = counted else {
-        return counted;
-    };
+    let steps = count_steps(text, tree)?;
     let size = RECORD * (steps as usize);
     if out.len() < size {
-        return Answer::Refused(NO_ROOM);
+        return Err(Refusal::NoRoom);
     }
     expand::flatten::flatten(tree, out);
-    Answer::Value(size as u64)
+    Ok(size as u64)
 }
 
 // The record of the step at a place of the unrolled list: refusals 1, 2, 6, 7 or 8, 9, 10, 5.
-pub fn seek_step(text: &[u8], tree: &[u8], place: u64, step: &mut [u8]) -> Answer
+pub fn seek_step(text: &[u8], tree: &[u8], place: u64, step: &mut [u8]) -> Result<u64, Refusal>
     ensures { rule.lent result step.new
         ≡ rule.seek_step text.now tree.now place step.old }
 {
-    let counted = count_steps(text, tree);
-    let Answer::Value(steps) = counted else {
-        return counted;
-    };
+    let steps = count_steps(text, tree)?;
     if steps <= place {
-        return Answer::Refused(NO_SUCH_PLACE);
+        return Err(Refusal::NoSuchPlace);
     }
     if step.len() < RECORD {
-        return Answer::Refused(NO_ROOM);
+        return Err(Refusal::NoRoom);
     }
     expand::seek::seek(tree, place, step);
-    Answer::Value(RECORD as u64)
+    Ok(RECORD as u64)
 }

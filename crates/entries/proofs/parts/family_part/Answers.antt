@@ -13,8 +13,8 @@ use Rattle.entries.specs.Parts.{part_outcome, Inside, Fits}
 use Rattle.entries.proofs.Naming.{found, family-low, family-high, family-named, family-inside, family-unaccepted, family-none, accepted-record, family-is}
 use Rattle.entries.proofs.parts.family_part.Goals as goal
 
-pub returns-in_default : goal.returns-in_default
-returns-in_default c =
+pub returns-in_err-X : goal.returns-in_err-X
+returns-in_err-X c =
     let a = c.args in
     let q = ap outcome c.in_default.is in
     let is = c.no_part.ensures _ q in
@@ -23,13 +23,13 @@ returns-in_default c =
 pub returns-then-tree-record : goal.returns-then-tree-record
 returns-then-tree-record c =
     let a = c.args in
-    let k = c.check-checked.ensures.found _ (ap outcome c.in-Value.is) in
+    let k = c.in_ok-check.ensures.found in
     record { result_value = family-none a.text.now a.tree.now a.«record» k.accepted (omega (arith, c.if-tree-record.true)); inside = tt; fits = tt }
 
 pub returns-then-is_group : goal.returns-then-is_group
 returns-then-is_group c =
     let a = c.args in
-    let k = c.check-checked.ensures.found _ (ap outcome c.in-Value.is) in record {
+    let k = c.in_ok-check.ensures.found in record {
       result_value = family-low (found a.tree.now a.«record») _ refl (group-low c.is_group.ensures c.if-is_group.true)
           ∙ family-is a.text.now a.tree.now a.«record» k.accepted (omega (arith, c.if-tree-record.false));
       inside = tt;
@@ -39,7 +39,7 @@ returns-then-is_group c =
 pub returns-then-kind-gt-MOVE : goal.returns-then-kind-gt-MOVE
 returns-then-kind-gt-MOVE c =
     let a = c.args in
-    let k = c.check-checked.ensures.found _ (ap outcome c.in-Value.is) in record {
+    let k = c.in_ok-check.ensures.found in record {
       result_value = family-high (found a.tree.now a.«record») c.kind.result c.kind.ensures c.if-kind-gt-MOVE.true
           ∙ family-is a.text.now a.tree.now a.«record» k.accepted (omega (arith, c.if-tree-record.false));
       inside = tt;
@@ -49,7 +49,7 @@ returns-then-kind-gt-MOVE c =
 pub returns : goal.returns
 returns c =
     let a = c.args in
-    let k = c.check-checked.ensures.found _ (ap outcome c.in-Value.is) in
+    let k = c.in_ok-check.ensures.found in
     let less : a.«record» < length a.tree.now / RECORD = omega (arith, c.if-tree-record.false) in
     let low = subst (λ (k : ℕ). 6 ≤ k) (sym c.kind.ensures) (no-group-high c.is_group.ensures c.if-is_group.false) in record {
       result_value = ap result c.family_of.ensures.result_value ∙ family-named (found a.tree.now a.«record») c.kind.result c.kind.ensures low c.if-kind-gt-MOVE.false ∙ family-is a.text.now a.tree.now a.«record» k.accepted less;

@@ -10,6 +10,7 @@ use Rattle.notation.specs.Packed.{RECORD}
 use Rattle.notation.specs.WellFormed.{layers_ok}
 use Rattle.notation.specs.Entries.{outcome}
 use Rattle.record.specs.Meaning.{layers_at}
+use Rattle.checked.proofs.Outcomes.{handed_on}
 use Rattle.entries.proofs.Naming.{
   found,
   accepted-record,
@@ -25,33 +26,33 @@ use Rattle.entries.proofs.Naming.{
 }
 use Rattle.entries.proofs.parts.simplify.Goals as goal
 
-pub returns-in_default : goal.returns-in_default
-returns-in_default c =
+pub returns-in_err-check : goal.returns-in_err-check
+returns-in_err-check c =
     let a = c.args in
-    simplify-unaccepted a.text.now a.tree.now a.«record» a.max_layer a.allow_negatives a.out.now c.check-checked.ensures.answer (ap outcome c.in_default.is)
+    rw (handed_on _ _ c.from_residual.ensures) (simplify-unaccepted a.text.now a.tree.now a.«record» a.max_layer a.allow_negatives a.out.now _ c.in_err-check.ensures.answer)
 
 pub returns-then-max_layer-eq0 : goal.returns-then-max_layer-eq0
 returns-then-max_layer-eq0 c =
     let a = c.args in
-    let k = c.check-checked.ensures.found _ (ap outcome c.in-Value.is) in
+    let k = c.in_ok-check.ensures.found in
     simplify-no-layers a.text.now a.tree.now a.«record» a.max_layer a.allow_negatives a.out.now k.accepted c.if-max_layer-eq0.true
 
 pub returns-then-max_layer-gt-MAX_LAYER : goal.returns-then-max_layer-gt-MAX_LAYER
 returns-then-max_layer-gt-MAX_LAYER c =
     let a = c.args in
-    let k = c.check-checked.ensures.found _ (ap outcome c.in-Value.is) in
+    let k = c.in_ok-check.ensures.found in
     simplify-many-layers a.text.now a.tree.now a.«record» a.max_layer a.allow_negatives a.out.now k.accepted c.if-max_layer-gt-MAX_LAYER.true
 
 pub returns-then-tree-record : goal.returns-then-tree-record
 returns-then-tree-record c =
     let a = c.args in
-    let k = c.check-checked.ensures.found _ (ap outcome c.in-Value.is) in
+    let k = c.in_ok-check.ensures.found in
     simplify-none a.text.now a.tree.now a.«record» a.max_layer a.allow_negatives a.out.now k.accepted c.if-max_layer-eq0.false c.if-max_layer-gt-MAX_LAYER.false (omega (arith, c.if-tree-record.true))
 
 pub returns-then-kind-ne-MOVE : goal.returns-then-kind-ne-MOVE
 returns-then-kind-ne-MOVE c =
     let a = c.args in
-    let k = c.check-checked.ensures.found _ (ap outcome c.in-Value.is) in
+    let k = c.in_ok-check.ensures.found in
     let less : a.«record» < length a.tree.now / RECORD = omega (arith, c.if-tree-record.false) in
     simplify-no-move a.text.now a.tree.now a.«record» a.max_layer a.allow_negatives a.out.now k.accepted c.if-max_layer-eq0.false c.if-max_layer-gt-MAX_LAYER.false less
     (no-prefix (found a.tree.now a.«record») c.kind.result c.kind.ensures c.if-kind-ne-MOVE.true)
@@ -59,7 +60,7 @@ returns-then-kind-ne-MOVE c =
 pub simplify-requires : goal.simplify-requires
 simplify-requires c =
     let a = c.args in
-    let k = c.check-checked.ensures.found _ (ap outcome c.in-Value.is) in
+    let k = c.in_ok-check.ensures.found in
     let less : a.«record» < length a.tree.now / RECORD = omega (arith, c.if-tree-record.false) in
     let ok = accepted-record a.text.now a.tree.now a.«record» k.accepted less in record {
       layer = record { low = omega (arith, c.if-max_layer-eq0.false); high = c.if-max_layer-gt-MAX_LAYER.false };
@@ -71,7 +72,7 @@ simplify-requires c =
 pub returns : goal.returns
 returns c =
     let a = c.args in
-    let k = c.check-checked.ensures.found _ (ap outcome c.in-Value.is) in
+    let k = c.in_ok-check.ensures.found in
     let less : a.«record» < length a.tree.now / RECORD = omega (arith, c.if-tree-record.false) in
     simplify-move a.text.now a.tree.now a.«record» a.max_layer a.allow_negatives a.out.now k.accepted c.if-max_layer-eq0.false c.if-max_layer-gt-MAX_LAYER.false less
     c.tilde-inverted.result _
