@@ -1,8 +1,6 @@
 -- Two's complement in w bits: the bits of a number and the number of some bits undo each other.
-use Rattle.std.proofs.Common.{◌≡◌, ℕ, zero, suc, ◌+◌, ◌-◌, ◌%◌, ◌^◌, ◌<◌, ◌≤◌, Bool, true, false, ltb, leb, ℤ, pos, negsuc, neg_ℤ, nat_abs, refl, sub-one, arith, pow_pos, ltb-false, ltb-true, le-ltb, lt-ltb, le-leb}
+use Rattle.std.proofs.Common.{◌≡◌, ℕ, zero, suc, ◌+◌, ◌-◌, ◌%◌, ◌^◌, ◌<◌, ◌≤◌, Bool, true, false, ltb, ℤ, pos, negsuc, neg_ℤ, nat_abs, refl, sub-one, arith, pow_pos, ltb-false, ltb-true, le-ltb, lt-ltb}
 use native.Mathlib.Nat.{two-pow-succ}
-use borrow.Author.Tests.{lt-leb}
-use Rattle.numbers.specs.Sign.{is_negative}
 use Rattle.notation.specs.Basics.{pick}
 use Rattle.notation.specs.Numbers.{to_bits, from_bits, fits_bits}
 
@@ -40,14 +38,6 @@ nat_abs-neg (negsuc n) = refl
 pub opposite-fits : (w m : ℕ) → m ≤ 2 ^ (w - 1) → fits_bits w (neg_ℤ (pos m)) ≡ true
 opposite-fits w zero h = lt-ltb 0 (2 ^ (w - 1)) (pow_pos (w - 1))
 opposite-fits w (suc m) h = lt-ltb m (2 ^ (w - 1)) (omega arith)
-
--- 32 bits: the highest is the sign
-pub high_bit : (n : ℕ) → leb 2147483648 n ≡ is_negative (from_bits 32 n)
-high_bit n = go (ltb n 2147483648) refl
-  where
-    go : (t : Bool) → ltb n 2147483648 ≡ t → leb 2147483648 n ≡ is_negative (pick t (pos n) (negsuc (2 ^ 32 - suc n)))
-    go true e = lt-leb 2147483648 n (ltb-true n 2147483648 e)
-    go false e = le-leb 2147483648 n (ltb-false n 2147483648 e)
 
 -- the difference from 0, wrapped, is the opposite
 pub opposite : (n r : ℕ) → n < 2 ^ 32 → r < 2 ^ 32 → (r + n) % 2 ^ 32 ≡ 0 → r ≡ to_bits 32 (neg_ℤ (from_bits 32 n))

@@ -6,7 +6,7 @@ use mathlib.Core.List.{List, [], ◌∷◌, append-nil}
 use native.Mathlib.Omega.{arith}
 use borrow.Author.Tests.{eq-eqb, eqb-true}
 use lib.Dec.{eqb}
-use lib.ListN.{length, take, get_or}
+use lib.ListN.{length, take}
 use lib.Seq.{length-take-le}
 use Rattle.notation.specs.Basics.{same_list}
 use Rattle.notation.specs.Packed.{RECORD, widths, lay_out, cut, Head, head_fields, head_record}
@@ -33,9 +33,6 @@ same-eq (a ∷ s) (b ∷ t) h = λ i. eqb-true a b (left _ _ h) i ∷ same-eq s 
 pub refuted : (b : Bool) → (b ≡ true → ⊥) → false ≡ b
 refuted true h = absurd (h refl)
 refuted false h = refl
-
-pub differs : (a b : List ℕ) (k : ℕ) → (get_or a k 0 ≡ get_or b k 0 → ⊥) → false ≡ same_list a b
-differs a b k n = refuted (same_list a b) λ e. n (ap (λ (s : List ℕ). get_or s k 0) (same-eq a b e))
 
 -- Bytes are those of some fields exactly when the fields are those of the bytes.
 same-fields : (fs bs : List ℕ) → Fits widths fs → Below 256 bs → RECORD ≤ length bs →

@@ -34,6 +34,3 @@ module _ (head tail x y : ℕ) (e : head * 65536 + tail ≡ x * 16777216 + y) wh
 -- a number that was read, compared with another
 pub is-it : {x y : ℕ} (k : ℕ) → x ≡ y → x ≡ k → eqb y k ≡ true
 is-it {x} {y} k e t = eq-eqb y k (sym e ∙ t)
-
-pub not-it : {x y : ℕ} (k : ℕ) → x ≡ y → (x ≡ k → ⊥) → eqb y k ≡ false
-not-it {x} {y} k e n = ne_eqb y k (λ z. n (e ∙ z))

@@ -12,17 +12,16 @@ ghost use Rattle.record.specs.Meaning.{SMALL, FIRST, SECOND, NUMBER, OTHER, FAMI
 
 use crate::kinds::{Kind, LayerForm};
 use crate::layout;
+use crate::layout::{COUNT_BYTES, LIST_BYTES, NUMBER_BYTES, PLACE_BYTES};
 use crate::spanned::Span;
-use numbers::big_endian::{
-    read_u8, read_u16, read_u24, read_u32, read_u40, write_u8, write_u24, write_u32, write_u40,
-};
+use numbers::big_endian::{read, write};
 
 // The kind, and of a move its tilde, layer form and whether it has constraints.
 pub fn small(t: &[u8]) -> u8
     requires { RECORD ≤ length t.now }
     ensures { result ≡ field SMALL t.now }
 {
-    read_u8(t, layout::SMALL)
+    read::<1>(t, layout::SMALL) as u8
 }
 
 // Which node it is: the first four bits.
@@ -78,7 +77,7 @@ pub fn first(t: &[u8]) -> u32
     requires { RECORD ≤ length t.now }
     ensures { result ≡ field FIRST t.now }
 {
-    read_u24(t, layout::FIRST)
+    read::<LIST_BYTES>(t, layout::FIRST) as u32
 }
 
 // Records in the second list.
@@ -86,7 +85,7 @@ pub fn second(t: &[u8]) -> u32
     requires { RECORD ≤ length t.now }
     ensures { result ≡ field SECOND t.now }
 {
-    read_u24(t, layout::SECOND)
+    read::<LIST_BYTES>(t, layout::SECOND) as u32
 }
 
 // The multiplier, or u of a pair.
@@ -94,7 +93,7 @@ pub fn number(t: &[u8]) -> u32
     requires { RECORD ≤ length t.now }
     ensures { result ≡ field NUMBER t.now }
 {
-    read_u32(t, layout::NUMBER)
+    read::<NUMBER_BYTES>(t, layout::NUMBER) as u32
 }
 
 // d of a pair, or low and high layer.
@@ -102,7 +101,7 @@ pub fn other(t: &[u8]) -> u32
     requires { RECORD ≤ length t.now }
     ensures { result ≡ field OTHER t.now }
 {
-    read_u32(t, layout::OTHER)
+    read::<NUMBER_BYTES>(t, layout::OTHER) as u32
 }
 
 // The span whose offset and size stand from `at` on: three bytes each, which the machine takes as four and two.
@@ -113,11 +112,11 @@ fn span_at(t: &[u8], at: usize) -> Span
         (from_big_endian (take place_width (drop (at + place_width) t.now))) }
     ensures fits_span { FitsSpan (span result) }
 {
-    let head = read_u32(t, at);
-    let tail = read_u16(t, at + 4);
+    let head = read::<4>(t, at);
+    let tail = read::<2>(t, at + 4);
     Span {
-        offset: head / 256,
-        size: head % 256 * 65536 + tail as u32,
+        offset: (head / 256) as u32,
+        size: (head % 256 * 65536 + tail) as u32,
     }
 }
 
@@ -153,7 +152,7 @@ pub fn count(t: &[u8]) -> u64
     requires { RECORD ≤ length t.now }
     ensures { result ≡ field COUNT t.now }
 {
-    read_u40(t, layout::COUNT)
+    read::<COUNT_BYTES>(t, layout::COUNT)
 }
 
 // Whether the step count is 1, as a leaf's is. Two parts of the field tell it, which is quicker than to put five bytes
@@ -162,7 +161,7 @@ pub fn counts_one(t: &[u8]) -> bool
     requires { RECORD ≤ length t.now }
     ensures { result ≡ eqb (field COUNT t.now) 1 }
 {
-    read_u32(t, layout::COUNT) == 0 && read_u8(t, layout::COUNT + 4) == 1
+    read::<4>(t, layout::COUNT) == 0 && read::<1>(t, layout::COUNT + 4) == 1
 }
 
 // Whether both fields from `at` on, of three bytes each, are 0.
@@ -172,7 +171,7 @@ fn both_zero(t: &[u8], at: usize) -> bool
         ≡ (eqb (from_big_endian (take place_width (drop at t.now))) 0 && eqb
         (from_big_endian (take place_width (drop (at + place_width) t.now))) 0) }
 {
-    read_u32(t, at) == 0 && read_u16(t, at + 4) == 0
+    read::<4>(t, at) == 0 && read::<2>(t, at + 4) == 0
 }
 
 // Whether both lists have no records.
@@ -212,7 +211,7 @@ pub fn set_small(out: &mut [u8], n: u8)
     requires { RECORD ≤ length out.old }
     ensures { out.new ≡ with_field SMALL n out.old }
 {
-    write_u8(out, layout::SMALL, n);
+    write::<1>(out, layout::SMALL, n as u64);
 }
 
 // Writes how many records each list has.
@@ -220,8 +219,8 @@ pub fn set_lists(out: &mut [u8], first: u32, second: u32)
     requires { RECORD ≤ length out.old }
     ensures { out.new ≡ with_lists first second out.old }
 {
-    write_u24(out, layout::FIRST, first);
-    write_u24(out, layout::SECOND, second);
+    write::<LIST_BYTES>(out, layout::FIRST, first as u64);
+    write::<LIST_BYTES>(out, layout::SECOND, second as u64);
 }
 
 // Writes the multiplier, or u of a pair.
@@ -229,7 +228,7 @@ pub fn set_number(out: &mut [u8], n: u32)
     requires { RECORD ≤ length out.old }
     ensures { out.new ≡ with_field NUMBER n out.old }
 {
-    write_u32(out, layout::NUMBER, n);
+    write::<NUMBER_BYTES>(out, layout::NUMBER, n as u64);
 }
 
 // Writes d of a pair, or low and high layer.
@@ -237,7 +236,7 @@ pub fn set_other(out: &mut [u8], n: u32)
     requires { RECORD ≤ length out.old }
     ensures { out.new ≡ with_field OTHER n out.old }
 {
-    write_u32(out, layout::OTHER, n);
+    write::<NUMBER_BYTES>(out, layout::OTHER, n as u64);
 }
 
 // Writes a span from `at` on.
@@ -246,8 +245,8 @@ fn set_span(out: &mut [u8], at: usize, p: Span)
     ensures { out.new
         ≡ sets (sets out.old at (big_endian place_width p.offset)) (at + place_width) (big_endian place_width p.size) }
 {
-    write_u24(out, at, p.offset);
-    write_u24(out, at + layout::PLACE_BYTES, p.size);
+    write::<PLACE_BYTES>(out, at, p.offset as u64);
+    write::<PLACE_BYTES>(out, at + PLACE_BYTES, p.size as u64);
 }
 
 // Writes the family.
@@ -279,5 +278,5 @@ pub fn set_count(out: &mut [u8], n: u64)
     requires { RECORD ≤ length out.old }
     ensures { out.new ≡ with_field COUNT n out.old }
 {
-    write_u40(out, layout::COUNT, n);
+    write::<COUNT_BYTES>(out, layout::COUNT, n);
 }

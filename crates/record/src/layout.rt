@@ -3,15 +3,15 @@
 
 // The widths in bytes of the number of records in a list, of a number, of an offset or a size in the text, and of a step
 // count.
-const LIST_BYTES: usize = 3;
+pub const LIST_BYTES: usize = 3;
 
-const NUMBER_BYTES: usize = 4;
+pub const NUMBER_BYTES: usize = 4;
 
 pub const PLACE_BYTES: usize = 3;
 
 const SPAN_BYTES: usize = PLACE_BYTES + PLACE_BYTES;
 
-const COUNT_BYTES: usize = 5;
+pub const COUNT_BYTES: usize = 5;
 
 pub const SMALL: usize = 0;
 

@@ -9,7 +9,7 @@ ghost use Rattle.record.specs.Undone.{StartsRecord, undone_head, overflows_at};
 
 use crate::kinds::Kind;
 use crate::{fields, layout};
-use numbers::big_endian::{read_u8, read_u32};
+use numbers::big_endian::read;
 use numbers::signed::{MIN, negate};
 
 // Undoes the first record of r: a step, or a group as a whole, whose multiplier is negated.
@@ -59,5 +59,5 @@ fn is_min(r: &[u8], at: usize) -> bool
     requires { at + 4 ≤ length r.now }
     ensures { result ≡ eqb (from_big_endian (take 4 (drop at r.now))) MIN-BITS }
 {
-    read_u8(r, at) == 128 && read_u32(r, at) == MIN
+    read::<1>(r, at) == 128 && read::<4>(r, at) == MIN as u64
 }

@@ -4,11 +4,11 @@ use Rattle.record.proofs.Packed.{two-as-one}
 use Rattle.record.proofs.Zeros.{low-zero, high-some}
 use Rattle.record.proofs.fields.both_zero.Goals as goal
 
-pub returns-then-read_u32-eq0 : goal.returns-then-read_u32-eq0
-returns-then-read_u32-eq0 c =
-    low-zero c.read_u32.result c.read_u16.result _ _ (two-as-one c.args.t.now c.args.at (slice-below _ c.type_inv.t) c.requires c.read_u32.result c.read_u16.result c.read_u32.ensures c.read_u16.ensures)
-    c.if-read_u32-eq0.true
+pub returns-then-read-eq0 : goal.returns-then-read-eq0
+returns-then-read-eq0 c =
+    low-zero c.read.result c.read-then-read-eq0.result _ _ (two-as-one c.args.t.now c.args.at (slice-below _ c.type_inv.t) c.requires c.read.result c.read-then-read-eq0.result c.read.ensures.value c.read-then-read-eq0.ensures.value)
+    c.if-read-eq0.true
 
-pub returns-else-read_u32-eq0 : goal.returns-else-read_u32-eq0
-returns-else-read_u32-eq0 c =
-    high-some c.read_u32.result _ _ _ (two-as-one c.args.t.now c.args.at (slice-below _ c.type_inv.t) c.requires c.read_u32.result _ c.read_u32.ensures refl) c.if-read_u32-eq0.false
+pub returns-else-read-eq0 : goal.returns-else-read-eq0
+returns-else-read-eq0 c =
+    high-some c.read.result _ _ _ (two-as-one c.args.t.now c.args.at (slice-below _ c.type_inv.t) c.requires c.read.result _ c.read.ensures.value refl) c.if-read-eq0.false

@@ -5,4 +5,4 @@ use Rattle.record.proofs.Packed.{field_at}
 use Rattle.record.proofs.fields.second.Goals as goal
 
 pub returns : goal.returns
-returns c = c.read_u24.ensures ∙ sym (field_at c.args.t.now SECOND (lit< tt))
+returns c = c.read.ensures.value ∙ sym (field_at c.args.t.now SECOND (lit< tt))

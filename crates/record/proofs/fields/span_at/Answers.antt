@@ -11,7 +11,7 @@ returns c =
     let s = a.t.now in
     let below = slice-below s c.type_inv.t in
     let room = c.requires in record {
-      result_value = ap₂ span (first-of-two s a.at below room c.read_u32-head.result c.read_u16-tail.result c.read_u32-head.ensures c.read_u16-tail.ensures)
-          (second-of-two s a.at below room c.read_u32-head.result c.read_u16-tail.result c.read_u32-head.ensures c.read_u16-tail.ensures);
+      result_value = ap₂ span (first-of-two s a.at below room c.read-head.result c.read-tail.result c.read-head.ensures.value c.read-tail.ensures.value)
+          (second-of-two s a.at below room c.read-head.result c.read-tail.result c.read-head.ensures.value c.read-tail.ensures.value);
       fits_span = record { offset = omega arith; size = omega arith };
     }

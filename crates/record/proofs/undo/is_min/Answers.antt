@@ -7,9 +7,9 @@ use Rattle.numbers.proofs.BigEndian.{slice-below}
 use Rattle.record.proofs.Overflows.{min-by-first}
 use Rattle.record.proofs.undo.is_min.Goals as goal
 
-pub returns-then-read_u8 : goal.returns-then-read_u8
-returns-then-read_u8 c = ap (λ (n : ℕ). eqb n MIN-BITS) c.read_u32.ensures
+pub returns-then-read-eq128 : goal.returns-then-read-eq128
+returns-then-read-eq128 c = ap (λ (n : ℕ). eqb n MIN-BITS) c.read-then-read-eq128.ensures.value
 
-pub returns-else-read_u8 : goal.returns-else-read_u8
-returns-else-read_u8 c =
-    min-by-first c.args.r.now (slice-below _ c.type_inv.r) c.args.at c.requires c.read_u8.ensures c.if-read_u8.false
+pub returns-else-read-eq128 : goal.returns-else-read-eq128
+returns-else-read-eq128 c =
+    min-by-first c.args.r.now (slice-below _ c.type_inv.r) c.args.at c.requires c.read.ensures.value c.if-read-eq128.false
