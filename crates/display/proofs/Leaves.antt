@@ -1,6 +1,6 @@
 -- The parts of the text that a leaf names: well formed, they lie within it, and their sets print what they mean. Assumes nothing.
 use Prim.Native.Nat.{ℕ, zero, suc, ◌+◌, ◌-◌, ◌≤◌, ◌<◌}
-use mathlib.Core.Path.{◌≡◌, ap, sym, ◌∙◌}
+use mathlib.Core.Path.{◌≡◌, refl, ap, sym, ◌∙◌}
 use mathlib.Core.Bool.{Bool, true, false, ◌&&◌}
 use mathlib.Core.Logic.{◌⊎◌, inl, inr, ⊎_elim}
 use mathlib.Core.List.{List, ◌∷◌, ◌++◌}
@@ -11,6 +11,7 @@ use lib.Arith.{lt_of_le-ne}
 use lib.Dec.{leb, eqb}
 use lib.IntN.{ℤ}
 use lib.ListN.{length, take, drop}
+use Rattle.notation.specs.Basics.{pick}
 use Rattle.notation.specs.Chars.{is_family_char}
 use Rattle.notation.specs.Utf8.{run}
 use Rattle.notation.specs.Numbers.{from_bits}
@@ -98,13 +99,19 @@ move-parts text t l f c m h =
     }
 
 -- What stands before the family, by the fields of the record.
+tilde-put : (t : Bool) (rest : List ℕ) → pick t (126 ∷ rest) rest ≡ put_tilde t rest
+tilde-put true rest = refl
+tilde-put false rest = refl
+
 module _ (text bs : List ℕ) {kind : ℕ} (e : kind ≡ kind_at bs) {old new : Printer} where
   pub rotation-before : kind ≡ 6 → Wrote old new (λ rest. 64 ∷ rest) → Wrote old new (put_before text bs)
   rotation-before h w = let i : kind_at bs ≡ 6 = sym e ∙ h in wrote_as (put_before text bs) (λ rest. rw i) w
 
   pub move-before : {t : Bool} {l : tree.Layers tree.Span} → (kind ≡ 6 → ⊥) → t ≡ tilde_at bs → l ≡ layers_at bs →
-      Wrote old new (λ rest. put_tilde t (put_layers (layer_meaning text l) rest)) → Wrote old new (put_before text bs)
-  move-before h i j w = wrote_as (put_before text bs) (λ rest. rw (i, j, ne_eqb (kind_at bs) 6 (λ z. h (e ∙ z)))) w
+      Wrote old new (λ rest. let rest' = put_layers (layer_meaning text l) rest in pick t (126 ∷ rest') rest') → Wrote old new (put_before text bs)
+  move-before {t = t} {l = l} h i j w =
+      wrote_as (put_before text bs)
+      (λ rest. rw (ne_eqb (kind_at bs) 6 (λ z. h (e ∙ z))) (tilde-put t (put_layers (layer_meaning text l) rest) ∙ rw (i, j))) w
 
 pub no-layers : (bs : List ℕ) {form : ℕ} → form ≡ form_at bs → form ≡ 0 → no_layers ≡ layers_at bs
 no-layers bs e h = rw (sym e ∙ h)

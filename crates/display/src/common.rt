@@ -28,11 +28,8 @@ impl<'a> Printer<'a> {
     pub(crate) fn put_multiplier(self, bits: u32) -> Printer<'a>
         ensures { Wrote self.entry result (put_multiplier (from_bits 32 bits)) }
     {
-        let multiplied = self.put_magnitude(magnitude(bits));
-        if is_negative(bits) {
-            return multiplied.put(b'\'');
-        }
-        multiplied
+        self.put_magnitude(magnitude(bits))
+            .put_if(is_negative(bits), b'\'')
     }
 
     // Puts what stands before the list of a group, by the kind of its record.

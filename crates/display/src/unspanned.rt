@@ -138,18 +138,11 @@ impl<'a> Printer<'a> {
         if fields::kind(t) == kinds::ROTATION {
             return self.put(b'@');
         }
-        let inverted = self.put_tilde(fields::tilde(t));
+        let inverted = self.put_if(fields::tilde(t), b'~');
         if fields::layer_form(t) == 0 {
             return inverted;
         }
         inverted.put_layers(text, layers(t))
-    }
-
-    // Puts `~` where the layers are inverted.
-    fn put_tilde(self, inverted: bool) -> Printer<'a>
-        ensures { Wrote self.entry result (print.put_tilde inverted) }
-    {
-        if inverted { self.put(b'~') } else { self }
     }
 
     // Puts the layers before a family.

@@ -1,6 +1,7 @@
 // The printer: bytes and numbers, written where they fit and counted where they do not, so that a run over a part that is
 // too short still measures the text.
 ghost use Rattle.std.specs.Prelude.{◌≡◌, ◌∷◌, ◌++◌, ◌≤◌};
+ghost use Rattle.notation.specs.Basics.{pick};
 ghost use Rattle.notation.specs.Numbers.{show, show_signed, from_bits};
 ghost use Rattle.display.specs.Most.{MOST as most};
 
@@ -51,6 +52,13 @@ impl<'a> Printer<'a> {
         }
     }
 
+    // Puts a byte where the test holds.
+    pub(crate) fn put_if(self, test: bool, byte: u8) -> Printer<'a>
+        ensures { Wrote self.entry result (λ rest. pick test (byte ∷ rest) rest) }
+    {
+        if test { self.put(byte) } else { self }
+    }
+
     // Puts all of `bytes`.
     pub fn put_bytes(self, bytes: &[u8]) -> Printer<'a>
         ensures { Wrote self.entry result (λ rest. bytes.now ++ rest) }
@@ -63,23 +71,31 @@ impl<'a> Printer<'a> {
         Printer { out, at: end }
     }
 
-    // Puts a number in decimal.
+    // Puts a number in decimal. Most have one digit.
     pub fn put_number(self, n: u32) -> Printer<'a>
         ensures { Wrote self.entry result (show n) }
     {
         if n < 10 {
             return self.put(b'0' + n as u8);
         }
-        self.put_number(n / 10).put(b'0' + (n % 10) as u8)
+        self.put_digits(n / 10).put(b'0' + (n % 10) as u8)
+    }
+
+    // Puts the digits of a number, the last one after the others. It calls itself, so it is not put into its callers.
+    fn put_digits(self, n: u32) -> Printer<'a>
+        ensures { Wrote self.entry result (show n) }
+    {
+        if n < 10 {
+            return self.put(b'0' + n as u8);
+        }
+        self.put_digits(n / 10).put(b'0' + (n % 10) as u8)
     }
 
     // Puts a number given by its 32 bits.
     pub(crate) fn put_signed(self, bits: u32) -> Printer<'a>
         ensures { Wrote self.entry result (show_signed (from_bits 32 bits)) }
     {
-        if is_negative(bits) {
-            return self.put(b'-').put_number(magnitude(bits));
-        }
-        self.put_number(magnitude(bits))
+        self.put_if(is_negative(bits), b'-')
+            .put_number(magnitude(bits))
     }
 }

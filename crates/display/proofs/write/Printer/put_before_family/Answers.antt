@@ -14,7 +14,7 @@ pub returns-then-layer_form-eq0 : goal.returns-then-layer_form-eq0
 returns-then-layer_form-eq0 c =
     let a = c.args in
     move-before a.text.now a.t.now c.kind.ensures c.if-kind-eq-ROTATION.false c.tilde.ensures
-    (no-layers a.t.now c.layer_form.ensures c.if-layer_form-eq0.true) c.put_tilde-inverted.ensures
+    (no-layers a.t.now c.layer_form.ensures c.if-layer_form-eq0.true) c.put_if-inverted.ensures
 
 pub put_layers-requires : goal.put_layers-requires
 put_layers-requires c =
@@ -24,4 +24,4 @@ pub returns : goal.returns
 returns c =
     let a = c.args in
     move-before a.text.now a.t.now c.kind.ensures c.if-kind-eq-ROTATION.false c.tilde.ensures c.layers.ensures
-    (wrote_then c.put_tilde-inverted.ensures c.put_layers.ensures)
+    (wrote_then c.put_if-inverted.ensures c.put_layers.ensures)
