@@ -19,44 +19,45 @@ use Rattle.notation.specs.declared.common.MegaminxScrambleMove.{MegaminxScramble
 use Rattle.notation.specs.declared.common.MegaminxScrambleMove.TheVariants.{Rpp, Rmm, Dpp, Dmm}
 use Rattle.record.proofs.Packed.{NoneBelow, by_kind}
 use Rattle.display.specs.Written.{Wrote}
+use Rattle.display.specs.declared.write.Printer.{Printer}
 
 -- what a function that tells the kinds apart is to show
-abbrev Opened : (old new : List ℕ) (at next kind : ℕ) → Type 0
-Opened old new at next kind = (k : GroupKind) → kind ≡ group_number k → Wrote old new at next (λ rest. put_prefix k (40 ∷ rest))
+abbrev Opened : (old new : Printer) (kind : ℕ) → Type 0
+Opened old new kind = (k : GroupKind) → kind ≡ group_number k → Wrote old new (λ rest. put_prefix k (40 ∷ rest))
 
-abbrev Separated : (old new : List ℕ) (at next kind : ℕ) → Type 0
-Separated old new at next kind = (k : BinaryGroupKind) → kind ≡ binary_number k → Wrote old new at next (put_separator k)
+abbrev Separated : (old new : Printer) (kind : ℕ) → Type 0
+Separated old new kind = (k : BinaryGroupKind) → kind ≡ binary_number k → Wrote old new (put_separator k)
 
-module _ {old new : List ℕ} {at next kind : ℕ} where
-  pub simple-opened : kind ≡ 0 → Wrote old new at next (λ rest. 40 ∷ rest) → Opened old new at next kind
+module _ {old new : Printer} {kind : ℕ} where
+  pub simple-opened : kind ≡ 0 → Wrote old new (λ rest. 40 ∷ rest) → Opened old new kind
   simple-opened h w Simple e = w
   simple-opened h w Macro e = absurd (omega arith)
   simple-opened h w Simultaneous e = absurd (omega arith)
   simple-opened h w Niss e = absurd (omega arith)
 
-  pub macro-opened : kind ≡ 1 → Wrote old new at next (λ rest. 33 ∷ 40 ∷ rest) → Opened old new at next kind
+  pub macro-opened : kind ≡ 1 → Wrote old new (λ rest. 33 ∷ 40 ∷ rest) → Opened old new kind
   macro-opened h w Simple e = absurd (omega arith)
   macro-opened h w Macro e = w
   macro-opened h w Simultaneous e = absurd (omega arith)
   macro-opened h w Niss e = absurd (omega arith)
 
-  pub simultaneous-opened : kind ≡ 2 → Wrote old new at next (λ rest. 38 ∷ 40 ∷ rest) → Opened old new at next kind
+  pub simultaneous-opened : kind ≡ 2 → Wrote old new (λ rest. 38 ∷ 40 ∷ rest) → Opened old new kind
   simultaneous-opened h w Simple e = absurd (omega arith)
   simultaneous-opened h w Macro e = absurd (omega arith)
   simultaneous-opened h w Simultaneous e = w
   simultaneous-opened h w Niss e = absurd (omega arith)
 
-  pub niss-opened : NoneBelow kind 3 → Wrote old new at next (λ rest. 94 ∷ 40 ∷ rest) → Opened old new at next kind
+  pub niss-opened : NoneBelow kind 3 → Wrote old new (λ rest. 94 ∷ 40 ∷ rest) → Opened old new kind
   niss-opened h w Simple e = absurd (h.0.0.1 e)
   niss-opened h w Macro e = absurd (h.0.1 e)
   niss-opened h w Simultaneous e = absurd (h.1 e)
   niss-opened h w Niss e = w
 
-  pub commutator-separated : kind ≡ 4 → Wrote old new at next (λ rest. 44 ∷ 32 ∷ rest) → Separated old new at next kind
+  pub commutator-separated : kind ≡ 4 → Wrote old new (λ rest. 44 ∷ 32 ∷ rest) → Separated old new kind
   commutator-separated h w Commutator e = w
   commutator-separated h w Conjugate e = absurd (omega arith)
 
-  pub conjugate-separated : (kind ≡ 4 → ⊥) → Wrote old new at next (λ rest. 58 ∷ 32 ∷ rest) → Separated old new at next kind
+  pub conjugate-separated : (kind ≡ 4 → ⊥) → Wrote old new (λ rest. 58 ∷ 32 ∷ rest) → Separated old new kind
   conjugate-separated h w Commutator e = absurd (h e)
   conjugate-separated h w Conjugate e = w
 
@@ -73,8 +74,8 @@ letter-is kind a h = ⊎_elim (λ w. rw (lt-ltb kind 13 w.0) w.1) (λ w. rw (le-
 pub sign-is : (kind a : ℕ) → ((kind % 2 ≡ 1) × (a ≡ 43)) ⊎ ((kind % 2 ≡ 1 → ⊥) × (a ≡ 45)) → a ≡ sign kind
 sign-is kind a h = ⊎_elim (λ w. rw (eq-eqb (kind % 2) 1 w.0) w.1) (λ w. rw (ne_eqb (kind % 2) 1 w.0) w.1) h
 
-pub scrambled : {old new : List ℕ} {at next kind a b : ℕ} → a ≡ letter kind → b ≡ sign kind → Wrote old new at next (λ rest. a ∷ b ∷ b ∷ rest) →
-    (k : MegaminxScrambleMove) → kind ≡ megaminx_number k → Wrote old new at next (put_megaminx k)
+pub scrambled : {old new : Printer} {kind a b : ℕ} → a ≡ letter kind → b ≡ sign kind → Wrote old new (λ rest. a ∷ b ∷ b ∷ rest) →
+    (k : MegaminxScrambleMove) → kind ≡ megaminx_number k → Wrote old new (put_megaminx k)
 scrambled l s w Rpp e = rw (l, s, e) at w
 scrambled l s w Rmm e = rw (l, s, e) at w
 scrambled l s w Dpp e = rw (l, s, e) at w

@@ -23,10 +23,9 @@ use Rattle.parse.specs.declared.parts.LayerSetElementAnswer.TheVariants as layer
 use Rattle.parse.proofs.Bytes.{seen, other, just-is, just-not}
 use Rattle.parse.proofs.Past.{within}
 use Rattle.parse.proofs.Rules.{takes-layer_set_element}
-use Rattle.display.specs.Written.{MOST, Wrote}
-use Rattle.display.specs.Sets.{Following, PutItem, ElementPut}
-use Rattle.display.specs.declared.sets.ElementAnswer.{ElementAnswer}
-use Rattle.display.specs.declared.sets.ElementAnswer.TheVariants.{Put, Nothing}
+use Rattle.display.specs.Written.{Wrote}
+use Rattle.display.specs.declared.write.Printer.{Printer}
+use Rattle.display.specs.Sets.{Following}
 use Rattle.display.proofs.Writing.{wrote_none, wrote_then}
 
 -- the list ends where no separator with an item follows, and else goes on behind it
@@ -141,53 +140,44 @@ module _ {A : Type 0} (item : Reader A) (part : List ℕ) where
               let x = ended-read (a ∷ l') l m last t h in
               (l', sym x.0, record { fuel = k; middle = m; rest = t; last = last; more = e; closes = x.1 })
 
--- Layer sets: an answer by what was read, and what was read by the answer.
-module _ (part : List ℕ) (from at : ℕ) {old new : List ℕ} where
-  pub no-element : {r : LayerSetElementAnswer} → r ≡ layer_answer.Nothing → element_reading part r ≡ layer_set_element true from (drop from part) →
-      new ≡ old → ElementPut part from old new at Nothing
-  no-element n h s = (rw n at h, s)
+-- An answer of the reader by what was read.
+module _ (part : List ℕ) (from : ℕ) {r : LayerSetElementAnswer} (h : element_reading part r ≡ layer_set_element true from (drop from part)) where
+  pub nothing-read : r ≡ layer_answer.Nothing → rejected ≡ layer_set_element true from (drop from part)
+  nothing-read n = rw n at h
 
-  pub an-element : {r : LayerSetElementAnswer} (v : parts.LayerSetElement) (end next : ℕ) → r ≡ layer_answer.Took v end →
-      element_reading part r ≡ layer_set_element true from (drop from part) → Wrote old new at next (put_element (layer_set_element_of v)) →
-      ElementPut part from old new at (Put next end)
-  an-element v end next n h w = record { value = layer_set_element_of v; reads = rw n at h; wrote = w }
-
-  pub put_item : {r : ElementAnswer} {next end : ℕ} → r ≡ Put next end → ElementPut part from old new at r → PutItem part from end old new at next
-  put_item e h = rw e at h
-
-  pub not-put : {r : ElementAnswer} → r ≡ Nothing → ElementPut part from old new at r → (rejected ≡ layer_set_element true from (drop from part)) × (new ≡ old)
-  not-put e h = rw e at h
+  pub element-read : (v : parts.LayerSetElement) (end : ℕ) → r ≡ layer_answer.Took v end →
+      read (layer_set_element_of v) end (drop end part) ≡ layer_set_element true from (drop from part)
+  element-read v end n = rw n at h
 
 -- The loop over the elements: those that are left, and what printing them completes.
-pub record Sofar (part : List ℕ) (end : ℕ) (old mid : List ℕ) (at next : ℕ) (l : List LayerSetElement) : Type 0 where
+pub record Sofar (part : List ℕ) (end : ℕ) (old mid : Printer) (l : List LayerSetElement) : Type 0 where
   pub left : List LayerSetElement
   pub follows : Following (layer_set_element true) part end left
-  pub onward : (new : List ℕ) (n : ℕ) → Wrote mid new next n (put_more put_element left) → Wrote old new at n (put_more put_element l)
+  pub onward : (new : Printer) → Wrote mid new (put_more put_element left) → Wrote old new (put_more put_element l)
 
-pub sofar-none : {part : List ℕ} {end : ℕ} {l : List LayerSetElement} (old : List ℕ) (at : ℕ) → Following (layer_set_element true) part end l →
-    Sofar part end old old at at l
-sofar-none {l = l} old at f = record { left = l; follows = f; onward = λ new n w. w }
+pub sofar-none : {part : List ℕ} {end : ℕ} {l : List LayerSetElement} (p : Printer) → Following (layer_set_element true) part end l → Sofar part end p p l
+sofar-none {l = l} p f = record { left = l; follows = f; onward = λ new w. w }
 
-module _ {part : List ℕ} {end : ℕ} {old mid : List ℕ} {at next : ℕ} {l : List LayerSetElement} (w : Sofar part end old mid at next l)
+module _ {part : List ℕ} {end : ℕ} {old mid : Printer} {l : List LayerSetElement} (w : Sofar part end old mid l)
     (comma : ℕ) (space : comma ≡ end + run white_space (drop end part)) where
   -- no comma: the elements are at their end
-  pub sofar-all : eqb (byte_at part comma) 44 ≡ false → next ≤ MOST → Wrote old mid at next (put_more put_element l)
+  pub sofar-all : eqb (byte_at part comma) 44 ≡ false → Wrote old mid (put_more put_element l)
   unfolding put_more
-  sofar-all e h = w.onward mid next (rw (none-follows (layer_set_element true) part end comma space e w.follows) (wrote_none mid h))
+  sofar-all e = w.onward mid (rw (none-follows (layer_set_element true) part end comma space e w.follows) (wrote_none mid))
 
   module _ (e : eqb (byte_at part comma) 44 ≡ true) (from : ℕ) (space₂ : from ≡ comma + 1 + run white_space (drop (comma + 1) part)) where
     pub sofar-never : rejected ≡ layer_set_element true from (drop from part) → ⊥
     sofar-never q = item-follows (layer_set_element true) part end comma space e from space₂ q w.follows
 
-    pub sofar-more : {m₁ mid' : List ℕ} {n₁ next' to : ℕ} → Wrote mid m₁ next n₁ (λ rest. 44 ∷ rest) → PutItem part from to m₁ mid' n₁ next' →
-        Sofar part to old mid' at next' l
+    pub sofar-more : {mid' : Printer} {to : ℕ} (a : LayerSetElement) → read a to (drop to part) ≡ layer_set_element true from (drop from part) →
+        Wrote mid mid' (λ rest. 44 ∷ put_element a rest) → Sofar part to old mid' l
     unfolding put_more
-    sofar-more {to = to} c p =
-        let x = one_follows (layer_set_element true) part end comma space e from space₂ p.value to p.reads w.follows in
+    sofar-more {to = to} a r c =
+        let x = one_follows (layer_set_element true) part end comma space e from space₂ a to r w.follows in
         record {
           left = x.0;
           follows = x.2;
-          onward = λ new n v. w.onward new n (rw x.1 (wrote_then c (wrote_then p.wrote v)));
+          onward = λ new v. w.onward new (rw x.1 (wrote_then c v));
         }
 
 -- where an element ends
@@ -215,9 +205,9 @@ module _ (part : List ℕ) (h : is_some (layer_set_in part) ≡ true) where
     pub set-empty : rejected ≡ layer_set_element true start (drop start part) → or_empty (layer_set_in part) ≡ []
     set-empty q = let x = set_is part h in x.3 ∙ no-first (layer_set_element true) part x.2 start space q
 
-    pub set_first : {end : ℕ} {old new : List ℕ} {at next : ℕ} (p : PutItem part start end old new at next) →
-        (l : List LayerSetElement) × (or_empty (layer_set_in part) ≡ p.value ∷ l) × Following (layer_set_element true) part end l
-    set_first {end = end} p =
+    pub set_first : {end : ℕ} (a : LayerSetElement) → read a end (drop end part) ≡ layer_set_element true start (drop start part) →
+        (l : List LayerSetElement) × (or_empty (layer_set_in part) ≡ a ∷ l) × Following (layer_set_element true) part end l
+    set_first {end = end} a r =
         let x = set_is part h in
-        let y = first-follows (layer_set_element true) part x.2 start space p.value end p.reads in
+        let y = first-follows (layer_set_element true) part x.2 start space a end r in
         (y.0, x.3 ∙ y.1, y.2)

@@ -1,6 +1,6 @@
 -- The parts of the text that a leaf names: well formed, they lie within it, and their sets print what they mean. Assumes nothing.
 use Prim.Native.Nat.{ℕ, zero, suc, ◌+◌, ◌-◌, ◌≤◌, ◌<◌}
-use mathlib.Core.Path.{◌≡◌, ap, sym, ◌∙◌}
+use mathlib.Core.Path.{◌≡◌, refl, ap, sym, ◌∙◌}
 use mathlib.Core.Bool.{Bool, true, false, ◌&&◌}
 use mathlib.Core.Logic.{◌⊎◌, inl, inr, ⊎_elim}
 use mathlib.Core.List.{List, ◌∷◌, ◌++◌}
@@ -11,6 +11,7 @@ use lib.Arith.{lt_of_le-ne}
 use lib.Dec.{leb, eqb}
 use lib.IntN.{ℤ}
 use lib.ListN.{length, take, drop}
+use Rattle.notation.specs.Basics.{pick}
 use Rattle.notation.specs.Chars.{is_family_char}
 use Rattle.notation.specs.Utf8.{run}
 use Rattle.notation.specs.Numbers.{from_bits}
@@ -28,23 +29,12 @@ use Rattle.record.specs.declared.spanned.LayerPrefixContents.TheVariants as pref
 use Rattle.record.proofs.Packed.{head_at-kind}
 use Rattle.laws.proofs.Bools.{and_left, and_right}
 use Rattle.display.specs.Written.{Wrote}
+use Rattle.display.specs.declared.write.Printer.{Printer}
 use Rattle.display.specs.Nodes.{GoodLeaf, GoodTransform, put_before, put_transform}
 use Rattle.display.specs.Squeezed.{squeezed}
 use Rattle.display.proofs.Writing.{wrote_as}
 use Rattle.display.proofs.ByKind.{megaminx-told}
 use Rattle.display.proofs.Squeezing.{set-squeezed}
-
--- the slice that the code takes of the text
-abbrev pub cut_out : List ℕ → Span → List ℕ
-cut_out text p = take (p.offset + p.size - p.offset) (drop p.offset text)
-
-cut-is : (text : List ℕ) (p : Span) → cut_out text p ≡ part_of text (span p)
-cut-is text p =
-    let e : p.offset + p.size - p.offset ≡ p.size = omega arith in
-    ap (λ (n : ℕ). take n (drop p.offset text)) e
-
-within : (text : List ℕ) (p : Span) (t : Bool) → (inside text (span p) && t) ≡ true → p.offset + p.size ≤ length text
-within text p t h = leb-true (p.offset + p.size) (length text) (and_left (inside text (span p)) t h)
 
 -- the constraints of a record, by the bit that tells of them
 pub no-constraints : (bs : List ℕ) {r : Bool} → r ≡ present_at bs → r ≡ false → constraints_at bs ≡ none
@@ -53,26 +43,25 @@ no-constraints bs e h = rw (sym e ∙ h)
 pub some-constraints : (bs : List ℕ) (p : Span) {r : Bool} → r ≡ present_at bs → r ≡ true → span p ≡ span_at CONSTRAINTS bs → constraints_at bs ≡ some (span p)
 some-constraints bs p e h i = rw (sym e ∙ h) (ap some (sym i))
 
-module _ (text : List ℕ) {q : Option tree.Span} (p : Span) (e : q ≡ some (span p)) where
-  pub constraints-within : constraints_ok text q ≡ true → p.offset + p.size ≤ length text
-  constraints-within h = within text p _ (rw e at h)
+module _ (text : List ℕ) {q : Option tree.Span} (p : Span) (e : q ≡ some (span p)) (h : constraints_ok text q ≡ true) where
+  pub constraints-inside : inside text (span p) ≡ true
+  constraints-inside = and_left (inside text (span p)) _ (rw e at h)
 
-  pub constraints-print : {old new : List ℕ} {at next : ℕ} → constraints_ok text q ≡ true →
-      Wrote old new at next (λ rest. squeezed (cut_out text p) ++ rest) → Wrote old new at next (put_constraints (constraint_meaning text q))
-  constraints-print h w =
+  pub constraints-print : {old new : Printer} → Wrote old new (λ rest. squeezed (part_of text (span p)) ++ rest) → Wrote old new (put_constraints (constraint_meaning text q))
+  constraints-print w =
       rw e (wrote_as (put_braces put_constraint (or_empty (constraints_in (part_of text (span p)))))
-      (set-squeezed (part_of text (span p)) (and_right (inside text (span p)) _ (rw e at h))) (rw (cut-is text p) at w))
+      (set-squeezed (part_of text (span p)) (and_right (inside text (span p)) _ (rw e at h))) w)
 
 module _ (text : List ℕ) (q : LayerPrefixContents) (p : Span) (e : q ≡ prefix.Set p) where
-  pub layers-within : layers_ok text (layers q) ≡ true → p.offset + p.size ≤ length text
-  layers-within h = within text p _ (rw e at h)
+  pub layers-inside : layers_ok text (layers q) ≡ true → inside text (span p) ≡ true
+  layers-inside h = and_left (inside text (span p)) _ (rw e at h)
 
-  pub layers-set : layers_ok text (layers q) ≡ true → is_some (layer_set_in (cut_out text p)) ≡ true
-  layers-set h = rw (cut-is text p) (and_right (inside text (span p)) _ (rw e at h))
+  pub layers-set : layers_ok text (layers q) ≡ true → is_some (layer_set_in (part_of text (span p))) ≡ true
+  layers-set h = and_right (inside text (span p)) _ (rw e at h)
 
-  pub layers-print : {old new : List ℕ} {at next : ℕ} → Wrote old new at next (put_braces put_element (or_empty (layer_set_in (cut_out text p)))) →
-      Wrote old new at next (put_layers (layer_meaning text (layers q)))
-  layers-print w = rw e (rw (cut-is text p) at w)
+  pub layers-print : {old new : Printer} → Wrote old new (put_braces put_element (or_empty (layer_set_in (part_of text (span p))))) →
+      Wrote old new (put_layers (layer_meaning text (layers q)))
+  layers-print w = rw e w
 
 -- What a leaf that is well formed consists of.
 family-inside : (text : List ℕ) (n : ℕ) (f : tree.Span) → family_ok text n f ≡ true → inside text f ≡ true
@@ -110,13 +99,19 @@ move-parts text t l f c m h =
     }
 
 -- What stands before the family, by the fields of the record.
-module _ (text bs : List ℕ) {kind : ℕ} (e : kind ≡ kind_at bs) {old new : List ℕ} {at next : ℕ} where
-  pub rotation-before : kind ≡ 6 → Wrote old new at next (λ rest. 64 ∷ rest) → Wrote old new at next (put_before text bs)
+tilde-put : (t : Bool) (rest : List ℕ) → pick t (126 ∷ rest) rest ≡ put_tilde t rest
+tilde-put true rest = refl
+tilde-put false rest = refl
+
+module _ (text bs : List ℕ) {kind : ℕ} (e : kind ≡ kind_at bs) {old new : Printer} where
+  pub rotation-before : kind ≡ 6 → Wrote old new (λ rest. 64 ∷ rest) → Wrote old new (put_before text bs)
   rotation-before h w = let i : kind_at bs ≡ 6 = sym e ∙ h in wrote_as (put_before text bs) (λ rest. rw i) w
 
   pub move-before : {t : Bool} {l : tree.Layers tree.Span} → (kind ≡ 6 → ⊥) → t ≡ tilde_at bs → l ≡ layers_at bs →
-      Wrote old new at next (λ rest. put_tilde t (put_layers (layer_meaning text l) rest)) → Wrote old new at next (put_before text bs)
-  move-before h i j w = wrote_as (put_before text bs) (λ rest. rw (i, j, ne_eqb (kind_at bs) 6 (λ z. h (e ∙ z)))) w
+      Wrote old new (λ rest. let rest' = put_layers (layer_meaning text l) rest in pick t (126 ∷ rest') rest') → Wrote old new (put_before text bs)
+  move-before {t = t} {l = l} h i j w =
+      wrote_as (put_before text bs)
+      (λ rest. rw (ne_eqb (kind_at bs) 6 (λ z. h (e ∙ z))) (tilde-put t (put_layers (layer_meaning text l) rest) ∙ rw (i, j))) w
 
 pub no-layers : (bs : List ℕ) {form : ℕ} → form ≡ form_at bs → form ≡ 0 → no_layers ≡ layers_at bs
 no-layers bs e h = rw (sym e ∙ h)
@@ -124,29 +119,29 @@ no-layers bs e h = rw (sym e ∙ h)
 pub family-ok : (text : List ℕ) {f g : tree.Span} → f ≡ g → inside text g ≡ true → inside text f ≡ true
 family-ok text e h = rw e h
 
-pub transform-as : (text bs : List ℕ) {f : tree.Span} {m : ℕ} → f ≡ family_at (field FAMILY bs) (field FAMILY-SIZE bs) → m ≡ field NUMBER bs → {old new : List ℕ} {at next : ℕ} →
-    Wrote old new at next (λ rest. put_before text bs (part_of text f ++ put_constraints (constraint_meaning text (constraints_at bs)) (put_multiplier (from_bits 32 m) rest))) →
-    Wrote old new at next (put_transform text bs)
+pub transform-as : (text bs : List ℕ) {f : tree.Span} {m : ℕ} → f ≡ family_at (field FAMILY bs) (field FAMILY-SIZE bs) → m ≡ field NUMBER bs → {old new : Printer} →
+    Wrote old new (λ rest. put_before text bs (part_of text f ++ put_constraints (constraint_meaning text (constraints_at bs)) (put_multiplier (from_bits 32 m) rest))) →
+    Wrote old new (put_transform text bs)
 transform-as text bs e i w = rw (e, i) at w
 
 -- A leaf is told by its head.
 leaf-same : {x y : Leaf} → leaf_head x ≡ leaf_head y → x ≡ y
 leaf-same e = cc
 
-module _ (text bs : List ℕ) {old new : List ℕ} {at next : ℕ} where
-  pub leaf-put : (y : Leaf) → head_at bs ≡ leaf_head y → Wrote old new at next (put_step (step_of text y)) →
-      (x : Leaf) → head_at bs ≡ leaf_head x → Wrote old new at next (put_step (step_of text x))
+module _ (text bs : List ℕ) {old new : Printer} where
+  pub leaf-put : (y : Leaf) → head_at bs ≡ leaf_head y → Wrote old new (put_step (step_of text y)) →
+      (x : Leaf) → head_at bs ≡ leaf_head x → Wrote old new (put_step (step_of text x))
   leaf-put y h w x i = let e : y ≡ x = leaf-same (sym h ∙ i) in rw e at w
 
-  pub pair_put : {kind u d : ℕ} → kind ≡ kind_at bs → kind ≡ 9 → u ≡ field NUMBER bs → d ≡ field OTHER bs → Wrote old new at next (put_step (pair (from_bits 32 u) (from_bits 32 d))) →
-      (x : Leaf) → head_at bs ≡ leaf_head x → Wrote old new at next (put_step (step_of text x))
+  pub pair_put : {kind u d : ℕ} → kind ≡ kind_at bs → kind ≡ 9 → u ≡ field NUMBER bs → d ≡ field OTHER bs → Wrote old new (put_step (pair (from_bits 32 u) (from_bits 32 d))) →
+      (x : Leaf) → head_at bs ≡ leaf_head x → Wrote old new (put_step (step_of text x))
   unfolding step_of
   pair_put e h i j w = leaf-put (pair (from_bits 32 (field NUMBER bs)) (from_bits 32 (field OTHER bs))) (head_at-kind bs 9 (sym h ∙ e)) (rw (i, j) at w)
 
   -- what the arms before leave
   pub megaminx-put : {kind : ℕ} → kind ≡ kind_at bs → GoodLeaf text bs → ((Unit {0} × (kind ≡ 8 → ⊥)) × (kind ≡ 9 → ⊥)) × (kind ≡ 10 → ⊥) → (kind < 6) ⊎ (7 < kind) →
-      ((m : MegaminxScrambleMove) → kind ≡ megaminx_number m → Wrote old new at next (put_megaminx m)) →
-      (x : Leaf) → head_at bs ≡ leaf_head x → Wrote old new at next (put_step (step_of text x))
+      ((m : MegaminxScrambleMove) → kind ≡ megaminx_number m → Wrote old new (put_megaminx m)) →
+      (x : Leaf) → head_at bs ≡ leaf_head x → Wrote old new (put_step (step_of text x))
   unfolding put_step step_of
   megaminx-put {kind} e g others h w =
       let low : 7 < kind = ⊎_elim (λ z. absurd (omega (arith, g.low))) (λ z. z) h in
@@ -195,18 +190,18 @@ module _ (text bs : List ℕ) {kind : ℕ} (e : kind ≡ kind_at bs) where
           let p = move-parts text (tilde_at bs) (layers_at bs) family (constraints_at bs) (from_bits 32 (field NUMBER bs)) (ok moved (move-told h)) in
           record { room = g.room; layers = λ z. p.layers; family = p.family; constraints = p.constraints }
 
-  module _ {old new : List ℕ} {at next : ℕ} (w : Wrote old new at next (put_transform text bs)) (x : Leaf) (told : head_at bs ≡ leaf_head x) where
-    rotation-put : kind ≡ 6 → Wrote old new at next (put_step (step_of text x))
+  module _ {old new : Printer} (w : Wrote old new (put_transform text bs)) (x : Leaf) (told : head_at bs ≡ leaf_head x) where
+    rotation-put : kind ≡ 6 → Wrote old new (put_step (step_of text x))
     unfolding put_step step_of
     rotation-put h =
         let i : kind_at bs ≡ 6 = sym e ∙ h in
         leaf-put text bs rotated (rotation-told h) (wrote_as (put_step (step_of text rotated)) (λ rest. rw i) w) x told
 
-    move-put : kind ≡ 7 → Wrote old new at next (put_step (step_of text x))
+    move-put : kind ≡ 7 → Wrote old new (put_step (step_of text x))
     unfolding put_step step_of
     move-put h =
         let i : kind_at bs ≡ 7 = sym e ∙ h in
         leaf-put text bs moved (move-told h) (wrote_as (put_step (step_of text moved)) (λ rest. rw i) w) x told
 
-    pub transform-put : (kind ≡ 6) ⊎ (kind ≡ 7) → Wrote old new at next (put_step (step_of text x))
+    pub transform-put : (kind ≡ 6) ⊎ (kind ≡ 7) → Wrote old new (put_step (step_of text x))
     transform-put k = ⊎_elim rotation-put move-put k

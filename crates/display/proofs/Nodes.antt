@@ -38,6 +38,7 @@ use Rattle.nodes.proofs.Nodes.{
   leaf-head,
 }
 use Rattle.display.specs.Written.{MOST, Wrote}
+use Rattle.display.specs.declared.write.Printer.{Printer}
 use Rattle.display.specs.Nodes.{GoodNode, GoodLeaf}
 use Rattle.display.proofs.Writing.{wrote_none, wrote_as, wrote_then}
 
@@ -171,65 +172,56 @@ no-others-print text bs p h rest = rw (no_node bs p h)
 
 -- The loop over a list: what is left of it, and what printing that completes. It is left as a list at the head of a turn, and as the
 -- others of a list after a node.
-pub record Listing (printer : NodeList LeafStep → List ℕ → List ℕ) (text tree t old mid : List ℕ) (at next : ℕ) : Type 0 where
+pub record Listing (printer : NodeList LeafStep → List ℕ → List ℕ) (text tree t : List ℕ) (old mid : Printer) : Type 0 where
   pub packed_left : Packed t
   pub ok : tree_ok text (unpack t) ≡ true
   pub shorter : length t ≤ length tree
-  pub place : next ≤ MOST
-  pub long : length mid ≡ length old
-  pub onward : (new : List ℕ) (n : ℕ) → Wrote mid new next n (printer (unspanned text (unpack t))) → Wrote old new at n (put_nodes (unspanned text (unpack tree)))
+  pub onward : (new : Printer) → Wrote mid new (printer (unspanned text (unpack t))) → Wrote old new (put_nodes (unspanned text (unpack tree)))
 
-pub listing-starts : {text tree : List ℕ} (out : List ℕ) {at : ℕ} → Packed tree → tree_ok text (unpack tree) ≡ true → at ≤ MOST →
-    Listing put_nodes text tree tree out out at at
-listing-starts out p h l = record { packed_left = p; ok = h; shorter = omega arith; place = l; long = refl; onward = λ new n w. w }
+pub listing-starts : {text tree : List ℕ} (p : Printer) → Packed tree → tree_ok text (unpack tree) ≡ true → Listing put_nodes text tree tree p p
+listing-starts p q h = record { packed_left = q; ok = h; shorter = omega arith; onward = λ new w. w }
 
-module _ {text tree t old mid : List ℕ} {at next : ℕ} (w : Listing put_nodes text tree t old mid at next) where
-  node-listed : {mid' : List ℕ} {next' e : ℕ} (f : FirstNode t e) → Wrote mid mid' next next' (put_node (map_node (step_of text) f.node)) →
-      Listing put_others text tree (part e (length t) t) old mid' at next' × (length (part e (length t) t) < length t)
+module _ {text tree t : List ℕ} {old mid : Printer} (w : Listing put_nodes text tree t old mid) where
+  node-listed : {mid' : Printer} {e : ℕ} (f : FirstNode t e) → Wrote mid mid' (put_node (map_node (step_of text) f.node)) →
+      Listing put_others text tree (part e (length t) t) old mid' × (length (part e (length t) t) < length t)
   node-listed {e = e} f v = (
     record {
       packed_left = f.packed_rest;
       ok = rest_ok text f w.ok;
       shorter = omega (arith, part_length e (length t) t, w.shorter);
-      place = omega (arith, v.counts);
-      long = v.long ∙ w.long;
-      onward = λ new n u. w.onward new n (wrote_as (put_nodes (unspanned text (unpack t))) (first-prints text f) (wrote_then v u));
+      onward = λ new u. w.onward new (wrote_as (put_nodes (unspanned text (unpack t))) (first-prints text f) (wrote_then v u));
     },
     rest-less t e f.least f.most,
   )
 
-  pub leaf-listed : {mid' : List ℕ} {next' : ℕ} (l : FirstLeaf t) → Wrote mid mid' next next' (put_step (step_of text l.step)) →
-      Listing put_others text tree (part RECORD (length t) t) old mid' at next' × (length (part RECORD (length t) t) < length t)
+  pub leaf-listed : {mid' : Printer} (l : FirstLeaf t) → Wrote mid mid' (put_step (step_of text l.step)) →
+      Listing put_others text tree (part RECORD (length t) t) old mid' × (length (part RECORD (length t) t) < length t)
   leaf-listed l v = node-listed l.first (wrote_as (put_node (map_node (step_of text) l.first.node)) (leaf-prints text l) v)
 
-  pub group-listed : {mid' : List ℕ} {next' e : ℕ} → FirstNode t e → Wrote mid mid' next next' (put_nodes (unspanned text (unpack (part 0 e t)))) →
-      Listing put_others text tree (part e (length t) t) old mid' at next' × (length (part e (length t) t) < length t)
+  pub group-listed : {mid' : Printer} {e : ℕ} → FirstNode t e → Wrote mid mid' (put_nodes (unspanned text (unpack (part 0 e t)))) →
+      Listing put_others text tree (part e (length t) t) old mid' × (length (part e (length t) t) < length t)
   group-listed f v = node-listed f (wrote_as (put_node (map_node (step_of text) f.node)) (node-prints text f.is_node) v)
 
-  pub listing-all : length t ≡ 0 → Wrote old mid at next (put_nodes (unspanned text (unpack tree)))
+  pub listing-all : length t ≡ 0 → Wrote old mid (put_nodes (unspanned text (unpack tree)))
   listing-all h =
-      w.onward mid next (wrote_as (put_nodes (unspanned text (unpack t))) (none-print text t w.packed_left h) (wrote_none mid w.place))
+      w.onward mid (wrote_as (put_nodes (unspanned text (unpack t))) (none-print text t w.packed_left h) (wrote_none mid))
 
 -- a space before the others, if there are any
-module _ {text tree t old mid : List ℕ} {at next : ℕ} (w : Listing put_others text tree t old mid at next) where
-  pub listing-spaced : {mid' : List ℕ} {next' : ℕ} → 0 < length t → Wrote mid mid' next next' (λ rest. 32 ∷ rest) → Listing put_nodes text tree t old mid' at next'
+module _ {text tree t : List ℕ} {old mid : Printer} (w : Listing put_others text tree t old mid) where
+  pub listing-spaced : {mid' : Printer} → 0 < length t → Wrote mid mid' (λ rest. 32 ∷ rest) → Listing put_nodes text tree t old mid'
   listing-spaced h s =
       record {
         packed_left = w.packed_left;
         ok = w.ok;
         shorter = w.shorter;
-        place = omega (arith, s.counts);
-        long = s.long ∙ w.long;
-        onward = λ new n u. w.onward new n (wrote_as (put_others (unspanned text (unpack t))) (others-print text t w.packed_left h) (wrote_then s u));
+        onward = λ new u. w.onward new (wrote_as (put_others (unspanned text (unpack t))) (others-print text t w.packed_left h) (wrote_then s u));
       }
 
-  pub listing-ended : length t ≡ 0 → Listing put_nodes text tree t old mid at next
+  pub listing-ended : length t ≡ 0 → Listing put_nodes text tree t old mid
   listing-ended h =
       record {
         packed_left = w.packed_left;
         ok = w.ok;
         shorter = w.shorter;
-        place = w.place;
-        long = w.long;
-        onward = λ new n u. w.onward new n (wrote_as (put_others (unspanned text (unpack t))) (no-others-print text t w.packed_left h) u);
+        onward = λ new u. w.onward new (wrote_as (put_others (unspanned text (unpack t))) (no-others-print text t w.packed_left h) u);
       }

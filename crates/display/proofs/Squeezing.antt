@@ -49,6 +49,7 @@ use Rattle.laws.proofs.Runs.{run_alone}
 use Rattle.laws.proofs.Braces.{just-read}
 use Rattle.laws.proofs.ReadBack.Starts.{fails, no_run, Whole, end, skip, char, family-whole, name-no-white}
 use Rattle.display.specs.Written.{MOST, Wrote}
+use Rattle.display.specs.declared.write.Printer.{Printer}
 use Rattle.display.specs.Squeezed.{squeezed_from, squeezed}
 use Rattle.display.proofs.Writing.{wrote_none, wrote_then, wrote_as}
 
@@ -291,44 +292,38 @@ set-squeezed part h rest = go (braces constraint 0 part) refl h
     go (read l last (b ∷ s)) e t = absurd (false-true t)
 
 -- The loop over a part: what is left of it from i on, and what printing that completes.
-pub record Remaining (part : List ℕ) (i : ℕ) (old mid : List ℕ) (at next : ℕ) : Type 0 where
+pub record Remaining (part : List ℕ) (i : ℕ) (old mid : Printer) : Type 0 where
   pub inside : i ≤ length part
-  pub place : next ≤ MOST
-  pub long : length mid ≡ length old
-  pub onward : (new : List ℕ) (n : ℕ) → Wrote mid new next n (λ rest. squeezed (drop i part) ++ rest) → Wrote old new at n (λ rest. squeezed part ++ rest)
+  pub onward : (new : Printer) → Wrote mid new (λ rest. squeezed (drop i part) ++ rest) → Wrote old new (λ rest. squeezed part ++ rest)
 
-pub all-remains : {at : ℕ} (part out : List ℕ) → at ≤ MOST → Remaining part 0 out out at at
-all-remains part out h = record { inside = omega arith; place = h; long = refl; onward = λ new n w. w }
+pub all-remains : (part : List ℕ) (p : Printer) → Remaining part 0 p p
+all-remains part p = record { inside = omega arith; onward = λ new w. w }
 
-module _ {part : List ℕ} {i : ℕ} {old mid : List ℕ} {at next : ℕ} (w : Remaining part i old mid at next) where
-  pub byte_put : {mid' : List ℕ} {next' : ℕ} → i < length part → width_if white_space (drop i part) ≡ 0 →
-      Wrote mid mid' next next' (λ rest. get_or part i 0 ∷ rest) → Remaining part (i + 1) old mid' at next'
+module _ {part : List ℕ} {i : ℕ} {old mid : Printer} (w : Remaining part i old mid) where
+  pub byte_put : {mid' : Printer} → i < length part → width_if white_space (drop i part) ≡ 0 →
+      Wrote mid mid' (λ rest. get_or part i 0 ∷ rest) → Remaining part (i + 1) old mid'
   byte_put h z v =
       let e : drop i part ≡ get_or part i 0 ∷ drop (i + 1) part = rw (add-one i) (drop-cons part i 0 h) in
       let s : squeezed (drop i part) ≡ get_or part i 0 ∷ squeezed (drop (i + 1) part) = ap squeezed e ∙ past-byte (get_or part i 0) (drop (i + 1) part) (rw e at z) in
       record {
         inside = omega arith;
-        place = omega (arith, v.counts);
-        long = v.long ∙ w.long;
-        onward = λ new n u.
-            w.onward new n (wrote_as (λ rest. squeezed (drop i part) ++ rest) (λ rest. ap (λ (l : List ℕ). l ++ rest) (sym s)) (wrote_then v u));
+        onward = λ new u.
+            w.onward new (wrote_as (λ rest. squeezed (drop i part) ++ rest) (λ rest. ap (λ (l : List ℕ). l ++ rest) (sym s)) (wrote_then v u));
       }
 
   pub space-fits : (k : ℕ) → k ≡ width_if white_space (drop i part) → i + k ≤ length part
   space-fits k e = omega (arith, w.inside, width_if-length white_space (drop i part), length-drop i part)
 
-  pub space-passed : (k : ℕ) → k ≡ width_if white_space (drop i part) → (k ≡ 0 → ⊥) → Remaining part (i + k) old mid at next
+  pub space-passed : (k : ℕ) → k ≡ width_if white_space (drop i part) → (k ≡ 0 → ⊥) → Remaining part (i + k) old mid
   space-passed k e h =
       let s : squeezed (drop i part) ≡ squeezed (drop (i + k) part) = past-space (drop i part) k e (omega arith) ∙ ap squeezed (drop-drop k i part) in
       record {
         inside = space-fits k e;
-        place = w.place;
-        long = w.long;
-        onward = λ new n u. w.onward new n (wrote_as (λ rest. squeezed (drop i part) ++ rest) (λ rest. ap (λ (l : List ℕ). l ++ rest) (sym s)) u);
+        onward = λ new u. w.onward new (wrote_as (λ rest. squeezed (drop i part) ++ rest) (λ rest. ap (λ (l : List ℕ). l ++ rest) (sym s)) u);
       }
 
-  pub none-remains : length part ≤ i → Wrote old mid at next (λ rest. squeezed part ++ rest)
+  pub none-remains : length part ≤ i → Wrote old mid (λ rest. squeezed part ++ rest)
   unfolding squeezed_from
   none-remains h =
       let e : drop i part ≡ [] = drop_of_length-le part h in
-      w.onward mid next (rw e (wrote_none mid w.place))
+      w.onward mid (rw e (wrote_none mid))

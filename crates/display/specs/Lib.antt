@@ -1,4 +1,5 @@
 -- What the contracts of this crate cite beside the rules of `notation`.
+pub mod Most
 pub mod Written
 pub mod Nodes
 pub mod Sets

@@ -11,3 +11,4 @@ pub mod write;
 
 pub use bound::fits;
 pub use unspanned::display;
+pub use write::Printer;

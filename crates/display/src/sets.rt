@@ -8,97 +8,64 @@ ghost use Rattle.notation.specs.Meaning.{or_empty, layer_set_in};
 ghost use Rattle.notation.specs.WellFormed.{is_some};
 ghost use Rattle.notation.specs.Print as print;
 ghost use Rattle.parse.specs.Meaning as means;
-ghost use Rattle.display.specs.Written.{MOST as most, Wrote};
-ghost use Rattle.display.specs.Sets.{Following, ElementPut};
+ghost use Rattle.display.specs.Written.{Wrote};
+ghost use Rattle.display.specs.Sets.{Following};
 
-use crate::write::{put, put_signed};
+use crate::write::Printer;
 use charsets::whitespace_end;
 use parse::layer_set_element;
 use parse::parts::{LayerSetElement, LayerSetElementAnswer};
 
-// The place after an element, and where it ends in the part.
-#[derive(Drop)]
-pub enum ElementAnswer {
-    Put(usize, usize),
-    Nothing,
-}
-
-// Prints an element of a layer set.
-fn put_layer_set_element(out: &mut [u8], at: usize, e: LayerSetElement) -> usize
-    requires { at ≤ most }
-    ensures { Wrote out.old out.new at result (print.put_element (means.layer_set_element_of e)) }
-{
-    match e {
-        LayerSetElement::Single(i) => put_signed(out, at, i),
-        LayerSetElement::Range(i, j) => {
-            let dots = put_signed(out, at, i);
-            let dot = put(out, dots, b'.');
-            let second = put(out, dot, b'.');
-            put_signed(out, second, j)
+impl<'a> Printer<'a> {
+    // Puts an element of a layer set.
+    fn put_element(self, e: LayerSetElement) -> Printer<'a>
+        ensures { Wrote self.entry result (print.put_element (means.layer_set_element_of e)) }
+    {
+        match e {
+            LayerSetElement::Single(i) => self.put_signed(i),
+            LayerSetElement::Range(i, j) => self.put_signed(i).put(b'.').put(b'.').put_signed(j),
         }
     }
-}
 
-// The element that stands at `from`.
-fn put_element(out: &mut [u8], at: usize, part: &[u8], from: usize) -> ElementAnswer
-    requires at_le_most { at ≤ most }
-    requires from_in_bounds { from ≤ length part.now }
-    ensures { ElementPut part.now from out.old out.new at result }
-{
-    let LayerSetElementAnswer::Took(element, end) = layer_set_element(part, from, true) else {
-        return ElementAnswer::Nothing;
-    };
-    ElementAnswer::Put(put_layer_set_element(out, at, element), end)
-}
-
-// The elements after the one that ends at `from`, each with a comma before it.
-fn put_more(out: &mut [u8], at: usize, part: &[u8], from: usize) -> usize
-    requires at_le_most { at ≤ most }
-    requires from_in_bounds { from ≤ length part.now }
-    ensures { (l : List layers.LayerSetElement) → Following (layer_set_element true) part.now from l → Wrote
-        out.old out.new at result (print.put_more print.put_element l) }
-{
-    let mut end = from;
-    let mut next = at;
-    loop {
-        let comma = whitespace_end(part, end);
-        if is_comma(part, comma) {
-            let first = whitespace_end(part, comma + 1);
-            let after = put(out, next, b',');
-            let ElementAnswer::Put(place, to) = put_element(out, after, part, first) else {
-                return next;
+    // Puts the elements after the one that ends at `from`, each with a comma before it.
+    fn put_more(mut self, part: &[u8], from: usize) -> Printer<'a>
+        requires { from ≤ length part.now }
+        ensures { (l : List layers.LayerSetElement) → Following (layer_set_element true) part.now from l →
+            Wrote self.entry result (print.put_more print.put_element l) }
+    {
+        let mut end = from;
+        loop {
+            let comma = whitespace_end(part, end);
+            if !is_comma(part, comma) {
+                return self;
+            }
+            let start = whitespace_end(part, comma + 1);
+            let LayerSetElementAnswer::Took(element, next) = layer_set_element(part, start, true)
+            else {
+                return self;
             };
-            next = place;
-            end = to;
-        } else {
-            return next;
+            self = self.put(b',').put_element(element);
+            end = next;
         }
     }
-}
 
-// A set, with its braces.
-pub(crate) fn put_layer_set(out: &mut [u8], at: usize, part: &[u8]) -> usize
-    requires at_le_most { at ≤ most }
-    requires part_value { is_some (layer_set_in part.now) ≡ true }
-    ensures { Wrote out.old out.new at result
-        (print.put_braces print.put_element (or_empty (layer_set_in part.now))) }
-{
-    let first = whitespace_end(part, 1);
-    let open = put(out, at, b'{');
-    let ElementAnswer::Put(next, end) = put_element(out, open, part, first) else {
-        return put(out, open, b'}');
-    };
-    let close = put_more(out, next, part, end);
-    put(out, close, b'}')
+    // Puts a set, with its braces.
+    pub(crate) fn put_layer_set(self, part: &[u8]) -> Printer<'a>
+        requires { is_some (layer_set_in part.now) ≡ true }
+        ensures { Wrote self.entry result
+            (print.put_braces print.put_element (or_empty (layer_set_in part.now))) }
+    {
+        let start = whitespace_end(part, 1);
+        let LayerSetElementAnswer::Took(element, end) = layer_set_element(part, start, true) else {
+            return self.put(b'{').put(b'}');
+        };
+        self.put(b'{').put_element(element).put_more(part, end).put(b'}')
+    }
 }
 
 // Whether a comma stands at `at`.
 fn is_comma(part: &[u8], at: usize) -> bool
     ensures { result ≡ eqb (byte_at part.now at) 44 }
 {
-    if at < part.len() {
-        part[at] == b','
-    } else {
-        false
-    }
+    at < part.len() && part[at] == b','
 }

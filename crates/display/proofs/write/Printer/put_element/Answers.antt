@@ -1,0 +1,12 @@
+-- Each arm. Assumes nothing.
+use Rattle.display.proofs.Writing.{wrote_then}
+use Rattle.display.proofs.write.Printer.put_element.Goals as goal
+
+pub returns-in-Single : goal.returns-in-Single
+returns-in-Single c =
+    rw c.in-Single.is c.put_signed.ensures
+
+pub returns-in-Range : goal.returns-in-Range
+returns-in-Range c =
+    rw c.in-Range.is
+    (wrote_then c.put_signed-in-Range.ensures (wrote_then c.put.ensures (wrote_then c.put-in-Range.ensures c.put_signed-in-Range-2.ensures)))
