@@ -29,15 +29,13 @@ fn range_at(bytes: &[u8], k: usize) -> LayerRange
     }
 }
 
-// Writes the first n of them over the front of the run.
-fn fill(bytes: &[u8], ranges: &mut [LayerRange], n: usize)
-    requires { (4 * n ≤ length bytes.now) × (n ≤ length ranges.old) }
-    ensures { ranges.new ≡ ranges_from bytes.now n 0 ++ drop n ranges.old }
+// Writes the first of them over a run, as many as it holds.
+fn fill(bytes: &[u8], ranges: &mut [LayerRange])
+    requires { 4 * length ranges.old ≤ length bytes.now }
+    ensures { ranges.new ≡ ranges_from bytes.now (length ranges.old) 0 }
 {
-    let mut k = 0;
-    while k < n {
-        ranges[k] = range_at(bytes, k);
-        k += 1;
+    for (k, range) in ranges.iter_mut().enumerate() {
+        *range = range_at(bytes, k);
     }
 }
 
@@ -102,6 +100,6 @@ pub fn simplify(
         &mut bytes,
     );
     let n = count(answer);
-    fill(&bytes, ranges, n);
+    fill(&bytes, &mut ranges[..n]);
     answer
 }

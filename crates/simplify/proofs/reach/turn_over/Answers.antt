@@ -11,9 +11,6 @@ use Rattle.simplify.proofs.Over.{next-over, all-over}
 use Rattle.simplify.proofs.reach.turn_over.Goals as goal
 use Rattle.simplify.proofs.reach.turn_over.Goals.{then-far-i, else-far-i}
 
-pub loop-i-init : goal.loop-i-init
-loop-i-init c = refl
-
 pub loop-i-preserved : goal.loop-i-preserved
 loop-i-preserved c =
     let i = c.loop-i.i in

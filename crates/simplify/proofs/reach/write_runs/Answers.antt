@@ -8,10 +8,6 @@ use Rattle.simplify.specs.Reach.{runs_from, written}
 use Rattle.simplify.proofs.Sweep.{none_written, all-written, one_written}
 use Rattle.simplify.proofs.reach.write_runs.Goals as goal
 
-pub loop-k-init : goal.loop-k-init
-loop-k-init c =
-    rw (c.into_iter-k-iterator.ensures.into_iter_gives, c.enumerate-k-items.ensures.source, c.enumerate-k-items.ensures.count, c.new.ensures.table, c.new.ensures.start) (omega (arith, c.requires.reach_in_bounds), refl)
-
 pub loop-k-preserved : goal.loop-k-preserved
 loop-k-preserved c =
     let out = c.loop-k.out in

@@ -10,19 +10,11 @@ use Rattle.simplify.proofs.Answers.{set-gathered, others-gathered}
 use Rattle.simplify.proofs.unspanned.gather_set.Goals as goal
 use Rattle.simplify.proofs.unspanned.gather_set.Goals.{After-mark_set}
 
-pub mark_set-requires : goal.mark_set-requires
-mark_set-requires c =
-    record { max_layer_in_bounds = omega (arith, ap length c.requires.reach_value, length-replicate {A = ℕ} (c.args.axis.max_layer + 1) 0); part_value = c.requires.part_value }
-
 -- the table of the set
 gathered : (c : After-mark_set) → let a = c.args in Gathered a.axis.max_layer (set_ranges a.axis.max_layer a.axis.allow_negatives (or_empty (layer_set_in a.part.now))) c.mark_set.new.reach
 gathered c =
     set-gathered c.args.axis.max_layer c.args.axis.real c.args.axis.allow_negatives c.args.part.now c.args.reach.now _ c.requires.reach_value
     c.mark_set.ensures
-
-pub turn_over-requires : goal.turn_over-requires
-turn_over-requires c =
-    omega (arith, (gathered (goal.at.turn_over-requires c).After-mark_set).size, c.args.axis.real.high)
 
 pub returns-then-inverted : goal.returns-then-inverted
 returns-then-inverted c =

@@ -36,12 +36,6 @@ loop-element-init c =
       ap (λ (l : List LayerSetElement). marked_set c.args.axis.max_layer c.args.axis.allow_negatives l c.args.reach.now) (sym o.elements),
     )
 
-pub layer_set_element-requires : goal.layer_set_element-requires
-layer_set_element-requires c = c.loop-element.invariant.2
-
-pub shape_of-reach-in_default : goal.shape_of-reach-in_default
-shape_of-reach-in_default c = c.loop-element.invariant.3
-
 pub returns-in_default : goal.returns-in_default
 returns-in_default c =
     no-element c.args.axis.max_layer c.args.axis.allow_negatives c.args.part.now c.loop-element.invariant.0 c.loop-element.at c.loop-element.invariant.2 c.loop-element.reach _ c.loop-element.invariant.4
