@@ -1,13 +1,14 @@
 -- What a record says and what its signs are, by its kind. Assumes nothing.
 use Prim.Native.Nat.{ℕ, zero, suc, ◌+◌, ◌-◌, ◌%◌, ◌<◌, ◌≤◌}
-use mathlib.Core.Path.{◌≡◌}
-use mathlib.Core.Logic.{◌⊎◌, ⊎_elim}
+use mathlib.Core.Path.{◌≡◌, refl, sym, ◌∙◌}
+use mathlib.Core.Bool.{Bool, true, false, ◌&&◌}
 use mathlib.Core.List.{List, ◌∷◌}
 use native.Mathlib.Omega.{arith}
-use borrow.Author.Tests.{lt-ltb, le-ltb, eq-eqb, ne_eqb}
-use lib.Dec.{ltb, eqb}
+use borrow.Author.Tests.{leb-true, leb-false}
+use lib.Dec.{leb, ltb, eqb}
 use lib.ListN.{get_or}
-use Rattle.notation.specs.Basics.{pick}
+use Rattle.notation.specs.Basics.{between, pick}
+use Rattle.laws.proofs.Bools.{and_left}
 use Rattle.notation.specs.Tree.{pause, megaminx}
 use Rattle.notation.specs.Packed.{Head, leaf_head, group_number, binary_number, megaminx_number}
 use Rattle.notation.specs.Print.{put_prefix, put_separator, put_megaminx}
@@ -68,18 +69,19 @@ letter kind = pick (ltb kind 13) 82 68
 abbrev pub sign : ℕ → ℕ
 sign kind = pick (eqb (kind % 2) 1) 43 45
 
-pub letter-is : (kind a : ℕ) → ((kind < 13) × (a ≡ 82)) ⊎ ((13 ≤ kind) × (a ≡ 68)) → a ≡ letter kind
-letter-is kind a h = ⊎_elim (λ w. rw (lt-ltb kind 13 w.0) w.1) (λ w. rw (le-ltb kind 13 w.0) w.1) h
-
-pub sign-is : (kind a : ℕ) → ((kind % 2 ≡ 1) × (a ≡ 43)) ⊎ ((kind % 2 ≡ 1 → ⊥) × (a ≡ 45)) → a ≡ sign kind
-sign-is kind a h = ⊎_elim (λ w. rw (eq-eqb (kind % 2) 1 w.0) w.1) (λ w. rw (ne_eqb (kind % 2) 1 w.0) w.1) h
-
 pub scrambled : {old new : Printer} {kind a b : ℕ} → a ≡ letter kind → b ≡ sign kind → Wrote old new (λ rest. a ∷ b ∷ b ∷ rest) →
     (k : MegaminxScrambleMove) → kind ≡ megaminx_number k → Wrote old new (put_megaminx k)
 scrambled l s w Rpp e = rw (l, s, e) at w
 scrambled l s w Rmm e = rw (l, s, e) at w
 scrambled l s w Dpp e = rw (l, s, e) at w
 scrambled l s w Dmm e = rw (l, s, e) at w
+
+pub scrambled-last : {old new : Printer} {kind : ℕ} → (kind ≡ 11 → ⊥) → (kind ≡ 12 → ⊥) → (kind ≡ 13 → ⊥) → Wrote old new (λ rest. 68 ∷ 45 ∷ 45 ∷ rest) →
+    (k : MegaminxScrambleMove) → kind ≡ megaminx_number k → Wrote old new (put_megaminx k)
+scrambled-last a b c w Rpp e = absurd (a e)
+scrambled-last a b c w Rmm e = absurd (b e)
+scrambled-last a b c w Dpp e = absurd (c e)
+scrambled-last a b c w Dmm e = w
 
 -- The record of each kind, as `head_at-kind` gives it.
 abbrev told : List ℕ → ℕ → Head
@@ -94,3 +96,14 @@ megaminx-told bs k l h = go (k - 11) (omega arith)
     go (suc (suc zero)) e = (Dpp, e, rw e)
     go (suc (suc (suc zero))) e = (Dmm, e, rw e)
     go (suc (suc (suc (suc d)))) e = absurd (omega arith)
+
+-- A group by whether it is binary.
+pub single : {kind at : ℕ} {b : Bool} → at ≤ 5 → kind ≡ at → b ≡ between 4 5 kind → b ≡ false → kind < 4
+single {kind} l e i f = go (leb 4 kind) refl (sym i ∙ f)
+  where
+    go : (t : Bool) → leb 4 kind ≡ t → (t && leb kind 5) ≡ false → kind < 4
+    go true p q = let r = leb-false kind 5 q in absurd (omega arith)
+    go false p q = leb-false 4 kind p
+
+pub binary : {kind : ℕ} {b : Bool} → b ≡ between 4 5 kind → b ≡ true → 4 ≤ kind
+binary {kind} i f = leb-true 4 kind (and_left (leb 4 kind) (leb kind 5) (sym i ∙ f))

@@ -16,10 +16,11 @@ use Rattle.notation.specs.WellFormed.{is_some}
 use Rattle.notation.specs.Print.{put_more, put_element}
 use Rattle.laws.proofs.Bools.{false-true}
 use Rattle.laws.proofs.Readers.{not-read}
-use Rattle.parse.specs.Meaning.{layer_set_element_of, element_reading}
+use Rattle.std.specs.Prelude as code
+use Rattle.parsed.specs.declared.Parsed.{Parsed}
+use Rattle.parsed.specs.Reading.{reading}
+use Rattle.parse.specs.Meaning.{layer_set_element_of}
 use Rattle.parse.specs.declared.parts.LayerSetElement as parts
-use Rattle.parse.specs.declared.parts.LayerSetElementAnswer.{LayerSetElementAnswer}
-use Rattle.parse.specs.declared.parts.LayerSetElementAnswer.TheVariants as layer_answer
 use Rattle.parse.proofs.Bytes.{seen, other, just-is, just-not}
 use Rattle.parse.proofs.Past.{within}
 use Rattle.parse.proofs.Rules.{takes-layer_set_element}
@@ -141,13 +142,13 @@ module _ {A : Type 0} (item : Reader A) (part : List ℕ) where
               (l', sym x.0, record { fuel = k; middle = m; rest = t; last = last; more = e; closes = x.1 })
 
 -- An answer of the reader by what was read.
-module _ (part : List ℕ) (from : ℕ) {r : LayerSetElementAnswer} (h : element_reading part r ≡ layer_set_element true from (drop from part)) where
-  pub nothing-read : r ≡ layer_answer.Nothing → rejected ≡ layer_set_element true from (drop from part)
+module _ (part : List ℕ) (from : ℕ) {r : code.Option (Parsed parts.LayerSetElement)} (h : reading layer_set_element_of part r ≡ layer_set_element true from (drop from part)) where
+  pub nothing-read : r ≡ code.None → rejected ≡ layer_set_element true from (drop from part)
   nothing-read n = rw n at h
 
-  pub element-read : (v : parts.LayerSetElement) (end : ℕ) → r ≡ layer_answer.Took v end →
-      read (layer_set_element_of v) end (drop end part) ≡ layer_set_element true from (drop from part)
-  element-read v end n = rw n at h
+  pub element-read : (p : Parsed parts.LayerSetElement) → r ≡ code.Some p →
+      read (layer_set_element_of p.value) p.next (drop p.next part) ≡ layer_set_element true from (drop from part)
+  element-read p n = rw n at h
 
 -- The loop over the elements: those that are left, and what printing them completes.
 pub record Sofar (part : List ℕ) (end : ℕ) (old mid : Printer) (l : List LayerSetElement) : Type 0 where

@@ -6,11 +6,10 @@ use mathlib.Core.Logic.{◌⊎◌, inl, inr, ⊎_elim}
 use mathlib.Core.List.{List, ◌∷◌, ◌++◌}
 use mathlib.Core.Option.{Option, none, some}
 use native.Mathlib.Omega.{arith}
-use borrow.Author.Tests.{leb-true, ne_eqb}
+use borrow.Author.Tests.{ne_eqb}
 use lib.Arith.{lt_of_le-ne}
 use lib.Dec.{leb, eqb}
 use lib.IntN.{ℤ}
-use lib.ListN.{length, take, drop}
 use Rattle.notation.specs.Basics.{pick}
 use Rattle.notation.specs.Chars.{is_family_char}
 use Rattle.notation.specs.Utf8.{run}
@@ -139,12 +138,12 @@ module _ (text bs : List ℕ) {old new : Printer} where
   pair_put e h i j w = leaf-put (pair (from_bits 32 (field NUMBER bs)) (from_bits 32 (field OTHER bs))) (head_at-kind bs 9 (sym h ∙ e)) (rw (i, j) at w)
 
   -- what the arms before leave
-  pub megaminx-put : {kind : ℕ} → kind ≡ kind_at bs → GoodLeaf text bs → ((Unit {0} × (kind ≡ 8 → ⊥)) × (kind ≡ 9 → ⊥)) × (kind ≡ 10 → ⊥) → (kind < 6) ⊎ (7 < kind) →
+  pub megaminx-put : {kind : ℕ} → kind ≡ kind_at bs → GoodLeaf text bs → ((Unit {0} × (kind ≡ 8 → ⊥)) × (kind ≡ 9 → ⊥)) × (kind ≡ 10 → ⊥) → (kind ≡ 6 → ⊥) → (kind ≡ 7 → ⊥) →
       ((m : MegaminxScrambleMove) → kind ≡ megaminx_number m → Wrote old new (put_megaminx m)) →
       (x : Leaf) → head_at bs ≡ leaf_head x → Wrote old new (put_step (step_of text x))
   unfolding put_step step_of
-  megaminx-put {kind} e g others h w =
-      let low : 7 < kind = ⊎_elim (λ z. absurd (omega (arith, g.low))) (λ z. z) h in
+  megaminx-put {kind} e g others h h' w =
+      let low : 7 < kind = lt_of_le-ne (lt_of_le-ne (omega (arith, g.low)) (λ z. h (sym z))) (λ z. h' (sym z)) in
       let eleven : 10 < kind = lt_of_le-ne (lt_of_le-ne (lt_of_le-ne low (λ z. others.0.0.1 (sym z))) (λ z. others.0.1 (sym z))) (λ z. others.1 (sym z)) in
       let m = megaminx-told bs kind eleven (omega (arith, g.high)) in
       leaf-put (megaminx m.0) (head_at-kind bs kind e ∙ m.2) (w m.0 m.1)

@@ -8,7 +8,8 @@ ghost use Rattle.laws.specs.Packed.{Packed};
 ghost use Rattle.display.specs.Bound.{allowed};
 
 use numbers::signed::magnitude;
-use record::{RECORD, fields, kinds};
+use record::kinds::LayerForm;
+use record::{Kind, RECORD, fields};
 
 // `size` where the test holds.
 fn extra(test: bool, size: usize) -> usize
@@ -30,8 +31,8 @@ fn allowance(t: &[u8]) -> usize
     4 + parts
         + extra(fields::is_group(t), 3)
         + extra(9 < n, 9)
-        + extra(fields::kind(t) == kinds::PAIR, 23)
-        + extra(fields::layer_form(t) != 0, 11)
+        + extra(fields::kind(t) == Kind::Pair, 23)
+        + extra(fields::layer_form(t) != LayerForm::None, 11)
 }
 
 // Whether the tree's text surely fits into so many bytes. A layer set may print longer than it is written (`1-2` as
@@ -44,7 +45,7 @@ pub fn fits(tree: &[u8], room: usize) -> bool
     let mut t = tree;
     let mut left = room;
     while 0 < t.len() {
-        if fields::layer_form(t) == 3 {
+        if fields::layer_form(t) == LayerForm::Set {
             return false;
         }
         let size = allowance(t);

@@ -7,11 +7,12 @@ ghost use Rattle.notation.specs.Print.{put_multiplier, put_prefix, put_separator
 ghost use Rattle.notation.specs.declared.common.GroupKind.{GroupKind};
 ghost use Rattle.notation.specs.declared.common.BinaryGroupKind.{BinaryGroupKind};
 ghost use Rattle.notation.specs.declared.common.MegaminxScrambleMove.{MegaminxScrambleMove};
+ghost use Rattle.record.specs.Kinds.{kind_number};
 ghost use Rattle.display.specs.Written.{Wrote};
 
 use crate::write::Printer;
 use numbers::signed::{is_negative, magnitude};
-use record::kinds;
+use record::Kind;
 
 impl<'a> Printer<'a> {
     // Puts a multiplier's magnitude, which is left out where it is 1.
@@ -33,25 +34,25 @@ impl<'a> Printer<'a> {
     }
 
     // Puts what stands before the list of a group, by the kind of its record.
-    pub(crate) fn put_opening(self, kind: u8) -> Printer<'a>
-        ensures { (k : GroupKind) → kind ≡ group_number k → Wrote self.entry result
+    pub(crate) fn put_opening(self, kind: Kind) -> Printer<'a>
+        ensures { (k : GroupKind) → kind_number kind ≡ group_number k → Wrote self.entry result
             (λ rest. put_prefix k (40 ∷ rest)) }
     {
         match kind {
-            kinds::SIMPLE => self.put(b'('),
-            kinds::MACRO => self.put(b'!').put(b'('),
-            kinds::SIMULTANEOUS => self.put(b'&').put(b'('),
+            Kind::Simple => self.put(b'('),
+            Kind::Macro => self.put(b'!').put(b'('),
+            Kind::Simultaneous => self.put(b'&').put(b'('),
             _ => self.put(b'^').put(b'('),
         }
     }
 
     // Puts what stands between the lists of a commutator or a conjugate, by the kind of its record.
-    pub(crate) fn put_separator(self, kind: u8) -> Printer<'a>
-        ensures { (k : BinaryGroupKind) → kind ≡ binary_number k → Wrote self.entry result
+    pub(crate) fn put_separator(self, kind: Kind) -> Printer<'a>
+        ensures { (k : BinaryGroupKind) → kind_number kind ≡ binary_number k → Wrote self.entry result
             (put_separator k) }
     {
         match kind {
-            kinds::COMMUTATOR => self.put(b',').put(b' '),
+            Kind::Commutator => self.put(b',').put(b' '),
             _ => self.put(b':').put(b' '),
         }
     }
@@ -65,12 +66,15 @@ impl<'a> Printer<'a> {
     }
 
     // Puts a scramble move, by the kind of its record.
-    pub(crate) fn put_megaminx(self, kind: u8) -> Printer<'a>
-        ensures { (k : MegaminxScrambleMove) → kind ≡ megaminx_number k → Wrote self.entry result
+    pub(crate) fn put_megaminx(self, kind: Kind) -> Printer<'a>
+        ensures { (k : MegaminxScrambleMove) → kind_number kind ≡ megaminx_number k → Wrote self.entry result
             (put_megaminx k) }
     {
-        let letter = if kind < kinds::D_PLUS { b'R' } else { b'D' };
-        let sign = if kind % 2 == 1 { b'+' } else { b'-' };
-        self.put(letter).put(sign).put(sign)
+        match kind {
+            Kind::RPlus => self.put(b'R').put(b'+').put(b'+'),
+            Kind::RMinus => self.put(b'R').put(b'-').put(b'-'),
+            Kind::DPlus => self.put(b'D').put(b'+').put(b'+'),
+            _ => self.put(b'D').put(b'-').put(b'-'),
+        }
     }
 }

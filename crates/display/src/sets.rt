@@ -14,7 +14,7 @@ ghost use Rattle.display.specs.Sets.{Following};
 use crate::write::Printer;
 use charsets::whitespace_end;
 use parse::layer_set_element;
-use parse::parts::{LayerSetElement, LayerSetElementAnswer};
+use parse::parts::LayerSetElement;
 
 impl<'a> Printer<'a> {
     // Puts an element of a layer set.
@@ -40,12 +40,11 @@ impl<'a> Printer<'a> {
                 return self;
             }
             let start = whitespace_end(part, comma + 1);
-            let LayerSetElementAnswer::Took(element, next) = layer_set_element(part, start, true)
-            else {
+            let Some(element) = layer_set_element(part, start, true) else {
                 return self;
             };
-            self = self.put(b',').put_element(element);
-            end = next;
+            self = self.put(b',').put_element(element.value);
+            end = element.next;
         }
     }
 
@@ -56,10 +55,13 @@ impl<'a> Printer<'a> {
             (print.put_braces print.put_element (or_empty (layer_set_in part.now))) }
     {
         let start = whitespace_end(part, 1);
-        let LayerSetElementAnswer::Took(element, end) = layer_set_element(part, start, true) else {
+        let Some(element) = layer_set_element(part, start, true) else {
             return self.put(b'{').put(b'}');
         };
-        self.put(b'{').put_element(element).put_more(part, end).put(b'}')
+        self.put(b'{')
+            .put_element(element.value)
+            .put_more(part, element.next)
+            .put(b'}')
     }
 }
 

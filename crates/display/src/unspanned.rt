@@ -15,8 +15,9 @@ ghost use Rattle.display.specs.Nodes.{GoodNode, GoodLeaf, GoodTransform, put_bef
 use crate::write::Printer;
 use nodes::{first_end, node_end};
 use record::decode::{family_of, layers};
+use record::kinds::LayerForm;
 use record::spanned::{LayerPrefixContents, Span};
-use record::{RECORD, fields, kinds};
+use record::{Kind, RECORD, fields};
 
 // Prints the tree into `out` from its start and returns the length of the text, capped at 2^63. Where the text does not
 // fit, `out` is only measured against: what stands in it is left open.
@@ -90,7 +91,7 @@ impl<'a> Printer<'a> {
     {
         let multiplier = fields::number(bytes);
         let kind = fields::kind(bytes);
-        if kind < kinds::COMMUTATOR {
+        if !kind.is_binary() {
             return self
                 .put_opening(kind)
                 .put_nodes(text, &bytes[RECORD..])
@@ -111,11 +112,11 @@ impl<'a> Printer<'a> {
             (print.put_step (meaning.step_of text.now x)) }
     {
         match fields::kind(t) {
-            kinds::ROTATION | kinds::MOVE => self.put_transform(text, t),
-            kinds::PAUSE => self.put(b'.'),
-            kinds::PAIR => self.put_pair(fields::number(t), fields::other(t)),
-            kinds::SLASH => self.put(b'/'),
-            k => self.put_megaminx(k),
+            Kind::Rotation | Kind::Move => self.put_transform(text, t),
+            Kind::Pause => self.put(b'.'),
+            Kind::Pair => self.put_pair(fields::number(t), fields::other(t)),
+            Kind::Slash => self.put(b'/'),
+            kind => self.put_megaminx(kind),
         }
     }
 
@@ -135,11 +136,11 @@ impl<'a> Printer<'a> {
         requires { GoodTransform text.now t.now }
         ensures { Wrote self.entry result (put_before text.now t.now) }
     {
-        if fields::kind(t) == kinds::ROTATION {
+        if fields::kind(t) == Kind::Rotation {
             return self.put(b'@');
         }
         let inverted = self.put_if(fields::tilde(t), b'~');
-        if fields::layer_form(t) == 0 {
+        if fields::layer_form(t) == LayerForm::None {
             return inverted;
         }
         inverted.put_layers(text, layers(t))

@@ -57,6 +57,22 @@ module _ (bs : List ℕ) (k : ℕ) (e : k ≡ kind_at bs) where
   pub family-high : 7 < k → refusal NO-SUCH-RECORD ≡ family_of (head_at bs)
   family-high h = rw (family-by-kind, le-leb 6 k (omega arith), lt-leb k 7 h)
 
+  -- of a kind that is neither a rotation nor a move
+  pub family-other : (k ≡ 6 → ⊥) → (k ≡ 7 → ⊥) → refusal NO-SUCH-RECORD ≡ family_of (head_at bs)
+  family-other a b = go (leb 6 k) refl
+    where
+      go : (t : Bool) → leb 6 k ≡ t → refusal NO-SUCH-RECORD ≡ family_of (head_at bs)
+      go true p = let l = leb-true 6 k p in family-high (above (ltb 7 k) refl l)
+        where
+          above : (t : Bool) → ltb 7 k ≡ t → 6 ≤ k → 7 < k
+          above true q l = ltb-true 7 k q
+          above false q l = absurd (split (eqb k 6) refl)
+            where
+              split : (t : Bool) → eqb k 6 ≡ t → ⊥
+              split true z = a (eqb-true k 6 z)
+              split false z = b (let m = ltb-false 7 k q in let n = eqb-false k 6 z in omega (arith, n))
+      go false p = family-low (leb-false 6 k p)
+
   pub family-named : 6 ≤ k → k ≤ 7 → result (family_at (field FAMILY bs) (field FAMILY-SIZE bs)) ≡ family_of (head_at bs)
   family-named l h = rw (family-by-kind, le-leb 6 k l, le-leb k 7 h)
 

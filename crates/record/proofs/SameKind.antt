@@ -1,6 +1,6 @@
 -- A kind is known by its number, and so is a form of layers: what `==` tells and what an arm of a `match` tells of the number. Assumes nothing.
-use mathlib.Core.Path.{◌≡◌, refl, sym, ap₂, ◌∙◌}
-use mathlib.Core.Bool.{Bool, true, false}
+use mathlib.Core.Path.{◌≡◌, refl, sym, ap, ap₂, ◌∙◌}
+use mathlib.Core.Bool.{Bool, true, false, not}
 use denote.Enum.Declared.{tag_of}
 use denote.Enum.Bare.{sameb, same_true}
 use borrow.Author.Tests.{eqb-true, eqb-false, eq-eqb}
@@ -63,6 +63,10 @@ is-kind k l e t = eqb-true (kind_number k) (kind_number l) (sym (same_kind k l) 
 pub not-kind : (k l : Kind) {r : Bool} → r ≡ sameb the_type k l → r ≡ false → kind_number k ≡ kind_number l → ⊥
 not-kind k l e t = eqb-false (kind_number k) (kind_number l) (sym (same_kind k l) ∙ sym e ∙ t)
 
+-- the test itself, by the numbers
+pub test-kind : (k l : Kind) {r : Bool} → r ≡ sameb the_type k l → r ≡ eqb (kind_number k) (kind_number l)
+test-kind k l e = e ∙ same_kind k l
+
 -- the same of forms
 tag-form : (f : LayerForm) → tag_of form_type.the_type f ≡ form_number f
 tag-form form.None = refl
@@ -72,3 +76,12 @@ tag-form form.Set = refl
 
 pub same_form : (f g : LayerForm) → sameb form_type.the_type f g ≡ eqb (form_number f) (form_number g)
 same_form f g = ap₂ eqb (tag-form f) (tag-form g)
+
+pub is-form : (f g : LayerForm) {r : Bool} → r ≡ sameb form_type.the_type f g → r ≡ true → form_number f ≡ form_number g
+is-form f g e t = eqb-true (form_number f) (form_number g) (sym (same_form f g) ∙ sym e ∙ t)
+
+pub not-form : (f g : LayerForm) {r : Bool} → r ≡ sameb form_type.the_type f g → r ≡ false → form_number f ≡ form_number g → ⊥
+not-form f g e t = eqb-false (form_number f) (form_number g) (sym (same_form f g) ∙ sym e ∙ t)
+
+pub ne-form : (f g : LayerForm) {r : Bool} → r ≡ not (sameb form_type.the_type f g) → r ≡ not (eqb (form_number f) (form_number g))
+ne-form f g e = e ∙ ap not (same_form f g)

@@ -2,6 +2,9 @@
 use Prim.Native.Nat.{ℕ}
 use mathlib.Core.Path.{ap}
 use Rattle.notation.specs.Tree.{Span}
+use Rattle.record.specs.declared.kinds.Kind.TheVariants.{Pair}
+use Rattle.record.specs.declared.kinds.LayerForm.TheVariants.{None}
+use Rattle.record.proofs.SameKind.{test-kind, ne-form}
 use Rattle.display.proofs.bound.allowance.Goals as goal
 
 pub returns : goal.returns
@@ -13,10 +16,12 @@ returns c =
       c.extra-3.ensures.value,
       c.extra-4.ensures.value,
       c.is_group.ensures,
+      test-kind _ Pair c.eq.ensures,
       c.kind.ensures,
       c.magnitude-n.ensures,
       c.number.ensures,
       ap size c.family.ensures.result_value,
       ap size c.constraints.ensures.result_value,
+      ne-form _ None c.ne.ensures,
       c.layer_form.ensures,
     )

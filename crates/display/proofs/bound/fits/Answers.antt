@@ -1,5 +1,7 @@
 -- `bound::fits` meets its contract: only where all records were counted off does it say that the text fits. Assumes nothing.
 use native.Mathlib.Omega.{arith}
+use Rattle.record.specs.declared.kinds.LayerForm.TheVariants.{Set}
+use Rattle.record.proofs.SameKind.{not-form}
 use Rattle.laws.proofs.Bools.{false-true}
 use Rattle.display.proofs.Sure.{going-starts, going-room, going_on, going-shorter, going-all}
 use Rattle.display.proofs.bound.fits.Goals as goal
@@ -27,7 +29,7 @@ loop-t-smaller c = going-shorter c.loop-t.invariant c.loop-t-test.true
 
 pub loop-t-preserved : goal.loop-t-preserved
 loop-t-preserved c =
-    going_on c.loop-t.invariant c.loop-t-test.true c.layer_form.ensures (omega arith) c.allowance-size.ensures c.if-left-size.false
+    going_on c.loop-t.invariant c.loop-t-test.true c.layer_form.ensures (not-form _ Set c.eq.ensures c.if-eq.false) c.allowance-size.ensures c.if-left-size.false
 
 pub returns : goal.returns
 returns c =

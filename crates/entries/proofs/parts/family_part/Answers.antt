@@ -1,59 +1,49 @@
 -- `parts::family_part` meets its contract: each way out is one case of the rule. Assumes nothing.
-use Prim.Native.Nat.{ℕ, ◌/◌, ◌≤◌, ◌<◌}
-use mathlib.Core.Path.{◌∙◌, refl, ap, sym, subst}
+use Prim.Native.Nat.{ℕ, ◌/◌, ◌<◌, ◌≤◌}
+use mathlib.Core.Logic.{⊎_elim}
+use mathlib.Core.Path.{◌∙◌, ap}
 use native.Mathlib.Omega.{arith}
 use lib.ListN.{length}
 use Rattle.notation.specs.Refusals.{result}
 use Rattle.notation.specs.Tree.{Span}
 use Rattle.notation.specs.Packed.{RECORD}
 use Rattle.notation.specs.WellFormed.{inside}
-use Rattle.notation.specs.Entries.{outcome}
-use Rattle.record.proofs.KindTests.{group-low, no-group-high}
-use Rattle.entries.specs.Parts.{part_outcome, Inside, Fits}
-use Rattle.entries.proofs.Naming.{found, family-low, family-high, family-named, family-inside, family-unaccepted, family-none, accepted-record, family-is}
+use Rattle.record.specs.Kinds.{kind_number}
+use Rattle.record.specs.declared.kinds.Kind.TheVariants.{Rotation, Move}
+use Rattle.record.proofs.SameKind.{one-kind}
+use Rattle.checked.proofs.Outcomes.{handed_on}
+use Rattle.entries.proofs.Naming.{found, family-other, family-named, family-inside, family-unaccepted, family-none, accepted-record, family-is}
 use Rattle.entries.proofs.parts.family_part.Goals as goal
 
-pub returns-in_err-X : goal.returns-in_err-X
-returns-in_err-X c =
+pub returns-in_err-check : goal.returns-in_err-check
+returns-in_err-check c =
     let a = c.args in
-    let q = ap outcome c.in_default.is in
-    let is = c.no_part.ensures _ q in
-    record { result_value = ap part_outcome is ∙ family-unaccepted a.text.now a.tree.now a.«record» c.check-checked.ensures.answer q; inside = subst (Inside a.text.now) (sym is) tt; fits = subst Fits (sym is) tt }
+    rw (handed_on _ _ c.from_residual.ensures)
+    (record { result_value = family-unaccepted a.text.now a.tree.now a.«record» _ c.in_err-check.ensures.answer; inside = tt; fits = tt })
 
 pub returns-then-tree-record : goal.returns-then-tree-record
 returns-then-tree-record c =
     let a = c.args in
-    let k = c.in_ok-check.ensures.found in
-    record { result_value = family-none a.text.now a.tree.now a.«record» k.accepted (omega (arith, c.if-tree-record.true)); inside = tt; fits = tt }
+    record { result_value = family-none a.text.now a.tree.now a.«record» c.in_ok-check.ensures.found.accepted (omega (arith, c.if-tree-record.true)); inside = tt; fits = tt }
 
-pub returns-then-is_group : goal.returns-then-is_group
-returns-then-is_group c =
-    let a = c.args in
-    let k = c.in_ok-check.ensures.found in record {
-      result_value = family-low (found a.tree.now a.«record») _ refl (group-low c.is_group.ensures c.if-is_group.true)
-          ∙ family-is a.text.now a.tree.now a.«record» k.accepted (omega (arith, c.if-tree-record.false));
-      inside = tt;
-      fits = tt;
-    }
-
-pub returns-then-kind-gt-MOVE : goal.returns-then-kind-gt-MOVE
-returns-then-kind-gt-MOVE c =
-    let a = c.args in
-    let k = c.in_ok-check.ensures.found in record {
-      result_value = family-high (found a.tree.now a.«record») c.kind.result c.kind.ensures c.if-kind-gt-MOVE.true
-          ∙ family-is a.text.now a.tree.now a.«record» k.accepted (omega (arith, c.if-tree-record.false));
-      inside = tt;
-      fits = tt;
-    }
-
-pub returns : goal.returns
-returns c =
+pub returns-in-Rotation : goal.returns-in-Rotation
+returns-in-Rotation c =
     let a = c.args in
     let k = c.in_ok-check.ensures.found in
     let less : a.«record» < length a.tree.now / RECORD = omega (arith, c.if-tree-record.false) in
-    let low = subst (λ (k : ℕ). 6 ≤ k) (sym c.kind.ensures) (no-group-high c.is_group.ensures c.if-is_group.false) in record {
-      result_value = ap result c.family_of.ensures.result_value ∙ family-named (found a.tree.now a.«record») c.kind.result c.kind.ensures low c.if-kind-gt-MOVE.false ∙ family-is a.text.now a.tree.now a.«record» k.accepted less;
+    let low : 6 ≤ kind_number c.kind.result = ⊎_elim (λ e. omega (arith, ap kind_number e)) (λ e. omega (arith, ap kind_number e)) c.in-Rotation.is in
+    let high : kind_number c.kind.result ≤ 7 = ⊎_elim (λ e. omega (arith, ap kind_number e)) (λ e. omega (arith, ap kind_number e)) c.in-Rotation.is in record {
+      result_value = ap result c.family_of.ensures.result_value ∙ family-named (found a.tree.now a.«record») _ c.kind.ensures low high ∙ family-is a.text.now a.tree.now a.«record» k.accepted less;
       inside = ap (λ (p : Span). inside a.text.now p) c.family_of.ensures.result_value
-          ∙ family-inside (found a.tree.now a.«record») c.kind.result c.kind.ensures a.text.now low c.if-kind-gt-MOVE.false (accepted-record a.text.now a.tree.now a.«record» k.accepted less);
+          ∙ family-inside (found a.tree.now a.«record») _ c.kind.ensures a.text.now low high (accepted-record a.text.now a.tree.now a.«record» k.accepted less);
       fits = c.family_of.ensures.fits_span;
+    }
+
+pub returns-in_default : goal.returns-in_default
+returns-in_default c =
+    let a = c.args in record {
+      result_value = family-other (found a.tree.now a.«record») _ c.kind.ensures (λ z. c.in_default.not-Rotation (one-kind _ Rotation z)) (λ z. c.in_default.not-Move (one-kind _ Move z))
+          ∙ family-is a.text.now a.tree.now a.«record» c.in_ok-check.ensures.found.accepted (omega (arith, c.if-tree-record.false));
+      inside = tt;
+      fits = tt;
     }

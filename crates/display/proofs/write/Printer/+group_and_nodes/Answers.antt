@@ -11,6 +11,8 @@ use Rattle.notation.specs.Meaning.{unspanned}
 use Rattle.notation.specs.Print.{put_nodes, put_others}
 use Rattle.record.proofs.KindTests.{no-leaf-low}
 use Rattle.nodes.proofs.Nodes.{node-room, record-room, first-low, first_leaf, leaf-head, node-less, list-less}
+use Rattle.record.specs.Kinds.{kind_number}
+use Rattle.display.proofs.ByKind.{single, binary}
 use Rattle.display.proofs.Writing.{wrote_as, wrote_then}
 use Rattle.display.proofs.Nodes.{
   OneGroup,
@@ -28,14 +30,14 @@ use Rattle.display.proofs.Nodes.{
   listing-all,
 }
 use Rattle.display.proofs.write.Printer.+group_and_nodes.Goals as goal
-use Rattle.display.proofs.write.Printer.+group_and_nodes.Goals.{put_group-After-first_end-middle, put_group-Then-kind-lt-COMMUTATOR, put_nodes-Joined-is_leaf}
+use Rattle.display.proofs.write.Printer.+group_and_nodes.Goals.{put_group-After-first_end-middle, put_group-Then-not-is_binary, put_nodes-Joined-is_leaf}
 
-one : {t : ℕ} (c : put_group-Then-kind-lt-COMMUTATOR t) → OneGroup c.args.text.now c.args.bytes.now c.kind-kind.result c.number-multiplier.result
-one {t = t} c = one-group c.requires.good_node c.kind-kind.ensures c.number-multiplier.ensures c.if-kind-lt-COMMUTATOR.true
+one : {t : ℕ} (c : put_group-Then-not-is_binary t) → OneGroup c.args.text.now c.args.bytes.now (kind_number c.kind-kind.result) c.number-multiplier.result
+one {t = t} c = one-group c.requires.good_node c.kind-kind.ensures c.number-multiplier.ensures (single c.requires.bytes_bound c.kind-kind.ensures c.is_binary.ensures c.if-not-is_binary.true)
 
-two : {t : ℕ} (c : put_group-After-first_end-middle t) → TwoGroup c.args.text.now c.args.bytes.now c.kind-kind.result c.number-multiplier.result c.first_end-middle.result
+two : {t : ℕ} (c : put_group-After-first_end-middle t) → TwoGroup c.args.text.now c.args.bytes.now (kind_number c.kind-kind.result) c.number-multiplier.result c.first_end-middle.result
 two {t = t} c =
-    two-group c.requires.good_node c.kind-kind.ensures c.number-multiplier.ensures c.first_end-middle.ensures c.if-kind-lt-COMMUTATOR.false c.requires.bytes_bound
+    two-group c.requires.good_node c.kind-kind.ensures c.number-multiplier.ensures c.first_end-middle.ensures (binary c.is_binary.ensures c.if-not-is_binary.false) c.requires.bytes_bound
 
 pub put_group-number-multiplier-requires : goal.put_group-number-multiplier-requires
 put_group-number-multiplier-requires t c = node-room c.requires.good_node.is_node
@@ -51,14 +53,14 @@ put_group-slice_bounds-put_nodes-start t c = node-room c.requires.good_node.is_n
 
 pub put_group-put_nodes-requires : goal.put_group-put_nodes-requires
 put_group-put_nodes-requires t c =
-    let o = one (goal.at.put_group-put_nodes-requires t c).Then-kind-lt-COMMUTATOR in (
+    let o = one (goal.at.put_group-put_nodes-requires t c).Then-not-is_binary in (
       list-less c.args.bytes.now RECORD (length c.args.bytes.now) _ (lit≤ tt) (node-room c.requires.good_node.is_node) c.decreases,
       (o.inside.packed_list, o.inside.ok),
     )
 
-pub put_group-returns-then-kind-lt-COMMUTATOR : goal.put_group-returns-then-kind-lt-COMMUTATOR
-put_group-returns-then-kind-lt-COMMUTATOR t c =
-    let g = one (goal.at.put_group-returns-then-kind-lt-COMMUTATOR t c).Then-kind-lt-COMMUTATOR in
+pub put_group-returns-then-not-is_binary : goal.put_group-returns-then-not-is_binary
+put_group-returns-then-not-is_binary t c =
+    let g = one (goal.at.put_group-returns-then-not-is_binary t c).Then-not-is_binary in
     wrote_as (put_nodes (unspanned c.args.text.now (unpack c.args.bytes.now))) g.inside.prints (wrote_then (c.put_opening.ensures g.group g.number) (wrote_then c.put_nodes.ensures c.put_closing.ensures))
 
 pub put_group-first_end-middle-requires : goal.put_group-first_end-middle-requires

@@ -1,6 +1,5 @@
 -- The braces, the first element and the others. Assumes nothing.
 use Prim.Native.Nat.{◌≤◌}
-use mathlib.Core.Path.{◌≡◌}
 use native.Mathlib.Omega.{arith}
 use lib.ListN.{length}
 use Rattle.notation.specs.Chars.{white_space}
@@ -30,12 +29,12 @@ put_more-requires c =
     let part = c.args.part.now in
     let start = c.whitespace_end-start.result in
     let from : start ≤ length part = omega (arith, c.whitespace_end-start.ensures, end-length white_space part 1 (set_long part c.requires)) in
-    (item-end part start c.in-Took.end from (element-read part start c.layer_set_element.ensures c.in-Took.element c.in-Took.end c.in-Took.is)).1
+    (item-end part start c.in-Some.element.next from (element-read part start c.layer_set_element.ensures c.in-Some.element c.in-Some.is)).1
 
 pub returns : goal.returns
 returns c =
     let part = c.args.part.now in
     let start = c.whitespace_end-start.result in
-    let r = element-read part start c.layer_set_element.ensures c.in-Took.element c.in-Took.end c.in-Took.is in
-    let x = set_first part c.requires start c.whitespace_end-start.ensures (layer_set_element_of c.in-Took.element) r in
+    let r = element-read part start c.layer_set_element.ensures c.in-Some.element c.in-Some.is in
+    let x = set_first part c.requires start c.whitespace_end-start.ensures (layer_set_element_of c.in-Some.element.value) r in
     rw x.1 (wrote_then c.put-2.ensures (wrote_then c.put_element.ensures (wrote_then (c.put_more.ensures x.0 x.2) c.put-3.ensures)))

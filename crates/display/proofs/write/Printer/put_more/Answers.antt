@@ -14,7 +14,7 @@ use Rattle.parse.proofs.Bytes.{seen}
 use Rattle.display.proofs.Writing.{wrote_then}
 use Rattle.display.proofs.Elements.{nothing-read, element-read, sofar-none, sofar-all, sofar-never, sofar-more, item-end}
 use Rattle.display.proofs.write.Printer.put_more.Goals as goal
-use Rattle.display.proofs.write.Printer.put_more.Goals.{After-whitespace_end-start, In-Took}
+use Rattle.display.proofs.write.Printer.put_more.Goals.{After-whitespace_end-start, In-Some}
 
 pub loop-self-init : goal.loop-self-init
 loop-self-init c = (c.requires, λ l f. sofar-none c.args.self f)
@@ -46,20 +46,20 @@ returns-in_default c =
     λ l f. absurd (sofar-never (c.loop-self.invariant.1 l f) c.whitespace_end-comma.result c.whitespace_end-comma.ensures (comma-is (goal.at.returns-in_default c).After-whitespace_end-start)
     c.whitespace_end-start.result c.whitespace_end-start.ensures q)
 
-taken : (c : In-Took) → read (layer_set_element_of c.in-Took.element) c.in-Took.next (drop c.in-Took.next c.args.part.now)
+taken : (c : In-Some) → read (layer_set_element_of c.in-Some.element.value) c.in-Some.element.next (drop c.in-Some.element.next c.args.part.now)
     ≡ layer_set_element true c.whitespace_end-start.result (drop c.whitespace_end-start.result c.args.part.now)
-taken c = element-read c.args.part.now c.whitespace_end-start.result c.layer_set_element.ensures c.in-Took.element c.in-Took.next c.in-Took.is
+taken c = element-read c.args.part.now c.whitespace_end-start.result c.layer_set_element.ensures c.in-Some.element c.in-Some.is
 
 pub loop-self-smaller : goal.loop-self-smaller
 loop-self-smaller c =
-    let b = item-end c.args.part.now c.whitespace_end-start.result c.in-Took.next (start-in (goal.at.loop-self-smaller c).After-whitespace_end-start) (taken (goal.at.loop-self-smaller c).In-Took) in
+    let b = item-end c.args.part.now c.whitespace_end-start.result c.in-Some.element.next (start-in (goal.at.loop-self-smaller c).After-whitespace_end-start) (taken (goal.at.loop-self-smaller c).In-Some) in
     omega (arith, b.0, b.1, c.whitespace_end-start.ensures, c.whitespace_end-comma.ensures)
 
 pub loop-self-preserved : goal.loop-self-preserved
 loop-self-preserved c =
-    let r = taken (goal.at.loop-self-preserved c).In-Took in
-    let b = item-end c.args.part.now c.whitespace_end-start.result c.in-Took.next (start-in (goal.at.loop-self-preserved c).After-whitespace_end-start) r in (
+    let r = taken (goal.at.loop-self-preserved c).In-Some in
+    let b = item-end c.args.part.now c.whitespace_end-start.result c.in-Some.element.next (start-in (goal.at.loop-self-preserved c).After-whitespace_end-start) r in (
       b.1,
       λ l f. sofar-more (c.loop-self.invariant.1 l f) c.whitespace_end-comma.result c.whitespace_end-comma.ensures (comma-is (goal.at.loop-self-preserved c).After-whitespace_end-start)
-          c.whitespace_end-start.result c.whitespace_end-start.ensures (layer_set_element_of c.in-Took.element) r (wrote_then c.put.ensures c.put_element-self.ensures),
+          c.whitespace_end-start.result c.whitespace_end-start.ensures (layer_set_element_of c.in-Some.element.value) r (wrote_then c.put.ensures c.put_element-self.ensures),
     )
