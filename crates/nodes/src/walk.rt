@@ -12,7 +12,7 @@ pub fn node_end(list: &[u8]) -> usize
     requires list_nonzero { 0 < length list.now }
     ensures { FirstNode list.now result }
 {
-    RECORD * (1 + (wide(fields::first(list)) + wide(fields::second(list))))
+    RECORD * (1 + (fields::first(list) as usize + fields::second(list) as usize))
 }
 
 // Where the first list of a node ends and the second begins.
@@ -20,13 +20,5 @@ pub fn first_end(node: &[u8]) -> usize
     requires { (n : Node Leaf) × IsNode node.now n }
     ensures { Lists node.now result }
 {
-    RECORD + RECORD * wide(fields::first(node))
-}
-
-// A number of records as a length.
-fn wide(n: u32) -> usize
-    ensures value { result ≡ n }
-    ensures upper_bound { result < 4294967296 }
-{
-    n as usize
+    RECORD + RECORD * fields::first(node) as usize
 }

@@ -15,10 +15,3 @@ over-all f out n l e = e ∙ ap (λ (j : ℕ). f ++ drop j out) (sym l) ∙ ap (
 
 pub copied-whole : (f out : List ℕ) {out' : List ℕ} → length out ≡ length f → out' ≡ take (length f) f ++ drop (length f) out → out' ≡ f
 copied-whole f out l e = over-all f out (length f) l (copied-front f out (length f) refl e)
-
--- by way of other bytes
-pub copied-by-way : (f z own out : List ℕ) {out' : List ℕ} (n : ℕ) → length f ≡ n → length z ≡ length f → own ≡ take (length f) f ++ drop (length f) z →
-    out' ≡ take (length own) own ++ drop (length own) out → out' ≡ f ++ drop n out
-copied-by-way f z own out n l lz e q =
-    let same : own ≡ f = copied-whole f z lz e in
-    copied-front own out n (ap length same ∙ l) q ∙ ap (λ (s : List ℕ). s ++ drop n out) same

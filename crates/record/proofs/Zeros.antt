@@ -1,9 +1,9 @@
 -- Tests one after the other, and two fields that are both 0. Assumes nothing.
 use Prim.Native.Nat.{ℕ, zero, suc, ◌+◌, ◌*◌}
 use mathlib.Core.Path.{◌≡◌, sym, ap, ◌∙◌}
-use mathlib.Core.Bool.{Bool, true, false, ◌&&◌, ◌||◌}
+use mathlib.Core.Bool.{Bool, true, false, ◌&&◌}
 use native.Mathlib.Omega.{arith}
-use borrow.Author.Tests.{eq-eqb, ne_eqb}
+use borrow.Author.Tests.{ne_eqb}
 use lib.Dec.{eqb}
 
 -- what the last test gives, if those before did not decide
@@ -12,12 +12,6 @@ both-passed {a} {b} p e = e ∙ ap (λ (t : Bool). t && b) (sym p)
 
 pub first-failed : {a r : Bool} (b : Bool) → r ≡ a → r ≡ false → r ≡ (a && b)
 first-failed b e p = p ∙ ap (λ (t : Bool). t && b) (sym p ∙ e)
-
-pub first-passed : {a r : Bool} (b : Bool) → r ≡ a → r ≡ true → r ≡ (a || b)
-first-passed b e p = p ∙ ap (λ (t : Bool). t || b) (sym p ∙ e)
-
-pub second-asked : {a b r : Bool} → a ≡ false → r ≡ b → r ≡ (a || b)
-second-asked {a} {b} p e = e ∙ ap (λ (t : Bool). t || b) (sym p)
 
 -- two fields of three bytes, by the number that their bytes are together, of which head and tail are other parts
 zero-sum : (x y : ℕ) → eqb (x * 16777216 + y) 0 ≡ (eqb x 0 && eqb y 0)
@@ -30,7 +24,3 @@ module _ (head tail x y : ℕ) (e : head * 65536 + tail ≡ x * 16777216 + y) wh
 
   pub high-some : (head ≡ 0 → ⊥) → eqb head 0 ≡ (eqb x 0 && eqb y 0)
   high-some n = ne_eqb head 0 n ∙ sym (ne_eqb (x * 16777216 + y) 0 (λ z. n (omega arith))) ∙ zero-sum x y
-
--- a number that was read, compared with another
-pub is-it : {x y : ℕ} (k : ℕ) → x ≡ y → x ≡ k → eqb y k ≡ true
-is-it {x} {y} k e t = eq-eqb y k (sym e ∙ t)

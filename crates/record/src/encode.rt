@@ -139,16 +139,14 @@ pub fn without_parts(
 pub fn rotation_fields(x: Rotation) -> Fields
     ensures { meaning.listed result ≡ packed.head_fields (packed.leaf_head (meaning.rotation_leaf x)) }
 {
-    let c = x.constraints;
-    let family = x.family;
     Fields {
-        small: Kind::Rotation.number() * 16 + c.is_some() as u8,
+        small: Kind::Rotation.number() * 16 + x.constraints.is_some() as u8,
         first: 0,
         second: 0,
         number: x.multiplier,
         other: 0,
-        family,
-        constraints: c.unwrap_or(NOWHERE),
+        family: x.family,
+        constraints: x.constraints.unwrap_or(NOWHERE),
         layer_set: NOWHERE,
         count: LEAF,
     }
@@ -158,21 +156,18 @@ pub fn rotation_fields(x: Rotation) -> Fields
 pub fn move_fields(x: Move) -> Fields
     ensures { meaning.listed result ≡ packed.head_fields (packed.leaf_head (meaning.move_leaf x)) }
 {
-    let l = x.layers;
-    let c = x.constraints;
-    let family = x.family;
     Fields {
         small: Kind::Move.number() * 16
             + x.inverted as u8 * 8
-            + layer_form(l).number() * 2
-            + c.is_some() as u8,
+            + layer_form(x.layers).number() * 2
+            + x.constraints.is_some() as u8,
         first: 0,
         second: 0,
         number: x.multiplier,
-        other: low_and_high(l),
-        family,
-        constraints: c.unwrap_or(NOWHERE),
-        layer_set: set_part(l),
+        other: low_and_high(x.layers),
+        family: x.family,
+        constraints: x.constraints.unwrap_or(NOWHERE),
+        layer_set: set_part(x.layers),
         count: LEAF,
     }
 }
@@ -194,10 +189,9 @@ pub fn low_and_high(l: LayerPrefixContents) -> u32
     ensures { result ≡ packed.low_and_high (meaning.layers l) }
 {
     match l {
-        LayerPrefixContents::None => 0,
         LayerPrefixContents::Single(i) => (i as u32) * 65536 + (i as u32),
         LayerPrefixContents::Range(i, j) => (i as u32) * 65536 + (j as u32),
-        LayerPrefixContents::Set(_) => 0,
+        LayerPrefixContents::None | LayerPrefixContents::Set(_) => 0,
     }
 }
 
@@ -206,10 +200,8 @@ fn set_part(l: LayerPrefixContents) -> Span
     ensures { meaning.span result ≡ packed.set_part (meaning.layers l) }
 {
     match l {
-        LayerPrefixContents::None => NOWHERE,
-        LayerPrefixContents::Single(_) => NOWHERE,
-        LayerPrefixContents::Range(_, _) => NOWHERE,
         LayerPrefixContents::Set(p) => p,
+        _ => NOWHERE,
     }
 }
 
@@ -218,15 +210,12 @@ pub fn put(out: &mut [u8], f: Fields)
     requires { packed.RECORD ≤ length out.old }
     ensures { out.new ≡ packed.lay_out packed.widths (meaning.listed f) ++ drop packed.RECORD out.old }
 {
-    let family = f.family;
-    let constraints = f.constraints;
-    let layer_set = f.layer_set;
     fields::set_small(out, f.small);
     fields::set_lists(out, f.first, f.second);
     fields::set_number(out, f.number);
     fields::set_other(out, f.other);
-    fields::set_family(out, family);
-    fields::set_constraints(out, constraints);
-    fields::set_layer_set(out, layer_set);
+    fields::set_family(out, f.family);
+    fields::set_constraints(out, f.constraints);
+    fields::set_layer_set(out, f.layer_set);
     fields::set_count(out, f.count);
 }

@@ -26,12 +26,8 @@ pub record Filling (old new sums : List ℕ) (at : ℕ) : Type 0 where
   pub behind : drop at new ≡ (passed filled (drop at old) start).done
   pub sum : sums ≡ (passed filled (drop at old) start).sums
 
--- where something is left a record ends at `at`, inside the slice
-pub record-before : {old new sums : List ℕ} {at : ℕ} → Filling old new sums at → 0 < at → (RECORD ≤ at) × (at ≤ length new)
-record-before f some = (omega (arith, f.place), omega (arith, f.place, f.whole, f.long))
-
 module _ (old : List ℕ) (t : Tree) (tallied : Tallied t old) where
-  records : length old ≡ RECORD * size t
+  pub records : length old ≡ RECORD * size t
   records = ap (λ (l : List ℕ). length l) tallied.bytes ∙ length-tally_list 0 t
 
   pub filling-starts : (at : ℕ) → at ≡ length old → Filling old old start.sums at

@@ -33,9 +33,8 @@ pub fn fill_counts(tree: &mut [u8])
     ensures { (t : Tree) → tallies.Tallied t tree.old → tree.new ≡ pack t }
 {
     let mut sums = [0; TALLIES];
-    let mut at = tree.len();
-    while 0 < at {
-        at -= RECORD;
+    for k in (0..tree.len() / RECORD).rev() {
+        let at = RECORD * k;
         fill_count(&mut tree[at..at + RECORD], &mut sums);
     }
 }

@@ -1,5 +1,5 @@
 use Prim.Native.Nat.{ℕ, ◌+◌, ◌*◌}
-use mathlib.Core.Path.{sym, ap₂, subst, ◌∙◌}
+use mathlib.Core.Path.{sym, ap₂, subst}
 use Rattle.notation.specs.Packed.{RECORD}
 use Rattle.nodes.specs.Nodes.{FirstNode}
 use Rattle.nodes.proofs.Nodes.{record-room, first_of}
@@ -14,5 +14,5 @@ second-requires c = record-room _ c.requires.packed c.requires.list_nonzero
 pub returns : goal.returns
 returns c =
     subst (FirstNode _)
-    (ap₂ (λ (a b : ℕ). RECORD * (1 + (a + b))) (sym (c.wide.ensures.value ∙ c.first.ensures)) (sym (c.wide-2.ensures.value ∙ c.second.ensures)))
+    (ap₂ (λ (a b : ℕ). RECORD * (1 + (a + b))) (sym c.first.ensures) (sym c.second.ensures))
     (first_of _ c.requires.packed c.requires.list_nonzero)
