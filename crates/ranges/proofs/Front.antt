@@ -1,7 +1,7 @@
 -- Ranges written one after another over the front of a run. Assumes nothing.
-use Prim.Native.Nat.{ℕ, zero, suc, ◌+◌, ◌≤◌, ◌<◌}
+use Prim.Native.Nat.{ℕ, zero, suc, ◌+◌, ◌<◌}
 use native.Mathlib.Omega.{arith}
-use mathlib.Core.Path.{◌≡◌, refl, ap, ◌∙◌}
+use mathlib.Core.Path.{◌≡◌, ap, ◌∙◌}
 use mathlib.Core.List.{List, [], ◌∷◌, ◌++◌}
 use lib.ListN.{length, set, drop}
 use Rattle.ranges.specs.Lent.{range_at, ranges_from}
@@ -11,14 +11,6 @@ module _ (bytes : List ℕ) where
   -- the run once k are written
   abbrev pub front : List LayerRange → ℕ → List LayerRange
   front rs k = ranges_from bytes k 0 ++ drop k rs
-
-  length_from : (k j : ℕ) (rs : List LayerRange) → k ≤ length rs → length (ranges_from bytes k j ++ drop k rs) ≡ length rs
-  length_from zero j rs h = refl
-  length_from (suc k) j [] h = absurd (omega arith)
-  length_from (suc k) j (r ∷ rs) h = ap suc (length_from k (suc j) rs (omega arith))
-
-  pub length_front : (rs : List LayerRange) (k : ℕ) → k ≤ length rs → length (front rs k) ≡ length rs
-  length_front rs k h = length_from k 0 rs h
 
   next-from : (k j : ℕ) (rs : List LayerRange) → k < length rs →
       set (ranges_from bytes k j ++ drop k rs) k (range_at bytes (j + k)) ≡ ranges_from bytes (suc k) j ++ drop (suc k) rs

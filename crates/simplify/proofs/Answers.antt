@@ -1,17 +1,17 @@
 -- What an entry answers, by the ranges that it found. Assumes nothing.
-use Prim.Native.Nat.{ℕ, zero, suc, ◌+◌, ◌*◌, ◌-◌, ◌≤◌, ◌<◌}
+use Prim.Native.Nat.{ℕ, ◌+◌, ◌*◌, ◌≤◌, ◌<◌}
 use mathlib.Core.Path.{◌≡◌, refl, sym, ap, ◌∙◌}
 use mathlib.Core.Bool.{Bool, true, false, ◌&&◌}
-use mathlib.Core.List.{List, ◌∷◌, ◌++◌}
+use mathlib.Core.List.{List, ◌++◌}
 use native.Mathlib.Nat.{mul-div_cancel_left}
 use native.Mathlib.Omega.{arith}
 use lib.Dec.{leb}
-use lib.ListN.{length, take, drop, replicate, length-replicate}
+use lib.ListN.{length, drop, replicate}
 use borrow.Author.Tests.{leb-true, le-leb, lt-leb}
 use Rattle.notation.specs.Layers.{Range, MAX-LAYER, set_ranges, others}
-use Rattle.notation.specs.Tree.{Layers, Span, part_of, single_layer, layer_range, layer_set}
+use Rattle.notation.specs.Tree.{Layers, Span, single_layer, layer_range}
 use Rattle.notation.specs.Meaning.{layer_set_in, or_empty}
-use Rattle.notation.specs.WellFormed.{is_some, inside, layers_ok}
+use Rattle.notation.specs.WellFormed.{layers_ok}
 use Rattle.notation.specs.Refusals.{result}
 use Rattle.notation.specs.Entries.{lent, lend, in_entries, range_bytes}
 use Rattle.std.specs.Prelude.{Ok, Err}
@@ -39,14 +39,6 @@ module _ (l found : List Range) (same : found ≡ l) (out : List ℕ) where
   refused full = rw (← same, length-range_bytes found, lt-leb (4 * length found) (length out) full)
 
 -- ── the table of a set ──
-
-pub take-zeros : (k m : ℕ) → k ≤ m → take {A = ℕ} k (replicate m 0) ≡ replicate k 0
-take-zeros zero m h = refl
-take-zeros (suc k) zero h = absurd (omega arith)
-take-zeros (suc k) (suc m) h = ap (◌∷◌ 0) (take-zeros k m (omega arith))
-
-pub length-zeros : (k m : ℕ) → k ≤ m → k ≡ length {A = ℕ} (take k (replicate m 0))
-length-zeros k m h = sym (ap length (take-zeros k m h) ∙ length-replicate k 0)
 
 module _ (n : ℕ) (real : IsLayer n) (allowed : Bool) (part s₀ s : List ℕ) (e : s₀ ≡ replicate (n + 1) 0)
     (f : s ≡ marked_set n allowed (or_empty (layer_set_in part)) s₀)
@@ -84,16 +76,3 @@ module _ (text : List ℕ) where
       let k : (leb 1 i && leb i j && leb j MAX-LAYER) ≡ true = rw e at h in
       let t = three (leb 1 i) (leb i j) (leb j MAX-LAYER) k in
       record { low = leb-true 1 i t.0; ordered = leb-true i j t.1; high = leb-true j MAX-LAYER t.2 }
-
-  module _ (p : Span) {l : Layers Span} (e : l ≡ layer_set p) (h : layers_ok text l ≡ true) where
-    parts : (inside text p && is_some (layer_set_in (part_of text p))) ≡ true
-    parts = rw e at h
-
-    pub part-inside : p.offset + p.size ≤ length text
-    part-inside = leb-true (p.offset + p.size) (length text) (and_left _ (is_some (layer_set_in (part_of text p))) parts)
-
-    pub part-is : take (p.offset + p.size - p.offset) (drop p.offset text) ≡ part_of text p
-    part-is = let e : p.offset + p.size - p.offset ≡ p.size = omega arith in ap (λ (n : ℕ). take n (drop p.offset text)) e
-
-    pub part-read : is_some (layer_set_in (take (p.offset + p.size - p.offset) (drop p.offset text))) ≡ true
-    part-read = rw part-is (and_right (inside text p) _ parts)

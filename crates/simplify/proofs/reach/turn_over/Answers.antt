@@ -1,6 +1,6 @@
 -- `turn_over` meets its contract. The invariant: the entries before i are turned over, and those from i on would be, `far` being how far the ranges before reach. Assumes nothing.
 use Prim.Native.Nat.{max}
-use mathlib.Core.Path.{◌≡◌, refl, sym, ◌∙◌}
+use mathlib.Core.Path.{◌≡◌, sym, ◌∙◌}
 use native.Mathlib.Omega.{arith}
 use native.Mathlib.Numerals.{add-one}
 use lib.Dec.{leb}

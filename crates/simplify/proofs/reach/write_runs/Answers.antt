@@ -1,6 +1,6 @@
 -- `write_runs` meets its contract. The invariant: with the runs that are left written behind those before them, the bytes are those asked for. Assumes nothing.
 use Prim.Native.Nat.{suc, ◌+◌, ◌*◌, ◌≤◌}
-use mathlib.Core.Path.{◌≡◌, refl, ◌∙◌, sym, ap}
+use mathlib.Core.Path.{◌≡◌, ◌∙◌, sym, ap}
 use native.Mathlib.Omega.{arith}
 use lib.ListN.{length}
 use Rattle.layer.specs.Meaning.{range}

@@ -1,8 +1,4 @@
 -- `gather_set` meets its contract: the table of the set, turned over where there is a tilde. Assumes nothing.
-use Prim.Native.Nat.{ℕ, ◌+◌}
-use mathlib.Core.Path.{ap}
-use native.Mathlib.Omega.{arith}
-use lib.ListN.{length, length-replicate}
 use Rattle.notation.specs.Layers.{set_ranges}
 use Rattle.notation.specs.Meaning.{layer_set_in, or_empty}
 use Rattle.simplify.specs.Reach.{Gathered}

@@ -48,9 +48,6 @@ mark_element-requires c =
 pub after_comma-requires : goal.after_comma-requires
 after_comma-requires c = (found (goal.at.after_comma-requires c).In-Some).within
 
-pub shape_of-reach-in_default-after_comma : goal.shape_of-reach-in_default-after_comma
-shape_of-reach-in_default-after_comma c = omega (arith, c.mark_element.auto.reach, c.loop-element.invariant.3)
-
 pub returns-in_default-after_comma : goal.returns-in_default-after_comma
 returns-in_default-after_comma c =
     no-comma c.args.axis.max_layer c.args.axis.allow_negatives c.args.part.now c.loop-element.invariant.0 c.loop-element.at c.loop-element.invariant.2 c.loop-element.reach _ c.loop-element.invariant.4
