@@ -97,6 +97,21 @@ wrote_as {old} {new} {f} g e w =
       stands = rw (← e []) (λ h b. w.stands h b ∙ ap (λ (l : List ℕ). take old.at old.out.now ++ l) (e (drop (old.at + length (f [])) old.out.now)));
     }
 
+-- the loop that copies some bytes, `lib.Seq`'s `paste` of those before place i
+pub record Copied (old : List ℕ) (at : ℕ) (bytes out : List ℕ) (i : ℕ) : Type 0 where
+  pub room : at + length bytes ≤ length old
+  pub long : length out ≡ length old
+  pub stands : out ≡ paste old at bytes i
+
+module _ {old : List ℕ} {at : ℕ} {bytes out : List ℕ} {i : ℕ} (w : Copied old at bytes out i) where
+  pub copied-one : i < length bytes → Copied old at bytes (set out (at + i) (get_or bytes i 0)) (i + 1)
+  copied-one h =
+      record {
+        room = w.room;
+        long = length-set out (at + i) (get_or bytes i 0) ∙ w.long;
+        stands = rw (w.stands, add-one i) (paste-suc old at bytes i 0 (omega (arith, w.room)) h);
+      }
+
 -- what stands in the end
 pub wrote-whole : {old new : Printer} {f : List ℕ → List ℕ} → Wrote old new f → old.at ≡ 0 → length old.out.now < MOST → length (f []) ≤ length old.out.now →
     new.out.now ≡ f [] ++ drop (length (f [])) old.out.now

@@ -59,14 +59,17 @@ impl<'a> Printer<'a> {
         if test { self.put(byte) } else { self }
     }
 
-    // Puts all of `bytes`.
+    // Puts all of `bytes`, byte by byte: `copy_from_slice` needs memmove, which a host of the C archive need not have.
     pub fn put_bytes(self, bytes: &[u8]) -> Printer<'a>
         ensures { Wrote self.entry result (λ rest. bytes.now ++ rest) }
     {
         let Printer { out, at } = self;
         let end = (at + bytes.len()).min(MOST);
-        if end <= out.len() {
-            out[at..end].copy_from_slice(bytes);
+        if out.len() < end {
+            return Printer { out, at: end };
+        }
+        for i in 0..bytes.len() {
+            out[at + i] = bytes[i];
         }
         Printer { out, at: end }
     }

@@ -17,24 +17,25 @@ use Rattle.laws.proofs.Counting.{count-is}
 use Rattle.checked.specs.Checked.{Counted}
 use Rattle.entries.proofs.Stepping.{these}
 use Rattle.display.specs.Written.{Wrote}
+use Rattle.display.specs.declared.write.Printer.{Printer}
 use Rattle.display.proofs.Writing.{wrote_as, wrote_then}
 
 -- the same as a list that is put in front of what follows
-pub wrote-to : {old new : List ℕ} {at next : ℕ} {f : List ℕ → List ℕ} (l : List ℕ) → f [] ≡ l → Wrote old new at next f → Wrote old new at next (λ rest. l ++ rest)
+pub wrote-to : {old new : Printer} {f : List ℕ → List ℕ} (l : List ℕ) → f [] ≡ l → Wrote old new f → Wrote old new (λ rest. l ++ rest)
 wrote-to l e w = wrote_as (λ rest. l ++ rest) (λ rest. w.adds rest ∙ ap (λ (s : List ℕ). s ++ rest) e) w
 
 -- a label, a space, a field and a newline
-pub wrote-line : {o a b c new : List ℕ} {at i j k next : ℕ} {f : List ℕ → List ℕ} (label field : List ℕ) → f [] ≡ field →
-    Wrote o a at i (λ rest. label ++ rest) → Wrote a b i j (λ rest. 32 ∷ rest) → Wrote b c j k f → Wrote c new k next (λ rest. 10 ∷ rest) →
-    Wrote o new at next (line label field)
+pub wrote-line : {o a b c new : Printer} {f : List ℕ → List ℕ} (label field : List ℕ) → f [] ≡ field →
+    Wrote o a (λ rest. label ++ rest) → Wrote a b (λ rest. 32 ∷ rest) → Wrote b c f → Wrote c new (λ rest. 10 ∷ rest) →
+    Wrote o new (line label field)
 wrote-line label field e w s v n =
     wrote_then {f = λ rest. label ++ rest} {g = λ rest. 32 ∷ (field ++ (10 ∷ rest))} w
     (wrote_then {f = λ rest. 32 ∷ rest} {g = λ rest. field ++ (10 ∷ rest)} s
     (wrote_then {f = λ rest. field ++ rest} {g = λ rest. 10 ∷ rest} (wrote-to field e v) n))
 
 -- the same with another field
-pub wrote-field : {old new : List ℕ} {at next : ℕ} (label : List ℕ) {f g : List ℕ} → f ≡ g → Wrote old new at next (line label f) → Wrote old new at next (line label g)
-wrote-field {old} {new} {at} {next} label e w = subst (λ (f : List ℕ). Wrote old new at next (line label f)) e w
+pub wrote-field : {old new : Printer} (label : List ℕ) {f g : List ℕ} → f ≡ g → Wrote old new (line label f) → Wrote old new (line label g)
+wrote-field {old} {new} label e w = subst (λ (f : List ℕ). Wrote old new (line label f)) e w
 
 -- a tree, printed or refused
 pub display-given : (text tree : List ℕ) (t : Tree) → checked text tree ≡ result t → printed text t ≡ field (display text tree)

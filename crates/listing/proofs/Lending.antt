@@ -1,8 +1,8 @@
 -- What a lent buffer holds after a call. Assumes nothing.
-use Prim.Native.Nat.{ℕ, ◌+◌, ◌-◌, ◌≤◌, ◌<◌, min}
+use Prim.Native.Nat.{ℕ, ◌-◌, ◌≤◌, ◌<◌, min}
 use mathlib.Core.Path.{◌≡◌, refl, sym, ap, ◌∙◌}
 use mathlib.Core.Bool.{Bool, true, false}
-use mathlib.Core.List.{List, [], ◌++◌, append-nil}
+use mathlib.Core.List.{List, ◌++◌}
 use native.Mathlib.Omega.{arith}
 use borrow.Author.Tests.{leb-true, le-leb}
 use lib.Dec.{leb}
@@ -12,8 +12,7 @@ use Rattle.notation.specs.Basics.{pick}
 use Rattle.notation.specs.Refusals.{Outcome, refusal, result, NO-ROOM}
 use Rattle.notation.specs.Entries.{Lent, lend, kept, value, refusal_number}
 use Rattle.checked.proofs.Outcomes.{lend-short, lend-fits}
-use Rattle.display.specs.Written.{MOST, Wrote}
-use Rattle.display.proofs.Writing.{wrote-whole}
+use Rattle.display.specs.Most.{MOST}
 use Rattle.listing.specs.Listing.{AtFront}
 
 -- A result of n bytes in front of what stood there.
@@ -66,29 +65,25 @@ module _ {o : Outcome (List ℕ)} {before after : List ℕ} {n : ℕ} (g : Given
   pub given-long : length (take (n - 0) after) ≤ length before
   given-long = omega (arith, ap length given-part, g.size, g.most)
 
--- A list that fits, written from the start.
-pub at_front : (l : List ℕ) {old new : List ℕ} {next : ℕ} → Wrote old new 0 next (λ rest. l ++ rest) → length old < MOST → length l ≤ length old →
-    AtFront l old new next
-at_front l {old} {new} {next} w few fits =
-    let same = ap length (append-nil l) in
-    let size : next ≡ length l = omega (arith, w.counts) in
-    record {
-      size = size;
-      bytes = wrote-whole w few (omega arith) ∙ ap (λ (s : List ℕ). s ++ drop (length s) old) (append-nil l) ∙ ap (λ (n : ℕ). l ++ drop n old) (sym size);
-    }
+-- A list that fits, written from the start: what a listing's length and bytes are promised to be.
+module _ (l old : List ℕ) {new : List ℕ} {next : ℕ} (counts : next ≡ min (length l) MOST) (prints : length l ≤ length old → new ≡ l ++ drop (length l) old)
+    (few : length old < MOST) where
+  pub at_front : length l ≤ length old → AtFront l old new next
+  at_front fits =
+      let size : next ≡ length l = omega arith in
+      record { size = size; bytes = prints fits ∙ ap (λ (n : ℕ). l ++ drop n old) (sym size) }
 
 -- A list that was measured and then written.
-module _ (l old : List ℕ) (size : ℕ) (counts : size ≡ min (0 + length (l ++ [])) MOST) (few : length old < MOST) where
+module _ (l old : List ℕ) (size : ℕ) (counts : size ≡ min (length l) MOST) (few : length old < MOST) where
   pub measured-short : length old < size → record { answer = refusal NO-ROOM; buffer = old } ≡ lend (result l) old
-  measured-short h = lend-short (result l) old l refl (omega (arith, ap length (append-nil l)))
+  measured-short h = lend-short (result l) old l refl (omega arith)
 
-  pub measured-written : {new : List ℕ} {next : ℕ} → size ≤ length old → Wrote old new 0 next (λ rest. l ++ rest) →
+  pub measured-written : {new : List ℕ} → size ≤ length old → (length l ≤ length old → new ≡ l ++ drop (length l) old) →
       record { answer = result size; buffer = new } ≡ lend (result l) old
-  measured-written {new} h w =
-      let is : size ≡ length l = omega (arith, ap length (append-nil l)) in
-      let front = at_front l w few (omega arith) in
+  measured-written {new} h prints =
+      let is : size ≡ length l = omega arith in
       ap (λ (k : ℕ). record { answer = result k; buffer = new }) is
-      ∙ ap (λ (b : List ℕ). record { answer = result (length l); buffer = b }) (front.bytes ∙ ap (λ (n : ℕ). l ++ drop n old) front.size)
+      ∙ ap (λ (b : List ℕ). record { answer = result (length l); buffer = b }) (prints (omega arith))
       ∙ lend-fits (result l) old l refl (omega arith)
 
 -- what stands at the front lies in the buffer

@@ -11,21 +11,20 @@ use Rattle.notation.specs.Tree.{Leaf}
 use Rattle.notation.specs.Meaning.{step_of}
 use Rattle.notation.specs.Print.{put_step}
 use Rattle.notation.specs.Lister.{line, step_lines, SHOWN}
-use Rattle.display.specs.Written.{MOST, Wrote}
+use Rattle.display.specs.Written.{Wrote}
+use Rattle.display.specs.declared.write.Printer.{Printer}
 use Rattle.display.proofs.Writing.{wrote_none, wrote_as, wrote_then}
 
 -- the lines that are left at a place
 abbrev left : List ℕ → List Leaf → ℕ → List ℕ
 left text steps k = step_lines text (SHOWN - k) k (drop k steps)
 
-pub record Listed (text : List ℕ) (steps : List Leaf) (old mid : List ℕ) (at next place : ℕ) : Type 0 where
-  pub place-small : next ≤ MOST
-  pub long : length mid ≡ length old
-  pub onward : (new : List ℕ) (n : ℕ) → Wrote mid new next n (λ rest. left text steps place ++ rest) →
-      Wrote old new at n (λ rest. step_lines text SHOWN 0 steps ++ rest)
+pub record Listed (text : List ℕ) (steps : List Leaf) (old mid : Printer) (place : ℕ) : Type 0 where
+  pub onward : (new : Printer) → Wrote mid new (λ rest. left text steps place ++ rest) →
+      Wrote old new (λ rest. step_lines text SHOWN 0 steps ++ rest)
 
-pub listed-starts : (text : List ℕ) (steps : List Leaf) (old : List ℕ) {at : ℕ} → at ≤ MOST → Listed text steps old old at at 0
-listed-starts text steps old h = record { place-small = h; long = refl; onward = λ new n w. w }
+pub listed-starts : (text : List ℕ) (steps : List Leaf) (p : Printer) → Listed text steps p p 0
+listed-starts text steps p = record { onward = λ new w. w }
 
 line-append : (label field x rest : List ℕ) → line label field (x ++ rest) ≡ line label field x ++ rest
 line-append label field x rest =
@@ -51,23 +50,21 @@ no_more text zero k l h = refl
 no_more text (suc m) k [] h = refl
 no_more text (suc m) k (x ∷ l) h = absurd (omega arith)
 
-module _ {text : List ℕ} {steps : List Leaf} {old mid : List ℕ} {at next place : ℕ} (w : Listed text steps old mid at next place) where
-  pub listed-goes-on : {mid' : List ℕ} {next' : ℕ} (x : Leaf) → get_elem? steps place ≡ some x → place < SHOWN →
-      Wrote mid mid' next next' (line (show place []) (put_step (step_of text x) [])) → Listed text steps old mid' at next' (place + 1)
+module _ {text : List ℕ} {steps : List Leaf} {old mid : Printer} {place : ℕ} (w : Listed text steps old mid place) where
+  pub listed-goes-on : {mid' : Printer} (x : Leaf) → get_elem? steps place ≡ some x → place < SHOWN →
+      Wrote mid mid' (line (show place []) (put_step (step_of text x) [])) → Listed text steps old mid' (place + 1)
   listed-goes-on x e h v =
       record {
-        place-small = omega (arith, v.counts);
-        long = v.long ∙ w.long;
-        onward = λ new n u.
-            w.onward new n
+        onward = λ new u.
+            w.onward new
             (wrote_as (λ rest. left text steps place ++ rest)
             (λ rest. line-append (show place []) (put_step (step_of text x) []) (left text steps (place + 1)) rest ∙ ap (λ (l : List ℕ). l ++ rest) (sym (one_more text steps place x e h)))
             (wrote_then {f = line (show place []) (put_step (step_of text x) [])} {g = λ rest. left text steps (place + 1) ++ rest} v u));
       }
 
-  pub listed-all : min (length steps) SHOWN ≤ place → Wrote old mid at next (λ rest. step_lines text SHOWN 0 steps ++ rest)
+  pub listed-all : min (length steps) SHOWN ≤ place → Wrote old mid (λ rest. step_lines text SHOWN 0 steps ++ rest)
   listed-all h =
-      w.onward mid next
+      w.onward mid
       (wrote_as (λ rest. left text steps place ++ rest)
       (λ rest. ap (λ (l : List ℕ). l ++ rest) (sym (no_more text (SHOWN - place) place (drop place steps) (omega (arith, length-drop place steps)))))
-      (wrote_none mid w.place-small))
+      (wrote_none mid))

@@ -14,12 +14,11 @@ ghost use Rattle.notation.specs.Lister as rule;
 ghost use Rattle.notation.specs.Demands.{printed_inverse};
 ghost use Rattle.laws.specs.Unrolled.{flat};
 ghost use Rattle.checked.specs.Checked.{Counted};
-ghost use Rattle.display.specs.Written.{MOST as most, Wrote};
+ghost use Rattle.display.specs.Written.{Wrote};
 ghost use Rattle.listing.specs.Listing.{MAX-TREE as max_tree};
 
 use checked::check;
-use display::unspanned::node_list;
-use display::write::{put, put_bytes, put_number};
+use display::Printer;
 use expand::seek::seek;
 use notation::answer::Answer;
 use record::RECORD;
@@ -29,74 +28,67 @@ pub const MAX_INPUT: usize = 3072;
 
 pub const MAX_TREE: usize = RECORD * MAX_INPUT;
 
-// Writes a line whose field is a refusal.
-pub fn refused_line(out: &mut [u8], at: usize, label: &[u8], number: u8) -> usize
-    requires { at ≤ most }
-    ensures { Wrote out.old out.new at result (rule.line label.now (rule.field (refusal number))) }
+// Puts a line whose field is a refusal.
+pub fn refused_line<'a>(printer: Printer<'a>, label: &[u8], number: u8) -> Printer<'a>
+    ensures { Wrote printer.entry result (rule.line label.now (rule.field (refusal number))) }
 {
-    let space = put_bytes(out, at, label);
-    let start = put_bytes(out, space, b" refused ");
-    let end = put_number(out, start, number as u32);
-    put(out, end, b'\n')
+    printer
+        .put_bytes(label)
+        .put_bytes(b" refused ")
+        .put_number(number as u32)
+        .put(b'\n')
 }
 
-// Writes a line whose field is a number.
-pub fn number_line(out: &mut [u8], at: usize, label: &[u8], n: u32) -> usize
-    requires { at ≤ most }
-    ensures { Wrote out.old out.new at result (rule.line label.now (show n [])) }
+// Puts a line whose field is a number.
+pub fn number_line<'a>(printer: Printer<'a>, label: &[u8], n: u32) -> Printer<'a>
+    ensures { Wrote printer.entry result (rule.line label.now (show n [])) }
 {
-    let space = put_bytes(out, at, label);
-    let start = put(out, space, b' ');
-    let end = put_number(out, start, n);
-    put(out, end, b'\n')
+    printer.put_bytes(label).put(b' ').put_number(n).put(b'\n')
 }
 
-// Writes a line whose field is a tree, or the refusal of one that is not well formed.
-pub fn tree_line(out: &mut [u8], at: usize, label: &[u8], text: &[u8], tree: &[u8]) -> usize
-    requires { at ≤ most }
-    ensures { Wrote out.old out.new at result
+// Puts a line whose field is a tree, or the refusal of one that is not well formed.
+pub fn tree_line<'a>(printer: Printer<'a>, label: &[u8], text: &[u8], tree: &[u8]) -> Printer<'a>
+    ensures { Wrote printer.entry result
         (rule.line label.now (rule.field (entries.display text.now tree.now))) }
 {
     let checked = check(text, tree).answer;
     match checked {
-        Answer::Value(_) => {
-            let space = put_bytes(out, at, label);
-            let start = put(out, space, b' ');
-            let end = node_list(out, start, text, tree);
-            put(out, end, b'\n')
-        }
-        Answer::Refused(number) => refused_line(out, at, label, number),
+        Answer::Value(_) => printer
+            .put_bytes(label)
+            .put(b' ')
+            .put_nodes(text, tree)
+            .put(b'\n'),
+        Answer::Refused(number) => refused_line(printer, label, number),
     }
 }
 
-// Writes the line of the shallow inverse.
-pub fn inverse_line(out: &mut [u8], at: usize, label: &[u8], text: &[u8], tree: &[u8]) -> usize
-    requires at_le_most { at ≤ most }
-    requires tree_len_bound { length tree.now ≤ max_tree }
-    ensures { Wrote out.old out.new at result
+// Puts the line of the shallow inverse.
+pub fn inverse_line<'a>(printer: Printer<'a>, label: &[u8], text: &[u8], tree: &[u8]) -> Printer<'a>
+    requires { length tree.now ≤ max_tree }
+    ensures { Wrote printer.entry result
         (rule.line label.now (rule.field (printed_inverse text.now tree.now))) }
 {
     let mut inverse = [0u8; MAX_TREE];
     match entries::inv(text, tree, &mut inverse) {
         Answer::Value(size) => {
             let end = size as usize;
-            tree_line(out, at, label, text, &inverse[0..end])
+            tree_line(printer, label, text, &inverse[0..end])
         }
-        Answer::Refused(number) => refused_line(out, at, label, number),
+        Answer::Refused(number) => refused_line(printer, label, number),
     }
 }
 
-// Writes the line of the step at a place: its record is found, and printed as a list of one node.
-pub fn step_line(out: &mut [u8], at: usize, text: &[u8], tree: &[u8], place: u64) -> usize
-    requires at_le_most { at ≤ most }
-    requires by_index { (n : ℕ) × Counted text.now tree.now n × (place < n) }
+// Puts the line of the step at a place: its record is found, and printed as a list of one node.
+pub fn step_line<'a>(printer: Printer<'a>, text: &[u8], tree: &[u8], place: u64) -> Printer<'a>
+    requires { (n : ℕ) × Counted text.now tree.now n × (place < n) }
     ensures { (x : Leaf) → get_elem? (flat undo false (unpack tree.now)) place ≡ some x →
-        Wrote out.old out.new at result (rule.line (show place []) (put_step (step_of text.now x) [])) }
+        Wrote printer.entry result (rule.line (show place []) (put_step (step_of text.now x) [])) }
 {
     let mut step = [0u8; RECORD];
     seek(tree, place, &mut step);
-    let space = put_number(out, at, place as u32);
-    let start = put(out, space, b' ');
-    let end = node_list(out, start, text, &step);
-    put(out, end, b'\n')
+    printer
+        .put_number(place as u32)
+        .put(b' ')
+        .put_nodes(text, &step)
+        .put(b'\n')
 }

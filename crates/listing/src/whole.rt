@@ -1,5 +1,5 @@
 // What the lister writes for what it reads.
-ghost use Rattle.std.specs.Prelude.{◌≡◌, false, ◌++◌, ◌≤◌, min, length};
+ghost use Rattle.std.specs.Prelude.{◌≡◌, false, ◌++◌, ◌≤◌, min, length, drop};
 ghost use Rattle.notation.specs.Refusals.{result as accepted};
 ghost use Rattle.notation.specs.Packed.{unpack};
 ghost use Rattle.notation.specs.Invert.{undo};
@@ -13,7 +13,7 @@ ghost use Rattle.listing.specs.Listing.{MAX-TREE as max_tree, AtFront};
 use crate::lines::{
     MAX_INPUT, MAX_TREE, inverse_line, number_line, refused_line, step_line, tree_line,
 };
-use display::write::put_bytes;
+use display::Printer;
 use entries::count_steps;
 use notation::answer::Answer;
 use notation::features;
@@ -38,7 +38,7 @@ pub const MAX_LISTING: usize = 4194304;
 pub fn list_whole(input: &[u8], out: &mut [u8; MAX_LISTING]) -> usize
     ensures { AtFront (rule.lister input.now) out.old out.new result }
 {
-    put_input(out, input)
+    print(out, input)
 }
 
 // The whole listing of an input, or refusal 5 where it does not fit. The first run has no room and only measures.
@@ -47,91 +47,108 @@ pub fn list(input: &[u8], out: &mut [u8]) -> Answer
         ≡ entries.lend (accepted (rule.lister input.now)) out.old }
 {
     let mut nothing = [0u8; 0];
-    let size = put_input(&mut nothing, input);
+    let size = print(&mut nothing, input);
     if out.len() < size {
         return Answer::Refused(NO_ROOM);
     }
-    put_input(out, input);
+    print(out, input);
     Answer::Value(size as u64)
 }
 
-// Writes the listing of an input, whose first line names the features.
-fn put_input(out: &mut [u8], input: &[u8]) -> usize
-    ensures { Wrote out.old out.new 0 result (λ rest. rule.lister input.now ++ rest) }
+// Prints the listing of an input into `out` from its start and returns its length. Where it does not fit, `out` is only
+// measured against: what stands in it is left open.
+fn print(out: &mut [u8], input: &[u8]) -> usize
+    ensures counts { result ≡ min (length (rule.lister input.now)) most }
+    ensures prints { length (rule.lister input.now) ≤ length out.old →
+        out.new ≡ rule.lister input.now ++ drop (length (rule.lister input.now)) out.old }
 {
-    if input.len() < FIRST_LINE {
-        return put_bytes(out, 0, b"refused input\n");
-    }
-    if input[1] != b'\n' {
-        return put_bytes(out, 0, b"refused input\n");
-    }
-    if input[0] == b'w' {
-        return put_listing(out, &input[FIRST_LINE..], features::wca());
-    }
-    if input[0] == b'm' {
-        return put_listing(out, &input[FIRST_LINE..], features::maximal());
-    }
-    put_bytes(out, 0, b"refused input\n")
+    put_whole(out, input).place()
 }
 
-// Writes the listing of a text. The tree of a text that is not too long always fits.
-fn put_listing(out: &mut [u8], text: &[u8], features: Features) -> usize
-    ensures { Wrote out.old out.new 0 result (λ rest. rule.listing features text.now ++ rest) }
+// Puts the listing of an input from the start of `out` on.
+fn put_whole<'a>(out: &'a mut [u8], input: &[u8]) -> Printer<'a>
+    ensures same_reference { result.out.ghost_name ≡ out.entry.ghost_name }
+    ensures counts { result.at ≡ min (length (rule.lister input.now)) most }
+    ensures prints { length (rule.lister input.now) ≤ length out.old →
+        result.out.now ≡ rule.lister input.now ++ drop (length (rule.lister input.now)) out.old }
+{
+    put_input(Printer::new(out), input)
+}
+
+// Puts the listing of an input, whose first line names the features.
+fn put_input<'a>(printer: Printer<'a>, input: &[u8]) -> Printer<'a>
+    ensures { Wrote printer.entry result (λ rest. rule.lister input.now ++ rest) }
+{
+    if input.len() < FIRST_LINE {
+        return printer.put_bytes(b"refused input\n");
+    }
+    if input[1] != b'\n' {
+        return printer.put_bytes(b"refused input\n");
+    }
+    if input[0] == b'w' {
+        return put_listing(printer, &input[FIRST_LINE..], features::wca());
+    }
+    if input[0] == b'm' {
+        return put_listing(printer, &input[FIRST_LINE..], features::maximal());
+    }
+    printer.put_bytes(b"refused input\n")
+}
+
+// Puts the listing of a text. The tree of a text that is not too long always fits.
+fn put_listing<'a>(printer: Printer<'a>, text: &[u8], features: Features) -> Printer<'a>
+    ensures { Wrote printer.entry result (λ rest. rule.listing features text.now ++ rest) }
 {
     if MAX_INPUT < text.len() {
-        return put_bytes(out, 0, b"refused input\n");
+        return printer.put_bytes(b"refused input\n");
     }
     let mut tree = [0u8; MAX_TREE];
     match parse_notation(text, features, &mut tree) {
         Answer::Value(size) => {
             let end = size as usize;
-            put_tree(out, text, &tree[0..end])
+            put_tree(printer, text, &tree[0..end])
         }
-        Answer::Refused(number) => refused_line(out, 0, b"text", number),
+        Answer::Refused(number) => refused_line(printer, b"text", number),
     }
 }
 
-// Writes the lines of a text that was read.
-fn put_tree(out: &mut [u8], text: &[u8], tree: &[u8]) -> usize
+// Puts the lines of a text that was read.
+fn put_tree<'a>(printer: Printer<'a>, text: &[u8], tree: &[u8]) -> Printer<'a>
     requires { length tree.now ≤ max_tree }
-    ensures { Wrote out.old out.new 0 result
+    ensures { Wrote printer.entry result
         (λ rest. rule.tree_part text.now (accepted tree.now) ++ rest) }
 {
-    let inverse = tree_line(out, 0, b"text", text, tree);
-    let steps = inverse_line(out, inverse, b"inverse", text, tree);
-    put_steps(out, steps, text, tree)
+    let printed = tree_line(printer, b"text", text, tree);
+    let inverted = inverse_line(printed, b"inverse", text, tree);
+    put_steps(inverted, text, tree)
 }
 
-// Writes the count and the first steps.
-fn put_steps(out: &mut [u8], at: usize, text: &[u8], tree: &[u8]) -> usize
-    requires { at ≤ most }
-    ensures { Wrote out.old out.new at result
+// Puts the count and the first steps.
+fn put_steps<'a>(printer: Printer<'a>, text: &[u8], tree: &[u8]) -> Printer<'a>
+    ensures { Wrote printer.entry result
         (λ rest. rule.steps_part text.now (entries.steps text.now tree.now) ++ rest) }
 {
     match count_steps(text, tree) {
         Answer::Value(n) => {
-            let next = number_line(out, at, b"steps", n as u32);
-            step_lines(out, next, text, tree, n)
+            let counted = number_line(printer, b"steps", n as u32);
+            step_lines(counted, text, tree, n)
         }
-        Answer::Refused(number) => refused_line(out, at, b"steps", number),
+        Answer::Refused(number) => refused_line(printer, b"steps", number),
     }
 }
 
-// Writes place and step for the first of n steps, as many as are listed.
-fn step_lines(out: &mut [u8], at: usize, text: &[u8], tree: &[u8], n: u64) -> usize
-    requires at_le_most { at ≤ most }
-    requires counted { Counted text.now tree.now n }
-    ensures { Wrote out.old out.new at result
+// Puts place and step for the first of n steps, as many as are listed.
+fn step_lines<'a>(mut printer: Printer<'a>, text: &[u8], tree: &[u8], n: u64) -> Printer<'a>
+    requires { Counted text.now tree.now n }
+    ensures { Wrote printer.entry result
         (λ rest. rule.step_lines text.now rule.SHOWN 0 (flat undo false (unpack tree.now)) ++ rest) }
 {
     let end = least(n, SHOWN);
-    let mut next = at;
     let mut place: u64 = 0;
     while place < end {
-        next = step_line(out, next, text, tree, place);
+        printer = step_line(printer, text, tree, place);
         place += 1;
     }
-    next
+    printer
 }
 
 // The smaller of two numbers.

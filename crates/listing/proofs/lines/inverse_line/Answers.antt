@@ -25,5 +25,5 @@ pub returns-in-Refused : goal.returns-in-Refused
 returns-in-Refused c =
     let a = c.args in
     let r = unlent (inverse a.text.now a.tree.now) (replicate MAX-TREE 0) _ _
-    (λ l e. omega (arith, inverse-long a.text.now a.tree.now l e, c.requires.tree_len_bound, length-replicate {0} {A = ℕ} MAX-TREE 0)) (ap outcome c.in-Refused.is) c.inv.ensures in
+    (λ l e. omega (arith, inverse-long a.text.now a.tree.now l e, c.requires, length-replicate {0} {A = ℕ} MAX-TREE 0)) (ap outcome c.in-Refused.is) c.inv.ensures in
     wrote-field a.label.now (inverse-refused a.text.now a.tree.now _ r) c.refused_line.ensures

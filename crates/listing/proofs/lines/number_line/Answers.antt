@@ -8,4 +8,4 @@ use Rattle.listing.proofs.lines.number_line.Goals as goal
 pub returns : goal.returns
 returns c =
     let a = c.args in
-    wrote-line a.label.now (show a.n []) refl c.put_bytes-space.ensures c.put-start.ensures c.put_number-end.ensures c.put.ensures
+    wrote-line a.label.now (show a.n []) refl c.put_bytes.ensures c.put.ensures c.put_number.ensures c.put-2.ensures

@@ -9,4 +9,4 @@ use Rattle.listing.proofs.lines.refused_line.Goals as goal
 pub returns : goal.returns
 returns c =
     let a = c.args in
-    wrote_then c.put_bytes-space.ensures (wrote_then c.put_bytes-start.ensures (wrote_then (wrote-to (show a.number []) refl c.put_number-end.ensures) c.put.ensures))
+    wrote_then c.put_bytes.ensures (wrote_then c.put_bytes-2.ensures (wrote_then (wrote-to (show a.number []) refl c.put_number.ensures) c.put.ensures))

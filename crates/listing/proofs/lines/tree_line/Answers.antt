@@ -1,6 +1,5 @@
 -- A refusal, or a tree that is printed. Assumes nothing.
 use mathlib.Core.Path.{ap}
-use native.Mathlib.Omega.{arith}
 use Rattle.notation.specs.Packed.{unpack}
 use Rattle.notation.specs.Entries.{display, outcome}
 use Rattle.notation.specs.Lister.{field}
@@ -8,17 +7,17 @@ use Rattle.checked.proofs.Outcomes.{refused}
 use Rattle.listing.proofs.Fields.{wrote-line, wrote-field, display-given, display-refused}
 use Rattle.listing.proofs.lines.tree_line.Goals as goal
 
-pub node_list-end-requires : goal.node_list-end-requires
-node_list-end-requires c =
+pub put_nodes-requires : goal.put_nodes-requires
+put_nodes-requires c =
     let accepted = (c.check-checked.ensures.found _ (ap outcome c.in-Value.is)).accepted in
-    record { at_le_most = omega (arith, c.put-start.ensures.counts); packed = accepted.packed; tree_value = accepted.ok }
+    record { packed = accepted.packed; tree_value = accepted.ok }
 
 pub returns-in-Value : goal.returns-in-Value
 returns-in-Value c =
     let a = c.args in
     let accepted = (c.check-checked.ensures.found _ (ap outcome c.in-Value.is)).accepted in
     wrote-line a.label.now (field (display a.text.now a.tree.now)) (display-given a.text.now a.tree.now (unpack a.tree.now) accepted.is)
-    c.put_bytes-space.ensures c.put-start.ensures c.node_list-end.ensures c.put.ensures
+    c.put_bytes.ensures c.put.ensures c.put_nodes.ensures c.put-in-Value.ensures
 
 pub returns-in-Refused : goal.returns-in-Refused
 returns-in-Refused c =

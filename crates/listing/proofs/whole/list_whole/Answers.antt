@@ -8,4 +8,5 @@ use Rattle.listing.proofs.whole.list_whole.Goals as goal
 pub returns : goal.returns
 returns c =
     let a = c.args in
-    at_front (lister a.input.now) c.put_input.ensures (omega (arith, c.well_formed)) (omega (arith, c.well_formed, listing-fits a.input.now))
+    let w = c.print.ensures in
+    at_front (lister a.input.now) a.out.now w.counts w.prints (omega (arith, c.well_formed)) (omega (arith, c.well_formed, listing-fits a.input.now))

@@ -23,7 +23,7 @@ overflow_cast-n c =
 pub step_lines-requires : goal.step_lines-requires
 step_lines-requires c =
     let counted = c.count_steps.ensures.counted _ (ap outcome c.in-Value.is) in
-    record { at_le_most = omega (arith, c.number_line-next.ensures.counts); counted = counted }
+    counted
 
 pub returns-in-Value : goal.returns-in-Value
 returns-in-Value c =
@@ -32,7 +32,7 @@ returns-in-Value c =
     let tree = a.tree.now in
     wrote-to (steps_part text (steps text tree)) (steps-counted text tree c.in-Value.n (c.count_steps.ensures.counted _ (ap outcome c.in-Value.is)))
     (wrote_then {f = line (put "steps" []) (show c.in-Value.n [])} {g = λ rest. step_lines text SHOWN 0 (flat undo false (unpack tree)) ++ rest}
-    c.number_line-next.ensures c.step_lines.ensures)
+    c.number_line-counted.ensures c.step_lines.ensures)
 
 pub returns-in-Refused : goal.returns-in-Refused
 returns-in-Refused c =

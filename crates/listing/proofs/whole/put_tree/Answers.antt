@@ -16,6 +16,6 @@ returns c =
     let tree = a.tree.now in
     wrote-to (tree_part text (result tree)) (tree-lines text tree)
     (wrote_then {f = line (put "text" []) (field (display text tree))}
-    {g = λ rest. line (put "inverse" []) (field (printed_inverse text tree)) (steps_part text (steps text tree) ++ rest)} c.tree_line-inverse.ensures
+    {g = λ rest. line (put "inverse" []) (field (printed_inverse text tree)) (steps_part text (steps text tree) ++ rest)} c.tree_line-printed.ensures
     (wrote_then {f = line (put "inverse" []) (field (printed_inverse text tree))} {g = λ rest. steps_part text (steps text tree) ++ rest}
-    c.inverse_line-steps.ensures c.put_steps.ensures))
+    c.inverse_line-inverted.ensures c.put_steps.ensures))

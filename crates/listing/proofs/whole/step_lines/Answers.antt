@@ -12,12 +12,12 @@ use Rattle.listing.proofs.whole.step_lines.Goals as goal
 pub loop-place-init : goal.loop-place-init
 loop-place-init c =
     let a = c.args in
-    (omega arith, listed-starts a.text.now (flat undo false (unpack a.tree.now)) a.out.now c.requires.at_le_most)
+    (omega arith, listed-starts a.text.now (flat undo false (unpack a.tree.now)) a.printer)
 
-pub step_line-next-requires : goal.step_line-next-requires
-step_line-next-requires c =
+pub step_line-printer-requires : goal.step_line-printer-requires
+step_line-printer-requires c =
     let a = c.args in
-    record { at_le_most = c.loop-place.invariant.1.place-small; by_index = (a.n, c.requires.counted, omega (arith, c.loop-place-test.true, c.least-end.ensures)) }
+    (a.n, c.requires, omega (arith, c.loop-place-test.true, c.least-end.ensures))
 
 pub overflow_add-place : goal.overflow_add-place
 overflow_add-place c = omega arith
@@ -28,13 +28,10 @@ loop-place-smaller c = omega arith
 pub loop-place-preserved : goal.loop-place-preserved
 loop-place-preserved c =
     let a = c.args in
-    let t = there a.text.now a.tree.now a.n c.requires.counted c.loop-place.place (omega (arith, c.loop-place-test.true, c.least-end.ensures)) in
-    (omega (arith, c.loop-place-test.true), listed-goes-on c.loop-place.invariant.1 t.step t.is (omega (arith, c.loop-place-test.true, c.least-end.ensures)) (c.step_line-next.ensures t.step t.is))
-
-pub shape_of-out : goal.shape_of-out
-shape_of-out c = c.loop-place.invariant.1.long
+    let t = there a.text.now a.tree.now a.n c.requires c.loop-place.place (omega (arith, c.loop-place-test.true, c.least-end.ensures)) in
+    (omega (arith, c.loop-place-test.true), listed-goes-on c.loop-place.invariant.1 t.step t.is (omega (arith, c.loop-place-test.true, c.least-end.ensures)) (c.step_line-printer.ensures t.step t.is))
 
 pub returns : goal.returns
 returns c =
     let a = c.args in
-    listed-all c.loop-place.invariant.1 (omega (arith, c.loop-place-test.false, c.least-end.ensures, c.requires.counted.steps, count-is (unpack a.tree.now) false))
+    listed-all c.loop-place.invariant.1 (omega (arith, c.loop-place-test.false, c.least-end.ensures, c.requires.steps, count-is (unpack a.tree.now) false))

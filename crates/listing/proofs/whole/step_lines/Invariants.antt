@@ -8,7 +8,7 @@ use Rattle.listing.proofs.StepLoop.{Listed}
 use Rattle.listing.proofs.whole.step_lines.Given as goal
 
 abbrev pub invariant-loop-place : goal.invariant-loop-place
-invariant-loop-place l = (l.place ≤ l.end) × Listed l.text (flat undo false (unpack l.tree)) l.initial.out l.out l.at l.next l.place
+invariant-loop-place l = (l.place ≤ l.end) × Listed l.text (flat undo false (unpack l.tree)) l.initial.printer l.printer l.place
 
 abbrev pub decreases-loop-place : goal.decreases-loop-place
 decreases-loop-place l = l.end - l.place
