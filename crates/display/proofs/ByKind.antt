@@ -96,14 +96,3 @@ megaminx-told bs k l h = go (k - 11) (omega arith)
     go (suc (suc zero)) e = (Dpp, e, rw e)
     go (suc (suc (suc zero))) e = (Dmm, e, rw e)
     go (suc (suc (suc (suc d)))) e = absurd (omega arith)
-
--- A group by whether it is binary.
-pub single : {kind at : ℕ} {b : Bool} → at ≤ 5 → kind ≡ at → b ≡ between 4 5 kind → b ≡ false → kind < 4
-single {kind} l e i f = go (leb 4 kind) refl (sym i ∙ f)
-  where
-    go : (t : Bool) → leb 4 kind ≡ t → (t && leb kind 5) ≡ false → kind < 4
-    go true p q = let r = leb-false kind 5 q in absurd (omega arith)
-    go false p q = leb-false 4 kind p
-
-pub binary : {kind : ℕ} {b : Bool} → b ≡ between 4 5 kind → b ≡ true → 4 ≤ kind
-binary {kind} i f = leb-true 4 kind (and_left (leb 4 kind) (leb kind 5) (sym i ∙ f))

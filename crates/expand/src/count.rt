@@ -6,7 +6,7 @@ ghost use Rattle.notation.specs.Entries.{MAX-STEPS};
 ghost use Rattle.laws.specs.Packed.{Packed};
 
 use nodes::node_end;
-use record::{RECORD, fields, kinds};
+use record::{RECORD, fields};
 
 // Adds up how many steps the nodes of a list have.
 pub fn count(list: &[u8]) -> u64

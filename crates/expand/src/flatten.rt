@@ -16,7 +16,7 @@ use nodes::{first_end, node_end};
 use numbers::signed::{is_negative, magnitude};
 use record::copy::copy_record;
 use record::undo::undo_record;
-use record::{RECORD, fields, kinds};
+use record::{Kind, RECORD, fields};
 
 // Writes the steps of a tree to the front of out and answers their size in bytes.
 #[cycle(flatten_flatten_body_flatten_node)]
@@ -83,11 +83,11 @@ pub fn flatten_body(node: &[u8], inverted: bool, out: &mut [u8]) -> usize
     let kind = fields::kind(node);
     let middle = first_end(node);
     let a = flatten(&node[RECORD..middle], out);
-    if kind < kinds::COMMUTATOR {
+    if !kind.is_binary() {
         return turn_if(out, a, inverted);
     }
     let b = flatten(&node[middle..], &mut out[a..]);
-    let size = complete_binary(out, kind == kinds::COMMUTATOR, a, b);
+    let size = complete_binary(out, kind == Kind::Commutator, a, b);
     turn_if(out, size, inverted)
 }
 

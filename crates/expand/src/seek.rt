@@ -18,7 +18,7 @@ use nodes::{first_end, node_end};
 use numbers::signed::{is_negative, magnitude};
 use record::copy::copy_record;
 use record::undo::undo_record;
-use record::{RECORD, fields, kinds};
+use record::{Kind, RECORD, fields};
 
 // Writes the record of the step at a place to the front of step.
 pub fn seek(tree: &[u8], place: u64, step: &mut [u8])
@@ -76,13 +76,13 @@ fn enter(group: &[u8], steps: u64, place: &mut u64, inverted: &mut bool) -> bool
         *place = once - 1 - *place;
         *inverted = !*inverted;
     }
-    if kind < kinds::COMMUTATOR {
+    if !kind.is_binary() {
         return false;
     }
     // A B A' B' or A B A': in A' and B' the steps of A and B come from the end, undone.
     let middle = first_end(group);
     let a = count(&group[RECORD..middle]);
-    let both = both_count(kind == kinds::COMMUTATOR, once, a);
+    let both = both_count(kind == Kind::Commutator, once, a);
     if *place < a {
         return false;
     }

@@ -16,7 +16,7 @@ ghost use Rattle.tally.specs.Tallies as tallies;
 use counts::{of_group, sum};
 use notation::limits::MAX_NESTING;
 use record::encode::LEAF;
-use record::{RECORD, fields, kinds};
+use record::{RECORD, fields};
 
 // The tallies of a group's lists, counted from that of the list in which the group stands. The second list is met first,
 // and its sum waits while the first is added up.

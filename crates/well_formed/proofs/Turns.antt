@@ -198,14 +198,6 @@ go_on text d list bs n met left ok o holds end z l c n' e s few one next m j =
           ∙ left.joined;
     })
 
--- a group that is not binary
-pub group-single : (k : ℕ) → k < 6 → between 4 5 k ≡ false → k < 4
-group-single k h e = go (leb 4 k) refl e
-  where
-    go : (b : Bool) → leb 4 k ≡ b → (b && leb k 5) ≡ false → k < 4
-    go true p q = let r = leb-false k 5 q in absurd (omega arith)
-    go false p q = let r = leb-false 4 k p in omega arith
-
 -- the end of a group by the counts that are read
 pub counted : (bs : List ℕ) {n n' : ℕ} → n ≡ field FIRST bs → n' ≡ field SECOND bs → RECORD + RECORD * (n + n') ≡ RECORD + RECORD * (field FIRST bs + field SECOND bs)
 counted bs e e' = omega arith

@@ -6,6 +6,9 @@ use lib.Dec.{lit≤}
 use lib.ListN.{length}
 use Rattle.notation.specs.Packed.{RECORD}
 use Rattle.nodes.proofs.Nodes.{part_length, record-room, node-room, rest-less, first_leaf, leaf-record}
+use Rattle.record.specs.declared.kinds.Kind.TheVariants.{Commutator}
+use Rattle.record.proofs.SameKind.{test-kind}
+use Rattle.record.proofs.KindTests.{single, binary}
 use Rattle.expand.proofs.Shapes.{group_of}
 use Rattle.expand.proofs.Flattening.{flattening-starts, flattening-goes-on, flattening-passes, flattening-carried, flattened, leaf-fits, node-fits, node-steps, next_fits, wrote-fits, node-written, leaf_room, leaf-written, first-room, second-room, group-steps, group-written, binary-pair, binary-steps, binary-written, body-room, total-fits, repeat-room, repeats-written}
 use Rattle.expand.proofs.flatten.+flatten_flatten_body_flatten_node.Goals as goal
@@ -91,11 +94,11 @@ flatten_body-flatten-a-requires t c = (
 
 pub flatten_body-turn_if-requires : goal.flatten_body-turn_if-requires
 flatten_body-turn_if-requires t c =
-    group-steps c.requires.group c.first_end-middle.ensures c.kind-kind.ensures c.flatten-a.ensures c.if-kind-lt-COMMUTATOR.true
+    group-steps c.requires.group c.first_end-middle.ensures c.kind-kind.ensures c.flatten-a.ensures (single c.requires.group.low c.kind-kind.ensures c.is_binary.ensures c.if-not-is_binary.true)
 
-pub flatten_body-returns-then-kind-lt-COMMUTATOR : goal.flatten_body-returns-then-kind-lt-COMMUTATOR
-flatten_body-returns-then-kind-lt-COMMUTATOR t c =
-    group-written c.requires.group c.first_end-middle.ensures c.kind-kind.ensures c.flatten-a.ensures c.if-kind-lt-COMMUTATOR.true c.args.inverted c.turn_if.ensures
+pub flatten_body-returns-then-not-is_binary : goal.flatten_body-returns-then-not-is_binary
+flatten_body-returns-then-not-is_binary t c =
+    group-written c.requires.group c.first_end-middle.ensures c.kind-kind.ensures c.flatten-a.ensures (single c.requires.group.low c.kind-kind.ensures c.is_binary.ensures c.if-not-is_binary.true) c.args.inverted c.turn_if.ensures
 
 pub flatten_body-slice_bounds-flatten-count-3 : goal.flatten_body-slice_bounds-flatten-count-3
 flatten_body-slice_bounds-flatten-count-3 t c = wrote-fits c.flatten-a.ensures
@@ -111,15 +114,15 @@ flatten_body-flatten-b-requires t c = (
 
 pub flatten_body-complete_binary-size-requires : goal.flatten_body-complete_binary-size-requires
 flatten_body-complete_binary-size-requires t c =
-    binary-pair c.requires.group c.first_end-middle.ensures c.kind-kind.ensures c.flatten-a.ensures c.requires.node_in_bounds c.if-kind-lt-COMMUTATOR.false c.flatten-b.ensures
+    rw (test-kind _ Commutator c.eq.ensures) (binary-pair c.requires.group c.first_end-middle.ensures c.kind-kind.ensures c.flatten-a.ensures c.requires.node_in_bounds (binary c.is_binary.ensures c.if-not-is_binary.false) c.flatten-b.ensures)
 
 pub flatten_body-turn_if-requires-2 : goal.flatten_body-turn_if-requires-2
 flatten_body-turn_if-requires-2 t c =
-    binary-steps c.requires.group c.first_end-middle.ensures c.kind-kind.ensures c.flatten-a.ensures c.requires.node_in_bounds c.if-kind-lt-COMMUTATOR.false c.flatten-b.ensures c.complete_binary-size.ensures
+    binary-steps c.requires.group c.first_end-middle.ensures c.kind-kind.ensures c.flatten-a.ensures c.requires.node_in_bounds (binary c.is_binary.ensures c.if-not-is_binary.false) c.flatten-b.ensures (rw (test-kind _ Commutator c.eq.ensures) at c.complete_binary-size.ensures)
 
 pub flatten_body-returns : goal.flatten_body-returns
 flatten_body-returns t c =
-    binary-written c.requires.group c.first_end-middle.ensures c.kind-kind.ensures c.flatten-a.ensures c.requires.node_in_bounds c.if-kind-lt-COMMUTATOR.false c.flatten-b.ensures c.complete_binary-size.ensures c.args.inverted c.turn_if-2.ensures
+    binary-written c.requires.group c.first_end-middle.ensures c.kind-kind.ensures c.flatten-a.ensures c.requires.node_in_bounds (binary c.is_binary.ensures c.if-not-is_binary.false) c.flatten-b.ensures (rw (test-kind _ Commutator c.eq.ensures) at c.complete_binary-size.ensures) c.args.inverted c.turn_if-2.ensures
 
 pub flatten_node-number-multiplier-requires : goal.flatten_node-number-multiplier-requires
 flatten_node-number-multiplier-requires t c = node-room c.requires.group.is_node

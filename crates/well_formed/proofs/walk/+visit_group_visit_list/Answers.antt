@@ -10,10 +10,9 @@ use Rattle.notation.specs.Packed.{RECORD}
 use Rattle.well_formed.specs.Meaning.{step_count as answer}
 use Rattle.well_formed.proofs.Refusing.{none-met}
 use Rattle.numbers.proofs.BigEndian.{slice-below}
-use Rattle.well_formed.proofs.Turns.{GroupTold, group-told, counted, too_short, too_long, bad-node, no_more, all-met, refused, at_first, shorter, past-group, past-leaf, group-not, group-capped, sum_room, no-group, no-level, group-refused, group-meets, FirstRead, first-refused, first-capped, first-met, none-second, SecondRead, no_second, second-list-refused, second-capped, second-met, group-found, group-single}
+use Rattle.well_formed.proofs.Turns.{GroupTold, group-told, counted, too_short, too_long, bad-node, no_more, all-met, refused, at_first, shorter, past-group, past-leaf, group-not, group-capped, sum_room, no-group, no-level, group-refused, group-meets, FirstRead, first-refused, first-capped, first-met, none-second, SecondRead, no_second, second-list-refused, second-capped, second-met, group-found}
 use Rattle.record.specs.Meaning.{kind_at}
-use Rattle.notation.specs.Basics.{between}
-use Rattle.record.proofs.KindTests.{group-low, no-group-high}
+use Rattle.record.proofs.KindTests.{group-low, no-group-high, single}
 use Rattle.well_formed.proofs.walk.+visit_group_visit_list.Goals as goal
 use Rattle.well_formed.proofs.walk.+visit_group_visit_list.Goals.{visit_group-After-shared_slice_known-2-1, visit_group-After-visit_list, visit_group-After-visit_list-2, visit_group-In_ok-a}
 
@@ -103,7 +102,7 @@ pub visit_group-returns-then-not-is_binary : goal.visit_group-returns-then-not-i
 visit_group-returns-then-not-is_binary t c =
     let a = c.args in
     let one = one-is (goal.at.visit_group-returns-then-not-is_binary t c).In_ok-a in
-    let low : kind_at a.t.now < 4 = group-single (kind_at a.t.now) c.requires.t_bound (ap (between 4 5) (sym c.kind-kind.ensures) ∙ sym c.is_binary.ensures ∙ c.if-not-is_binary.true) in
+    let low : kind_at a.t.now < 4 = rw (← c.kind-kind.ensures) (single (omega (arith, c.requires.t_bound)) c.kind-kind.ensures c.is_binary.ensures c.if-not-is_binary.true) in
     let in-a = c.in_ok-a.a.met in
     let met = first-met one (c.visit_list.result) c.in_ok-a.a c.in_ok-a.was (c.visit_list.ensures.meets) in
     let found = group-found (no_second one low) 0 refl c.kind-kind.ensures c.number-number.ensures c.count.ensures c.of_group.ensures

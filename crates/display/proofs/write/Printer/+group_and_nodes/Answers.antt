@@ -12,7 +12,7 @@ use Rattle.notation.specs.Print.{put_nodes, put_others}
 use Rattle.record.proofs.KindTests.{no-leaf-low}
 use Rattle.nodes.proofs.Nodes.{node-room, record-room, first-low, first_leaf, leaf-head, node-less, list-less}
 use Rattle.record.specs.Kinds.{kind_number}
-use Rattle.display.proofs.ByKind.{single, binary}
+use Rattle.record.proofs.KindTests.{single, binary}
 use Rattle.display.proofs.Writing.{wrote_as, wrote_then}
 use Rattle.display.proofs.Nodes.{
   OneGroup,
