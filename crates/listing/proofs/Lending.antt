@@ -63,9 +63,6 @@ module _ {o : Outcome (List ℕ)} {before after : List ℕ} {n : ℕ} (g : Given
   pub given-fits : n ≤ length after
   given-fits = omega (arith, g.size, ap length g.bytes, length-append g.list (drop (length g.list) before))
 
-  pub given-long : length (take (n - 0) after) ≤ length before
-  given-long = omega (arith, ap length given-part, g.size, g.most)
-
 -- A list that fits, written from the start.
 pub at_front : (l : List ℕ) {old new : List ℕ} {next : ℕ} → Wrote old new 0 next (λ rest. l ++ rest) → length old < MOST → length l ≤ length old →
     AtFront l old new next

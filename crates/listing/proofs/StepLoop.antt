@@ -24,9 +24,6 @@ pub record Listed (text : List ℕ) (steps : List Leaf) (old mid : List ℕ) (at
   pub onward : (new : List ℕ) (n : ℕ) → Wrote mid new next n (λ rest. left text steps place ++ rest) →
       Wrote old new at n (λ rest. step_lines text SHOWN 0 steps ++ rest)
 
-pub listed-starts : (text : List ℕ) (steps : List Leaf) (old : List ℕ) {at : ℕ} → at ≤ MOST → Listed text steps old old at at 0
-listed-starts text steps old h = record { place-small = h; long = refl; onward = λ new n w. w }
-
 line-append : (label field x rest : List ℕ) → line label field (x ++ rest) ≡ line label field x ++ rest
 line-append label field x rest =
     sym (append_assoc label (32 ∷ (field ++ (10 ∷ x))) rest ∙ ap (λ (l : List ℕ). label ++ (32 ∷ l)) (append_assoc field (10 ∷ x) rest))

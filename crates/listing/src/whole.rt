@@ -1,5 +1,5 @@
 // What the lister writes for what it reads.
-ghost use Rattle.std.specs.Prelude.{◌≡◌, false, ◌++◌, ◌≤◌, min, length};
+ghost use Rattle.std.specs.Prelude.{◌≡◌, false, ◌++◌, ◌≤◌, length};
 ghost use Rattle.notation.specs.Refusals.{result as accepted};
 ghost use Rattle.notation.specs.Packed.{unpack};
 ghost use Rattle.notation.specs.Invert.{undo};
@@ -59,19 +59,11 @@ pub fn list(input: &[u8], out: &mut [u8]) -> Answer
 fn put_input(out: &mut [u8], input: &[u8]) -> usize
     ensures { Wrote out.old out.new 0 result (λ rest. rule.lister input.now ++ rest) }
 {
-    if input.len() < FIRST_LINE {
-        return put_bytes(out, 0, b"refused input\n");
+    match input {
+        [b'w', b'\n', text @ ..] => put_listing(out, text, features::wca()),
+        [b'm', b'\n', text @ ..] => put_listing(out, text, features::maximal()),
+        _ => put_bytes(out, 0, b"refused input\n"),
     }
-    if input[1] != b'\n' {
-        return put_bytes(out, 0, b"refused input\n");
-    }
-    if input[0] == b'w' {
-        return put_listing(out, &input[FIRST_LINE..], features::wca());
-    }
-    if input[0] == b'm' {
-        return put_listing(out, &input[FIRST_LINE..], features::maximal());
-    }
-    put_bytes(out, 0, b"refused input\n")
 }
 
 // Writes the listing of a text. The tree of a text that is not too long always fits.
@@ -124,19 +116,9 @@ fn step_lines(out: &mut [u8], at: usize, text: &[u8], tree: &[u8], n: u64) -> us
     ensures { Wrote out.old out.new at result
         (λ rest. rule.step_lines text.now rule.SHOWN 0 (flat undo false (unpack tree.now)) ++ rest) }
 {
-    let end = least(n, SHOWN);
     let mut next = at;
-    let mut place: u64 = 0;
-    while place < end {
+    for place in 0..n.min(SHOWN) {
         next = step_line(out, next, text, tree, place);
-        place += 1;
     }
     next
-}
-
-// The smaller of two numbers.
-fn least(a: u64, b: u64) -> u64
-    ensures { result ≡ min a b }
-{
-    if a < b { a } else { b }
 }
