@@ -5,7 +5,6 @@ ghost use Rattle.vectors.specs.declared.agreement.TheConstants.{MOST, MOST_STEP}
 
 use crate::hex::Damaged;
 use crate::line::{LINE, Line};
-use crate::reading::MAX_BITS;
 use crate::{hex, report, text};
 use hypuz_notation::agree;
 use hypuz_notation::agreement::Agreement;
@@ -13,8 +12,6 @@ use notation::answer::Answer;
 use notation::features;
 use record::RECORD;
 
-// Bytes that stand before the text.
-const HEAD: usize = 26;
 // Bytes of the longest buffers that a case may lend: 120 records for each tree and text, and two for each step.
 const MOST: usize = RECORD * 120;
 
@@ -34,32 +31,21 @@ struct Call {
 
 // The answer of the case `given`.
 pub fn case(given: &[u8], text: &mut [u8]) -> Result<Line, Damaged> {
-    if given.len() < HEAD {
+    let (bits, given) = hex::field(given, 2)?;
+    let (room, given) = hex::field(given, 6)?;
+    let (place, given) = hex::field(given, 16)?;
+    let (step, spelled) = hex::field(given, 2)?;
+    if MOST < room || MOST_STEP < step {
         return Err(Damaged);
     }
-    let (head, spelled) = given.split_at(HEAD);
-    let call = asked(head)?;
-    let size = text::spell(spelled, text)?;
-    Ok(called(call, &text[..size]))
-}
-
-// What is asked, which stands before the text.
-fn asked(head: &[u8]) -> Result<Call, Damaged>
-    requires { length head.now ≡ 26 }
-{
-    let bits = hex::number(&head[0..2])?;
-    let room = hex::number(&head[2..8])?;
-    let place = hex::number(&head[8..24])?;
-    let step = hex::number(&head[24..26])?;
-    if MAX_BITS < bits || MOST < room || MOST_STEP < step {
-        return Err(Damaged);
-    }
-    Ok(Call {
-        bits: bits as u32,
+    let call = Call {
+        bits: u32::try_from(bits)?,
         place: place as u64,
         room,
         step,
-    })
+    };
+    let size = text::spell(spelled, text)?;
+    Ok(called(call, &text[..size]))
 }
 
 // The call itself, which is lent parts of buffers of its own.

@@ -1,8 +1,6 @@
 // The cases of the entries that take a tree, and of the listing, which takes none: a letter for the entry, length of the
 // lent buffer (6 digits), place or record (16 digits), `max_layer` (8 digits), whether negatives are allowed (0 or 1),
 // the text's segments, `|`, and the tree's segments.
-ghost use Rattle.std.specs.Prelude.{◌≡◌, length};
-
 use crate::buffers::Buffers;
 use crate::hex::Damaged;
 use crate::line::Line;
@@ -14,12 +12,8 @@ use notation::answer::Answer;
 use notation::limits::RANGE;
 use record::RECORD;
 
-// Bytes that stand before the text.
-const HEAD: usize = 32;
 // Bytes of a tree of the Rust's sample: no text of it has over 1,000 records.
 const SAMPLED: usize = RECORD * 1000;
-
-const MAX_U32: usize = 0xffffffff;
 
 // The entries that a letter stands for.
 #[derive(Clone, Copy)]
@@ -83,23 +77,22 @@ struct Call {
 
 // The answer of the case `given`.
 pub fn case(given: &[u8], buffers: &mut Buffers) -> Result<Line, Damaged> {
-    if given.len() < HEAD {
+    let [letter, given @ ..] = given else {
         return Err(Damaged);
-    }
-    let text = &mut *buffers.text;
-    let tree = &mut *buffers.tree;
-    let out = &mut *buffers.out;
-    let (head, spelled) = given.split_at(HEAD);
+    };
+    let (lent, given) = hex::field(given, 6)?;
+    let (call, spelled) = asked(given)?;
     let bar = spelled
         .iter()
         .position(|byte| *byte == b'|')
         .ok_or(Damaged)?;
+    let text = &mut *buffers.text;
+    let tree = &mut *buffers.tree;
+    let out = &mut *buffers.out;
     let size = text::spell(&spelled[..bar], text)?;
     let records = text::spell(&spelled[bar + 1..], tree)?;
-    let lent = hex::number(&head[1..7])?;
-    let call = asked(head)?;
     // No refusal is 0: it tells a letter that stands for no entry.
-    let Ok(entry) = Entry::try_from(head[0]) else {
+    let Ok(entry) = Entry::try_from(*letter) else {
         return Ok(report::refused(0, &[]));
     };
     let room = lent.min(out.len());
@@ -112,20 +105,19 @@ pub fn case(given: &[u8], buffers: &mut Buffers) -> Result<Line, Damaged> {
     ))
 }
 
-// What is asked, which stands between the length of the lent buffer and the text.
-fn asked(head: &[u8]) -> Result<Call, Damaged>
-    requires { length head.now ≡ 32 }
-{
-    let number = hex::number(&head[7..23])?;
-    let max_layer = hex::number(&head[23..31])?;
-    if MAX_U32 < max_layer {
+// What is asked, and the text and the tree that are spelled behind it.
+fn asked(given: &[u8]) -> Result<(Call, &[u8]), Damaged> {
+    let (number, given) = hex::field(given, 16)?;
+    let (max_layer, given) = hex::field(given, 8)?;
+    let [negatives, spelled @ ..] = given else {
         return Err(Damaged);
-    }
-    Ok(Call {
+    };
+    let call = Call {
         number: number as u64,
-        max_layer: max_layer as u32,
-        negatives: head[31] == b'1',
-    })
+        max_layer: u32::try_from(max_layer)?,
+        negatives: *negatives == b'1',
+    };
+    Ok((call, spelled))
 }
 
 // Calls the entry of a case. `out` is what is lent.

@@ -1,9 +1,17 @@
 // Hexadecimal digits, in lower case, to numbers and bytes and back.
 ghost use Rattle.std.specs.Prelude.{◌<◌, ◌≤◌, IfOk, length};
 
+use std::num::TryFromIntError;
+
 // The input is not what the vectors' script writes.
 #[derive(Clone, Copy, Debug, PartialEq, Eq)]
 pub struct Damaged;
+
+impl From<TryFromIntError> for Damaged {
+    fn from(_: TryFromIntError) -> Damaged {
+        Damaged
+    }
+}
 
 // The value of a digit. The library's `to_digit` takes upper case too, which the script never writes.
 fn digit(byte: u8) -> Result<u8, Damaged>
@@ -23,8 +31,14 @@ pub fn glyph(value: u8) -> u8
     b"0123456789abcdef"[value as usize]
 }
 
+// The number that the first `n` digits spell, and what follows them.
+pub fn field(given: &[u8], n: usize) -> Result<(usize, &[u8]), Damaged> {
+    let (digits, rest) = given.split_at_checked(n).ok_or(Damaged)?;
+    Ok((number(digits)?, rest))
+}
+
 // The number that all of `digits` spell; no field of a case has more than 64 bits.
-pub fn number(digits: &[u8]) -> Result<usize, Damaged> {
+fn number(digits: &[u8]) -> Result<usize, Damaged> {
     let mut value: usize = 0;
     for byte in digits {
         let d = digit(*byte)?;

@@ -23,10 +23,10 @@ pub fn spell(given: &[u8], text: &mut [u8]) -> Result<usize, Damaged>
 fn segment(given: &[u8], text: &mut [u8]) -> Result<usize, Damaged>
     ensures { IfOk result (λ n. n ≤ length text.old) }
 {
-    let [a, b, c, d, e, b':', bytes @ ..] = given else {
+    let (count, rest) = hex::field(given, 5)?;
+    let [b':', bytes @ ..] = rest else {
         return Err(Damaged);
     };
-    let count = hex::number(&[*a, *b, *c, *d, *e])?;
     let unit = hex::bytes(bytes, text)?;
     repeat(text, unit, count)
 }
