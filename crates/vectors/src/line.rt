@@ -83,6 +83,8 @@ impl Line {
     }
 
     // Puts the digits of a number without the zeros in front, but for those among the last `least` digits.
+    // By hand, since `write!` is no plainer: `write_str` may not ask for room, so each caller would have to take an error
+    // apart that never comes.
     fn put_digits(&mut self, n: u64, base: u64, least: usize)
         requires room { length self.old + DIGITS ≤ LINE }
         requires positive { 0 < base }
