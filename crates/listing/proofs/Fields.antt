@@ -41,9 +41,6 @@ wrote-field {old} {new} label e w = subst (λ (f : List ℕ). Wrote old new (lin
 pub display-given : (text tree : List ℕ) (t : Tree) → checked text tree ≡ result t → printed text t ≡ field (display text tree)
 display-given text tree t e = rw e
 
-pub display-refused : (text tree : List ℕ) (r : ℕ) → checked text tree ≡ refusal r → field (refusal r) ≡ field (display text tree)
-display-refused text tree r e = rw e
-
 -- the inverse, printed or refused
 pub inverse-given : (text tree l l' : List ℕ) → inverse text tree ≡ result l → l' ≡ l → field (display text l') ≡ field (printed_inverse text tree)
 inverse-given text tree l l' e b = rw (e, b)
@@ -58,9 +55,6 @@ steps-counted text tree n c =
     ap (line (put "steps" []) (show n [])) (append-nil (step_lines text SHOWN 0 (flat undo false (unpack tree))))
     ∙ ap (λ (k : ℕ). line (put "steps" []) (show k []) (step_lines text SHOWN 0 (flat undo false (unpack tree)))) (c.steps ∙ sym (count-is (unpack tree) false))
     ∙ ap (steps_part text) (sym (these text tree n c []))
-
-pub steps-refused : (text tree : List ℕ) (r : ℕ) → steps text tree ≡ refusal r → line (put "steps" []) (field (refusal r)) [] ≡ steps_part text (steps text tree)
-steps-refused text tree r e = rw e
 
 -- The lines of a tree.
 pub tree-lines : (text tree : List ℕ) →

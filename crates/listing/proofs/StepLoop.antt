@@ -23,9 +23,6 @@ pub record Listed (text : List ℕ) (steps : List Leaf) (old mid : Printer) (pla
   pub onward : (new : Printer) → Wrote mid new (λ rest. left text steps place ++ rest) →
       Wrote old new (λ rest. step_lines text SHOWN 0 steps ++ rest)
 
-pub listed-starts : (text : List ℕ) (steps : List Leaf) (p : Printer) → Listed text steps p p 0
-listed-starts text steps p = record { onward = λ new w. w }
-
 line-append : (label field x rest : List ℕ) → line label field (x ++ rest) ≡ line label field x ++ rest
 line-append label field x rest =
     sym (append_assoc label (32 ∷ (field ++ (10 ∷ x))) rest ∙ ap (λ (l : List ℕ). label ++ (32 ∷ l)) (append_assoc field (10 ∷ x) rest))

@@ -15,10 +15,9 @@ use crate::lines::{
 };
 use display::Printer;
 use entries::count_steps;
-use notation::answer::Answer;
 use notation::features;
 use notation::features::Features;
-use notation::refusals::NO_ROOM;
+use notation::refusals::Refusal;
 use parse::parse_notation;
 
 // Steps that are listed.
@@ -42,17 +41,17 @@ pub fn list_whole(input: &[u8], out: &mut [u8; MAX_LISTING]) -> usize
 }
 
 // The whole listing of an input, or refusal 5 where it does not fit. The first run has no room and only measures.
-pub fn list(input: &[u8], out: &mut [u8]) -> Answer
+pub fn list(input: &[u8], out: &mut [u8]) -> Result<u64, Refusal>
     ensures { entries.lent result out.new
         ≡ entries.lend (accepted (rule.lister input.now)) out.old }
 {
     let mut nothing = [0u8; 0];
     let size = print(&mut nothing, input);
     if out.len() < size {
-        return Answer::Refused(NO_ROOM);
+        return Err(Refusal::NoRoom);
     }
     print(out, input);
-    Answer::Value(size as u64)
+    Ok(size as u64)
 }
 
 // Prints the listing of an input into `out` from its start and returns its length. Where it does not fit, `out` is only
@@ -79,19 +78,11 @@ fn put_whole<'a>(out: &'a mut [u8], input: &[u8]) -> Printer<'a>
 fn put_input<'a>(printer: Printer<'a>, input: &[u8]) -> Printer<'a>
     ensures { Wrote printer.entry result (λ rest. rule.lister input.now ++ rest) }
 {
-    if input.len() < FIRST_LINE {
-        return printer.put_bytes(b"refused input\n");
+    match input {
+        [b'w', b'\n', text @ ..] => put_listing(printer, text, features::wca()),
+        [b'm', b'\n', text @ ..] => put_listing(printer, text, features::maximal()),
+        _ => printer.put_bytes(b"refused input\n"),
     }
-    if input[1] != b'\n' {
-        return printer.put_bytes(b"refused input\n");
-    }
-    if input[0] == b'w' {
-        return put_listing(printer, &input[FIRST_LINE..], features::wca());
-    }
-    if input[0] == b'm' {
-        return put_listing(printer, &input[FIRST_LINE..], features::maximal());
-    }
-    printer.put_bytes(b"refused input\n")
 }
 
 // Puts the listing of a text. The tree of a text that is not too long always fits.
@@ -103,11 +94,11 @@ fn put_listing<'a>(printer: Printer<'a>, text: &[u8], features: Features) -> Pri
     }
     let mut tree = [0u8; MAX_TREE];
     match parse_notation(text, features, &mut tree) {
-        Answer::Value(size) => {
+        Ok(size) => {
             let end = size as usize;
             put_tree(printer, text, &tree[0..end])
         }
-        Answer::Refused(number) => refused_line(printer, b"text", number),
+        Err(refusal) => refused_line(printer, b"text", refusal),
     }
 }
 
@@ -128,11 +119,11 @@ fn put_steps<'a>(printer: Printer<'a>, text: &[u8], tree: &[u8]) -> Printer<'a>
         (λ rest. rule.steps_part text.now (entries.steps text.now tree.now) ++ rest) }
 {
     match count_steps(text, tree) {
-        Answer::Value(n) => {
+        Ok(n) => {
             let counted = number_line(printer, b"steps", n as u32);
             step_lines(counted, text, tree, n)
         }
-        Answer::Refused(number) => refused_line(printer, b"steps", number),
+        Err(refusal) => refused_line(printer, b"steps", refusal),
     }
 }
 
@@ -142,18 +133,8 @@ fn step_lines<'a>(mut printer: Printer<'a>, text: &[u8], tree: &[u8], n: u64) ->
     ensures { Wrote printer.entry result
         (λ rest. rule.step_lines text.now rule.SHOWN 0 (flat undo false (unpack tree.now)) ++ rest) }
 {
-    let end = least(n, SHOWN);
-    let mut place: u64 = 0;
-    while place < end {
+    for place in 0..n.min(SHOWN) {
         printer = step_line(printer, text, tree, place);
-        place += 1;
     }
     printer
-}
-
-// The smaller of two numbers.
-fn least(a: u64, b: u64) -> u64
-    ensures { result ≡ min a b }
-{
-    if a < b { a } else { b }
 }

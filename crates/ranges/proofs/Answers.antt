@@ -9,8 +9,10 @@ use borrow.Author.Tests.{le-leb, lt-leb}
 use Rattle.notation.specs.Refusals.{Outcome, refusal, result}
 use Rattle.notation.specs.Layers.{Range}
 use Rattle.notation.specs.Entries.{Lent, outcome, layer_ranges, range_bytes, simplify_bytes}
-use Rattle.notation.specs.declared.answer.Answer.{Answer}
-use Rattle.notation.specs.declared.answer.Answer.TheVariants.{Value, Refused}
+use Rattle.std.specs.Prelude.{Result, Ok, Err}
+use Rattle.notation.specs.Lending.{number}
+use Rattle.notation.specs.declared.refusals.Refusal.{Refusal}
+use Rattle.notation.specs.declared.refusals.Refusal.TheVariants.{NoRoom}
 use Rattle.layer.specs.Meaning.{range}
 use Rattle.layer.specs.declared.range.LayerRange.{LayerRange}
 use Rattle.laws.proofs.Bools.{no-refusal}
@@ -27,7 +29,7 @@ map-drop f (suc k) [] = refl
 map-drop f (suc k) (z ∷ zs) = map-drop f k zs
 
 module _ (text tree : List ℕ) (k n : ℕ) (neg : Bool) (room : ℕ) (bytes bytes' : List ℕ) (long : length bytes ≡ 65536) where
-  abbrev Rule : Answer → Type 0
+  abbrev Rule : Result ℕ Refusal → Type 0
   Rule r = record { answer = outcome r; buffer = bytes' } ≡ simplify_bytes text tree k n neg bytes
 
   -- the ranges always have room as bytes
@@ -37,20 +39,20 @@ module _ (text tree : List ℕ) (k n : ℕ) (neg : Bool) (room : ℕ) (bytes byt
       let f = few text tree k n neg l e in
       rw e (sym (answered l l refl bytes (length l) _ refl (omega (arith, f.many, long)) refl))
 
-  module _ (r : Answer) (rule : Rule r) where
+  module _ (r : Result ℕ Refusal) (rule : Rule r) where
     refused-by : (w : ℕ) → layer_ranges text tree k n neg ≡ refusal w → outcome r ≡ refusal w
     refused-by w q = ap (λ (x : Lent ℕ). x.answer) rule ∙ rw q
 
-    pub resolved-refusal : (v : ℕ) → r ≡ Refused v → Resolved text tree k n neg room r bytes'
+    pub resolved-refusal : (v : Refusal) → r ≡ Err v → Resolved text tree k n neg room r bytes'
     resolved-refusal v is = go (layer_ranges text tree k n neg) refl where
       go : (o : Outcome (List Range)) → layer_ranges text tree k n neg ≡ o → Resolved text tree k n neg room r bytes'
       go (refusal w) q =
-          let f : refusal v ≡ refusal w = sym (ap outcome is) ∙ refused-by w q in
+          let f : refusal (number v) ≡ refusal w = sym (ap outcome is) ∙ refused-by w q in
           rw is (record { enough = omega arith; inside = omega arith; same = λ zs e. rw (q, f) })
       go (result l) q =
           no-refusal (sym (ap outcome is) ∙ ap (λ (x : Lent ℕ). x.answer) (rule ∙ bytes_of l q))
 
-    module _ (m : ℕ) (is : r ≡ Value m) where
+    module _ (m : ℕ) (is : r ≡ Ok m) where
       -- the ranges, and what is known of them
       found : (l : List Range) → layer_ranges text tree k n neg ≡ result l → (m ≡ length l) × (bytes' ≡ range_bytes l ++ drop (4 * length l) bytes)
       found l q =
@@ -60,9 +62,9 @@ module _ (text tree : List ℕ) (k n : ℕ) (neg : Bool) (room : ℕ) (bytes byt
       none : (w : ℕ) → layer_ranges text tree k n neg ≡ refusal w → ⊥
       none w q = no-refusal (sym (refused-by w q) ∙ ap outcome is)
 
-      pub resolved-full : room < m → Resolved text tree k n neg room (Refused 5) bytes'
+      pub resolved-full : room < m → Resolved text tree k n neg room (Err NoRoom) bytes'
       resolved-full h = go (layer_ranges text tree k n neg) refl where
-        go : (o : Outcome (List Range)) → layer_ranges text tree k n neg ≡ o → Resolved text tree k n neg room (Refused 5) bytes'
+        go : (o : Outcome (List Range)) → layer_ranges text tree k n neg ≡ o → Resolved text tree k n neg room (Err NoRoom) bytes'
         go (refusal w) q = absurd (none w q)
         go (result l) q = record {
           enough = omega arith;
@@ -70,9 +72,9 @@ module _ (text tree : List ℕ) (k n : ℕ) (neg : Bool) (room : ℕ) (bytes byt
           same = λ zs e. rw (q, lt-leb (length l) (length (map range zs)) (simp length-map (omega (arith, (found l q).0, h, e))));
         }
 
-      pub resolved-value : m ≤ room → Resolved text tree k n neg room (Value m) bytes'
+      pub resolved-value : m ≤ room → Resolved text tree k n neg room (Ok m) bytes'
       resolved-value h = go (layer_ranges text tree k n neg) refl where
-        go : (o : Outcome (List Range)) → layer_ranges text tree k n neg ≡ o → Resolved text tree k n neg room (Value m) bytes'
+        go : (o : Outcome (List Range)) → layer_ranges text tree k n neg ≡ o → Resolved text tree k n neg room (Ok m) bytes'
         go (refusal w) q = absurd (none w q)
         go (result l) q =
             let size = (found l q).0 in

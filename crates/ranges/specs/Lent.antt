@@ -1,8 +1,8 @@
 -- Ranges as bytes, each low and high of 16 bits big-endian, read one after another.
-use Rattle.std.specs.Prelude.{ℕ, zero, suc, ◌+◌, ◌*◌, ◌≤◌, ◌≡◌, Bool, List, [], ◌∷◌, ◌++◌, map, length, take, drop}
+use Rattle.std.specs.Prelude.{ℕ, zero, suc, ◌+◌, ◌*◌, ◌≤◌, ◌≡◌, Bool, List, [], ◌∷◌, ◌++◌, map, length, take, drop, Result}
 use Rattle.notation.specs.Numbers.{from_big_endian}
 use Rattle.notation.specs.Entries as rule
-use Rattle.notation.specs.declared.answer.Answer.{Answer}
+use Rattle.notation.specs.declared.refusals.Refusal.{Refusal}
 use Rattle.layer.specs.Meaning as meaning
 use Rattle.layer.specs.declared.range.LayerRange.{LayerRange}
 
@@ -19,11 +19,11 @@ ranges_from bytes zero k = []
 ranges_from bytes (suc n) k = range_at bytes k ∷ ranges_from bytes n (suc k)
 
 -- how many an answer says: none where it is a refusal
-abbrev pub range_count : Answer → ℕ
+abbrev pub range_count : Result ℕ Refusal → ℕ
 range_count r = rule.value (rule.outcome r)
 
 -- the answer for a run of `room` ranges, with the ranges that it says as bytes: written over the front of any such run they are the rule's
-pub record Resolved (text tree : List ℕ) (k n : ℕ) (neg : Bool) (room : ℕ) (r : Answer) (bytes : List ℕ) : Type 0 where
+pub record Resolved (text tree : List ℕ) (k n : ℕ) (neg : Bool) (room : ℕ) (r : Result ℕ Refusal) (bytes : List ℕ) : Type 0 where
   pub enough : range_count r ≤ room
   pub inside : 4 * range_count r ≤ length bytes
   pub same : (zs : List LayerRange) → length zs ≡ room →

@@ -9,10 +9,9 @@ ghost use Rattle.layer.specs.Meaning as meaning;
 ghost use Rattle.ranges.specs.Lent.{range_at, ranges_from, range_count, Resolved};
 
 use layer::{Layer, LayerRange};
-use notation::answer::Answer;
 use notation::limits::RANGE;
-use notation::refusals::NO_ROOM;
-use numbers::big_endian::read_u16;
+use notation::refusals::Refusal;
+use numbers::big_endian::read;
 
 // Simplified ranges neither overlap nor touch, so an axis has at most 16,384 of them.
 const BYTES: usize = RANGE * 16384;
@@ -24,8 +23,8 @@ fn range_at(bytes: &[u8], k: usize) -> LayerRange
 {
     let at = RANGE * k;
     LayerRange {
-        min: Layer(read_u16(bytes, at)),
-        max: Layer(read_u16(bytes, at + 2)),
+        min: Layer(read::<2>(bytes, at) as u16),
+        max: Layer(read::<2>(bytes, at + 2) as u16),
     }
 }
 
@@ -48,28 +47,25 @@ fn resolve(
     allow_negatives: bool,
     room: usize,
     bytes: &mut [u8],
-) -> Answer
+) -> Result<u64, Refusal>
     requires { length bytes.old ≡ 65536 }
     ensures { Resolved text.now tree.now «record» max_layer allow_negatives room result
         bytes.new }
 {
-    let answer = entries::simplify(text, tree, record, max_layer, allow_negatives, bytes);
-    let Answer::Value(n) = answer else {
-        return answer;
-    };
+    let n = entries::simplify(text, tree, record, max_layer, allow_negatives, bytes)?;
     if (room as u64) < n {
-        return Answer::Refused(NO_ROOM);
+        return Err(Refusal::NoRoom);
     }
-    answer
+    Ok(n)
 }
 
 // How many ranges an answer says; a refusal says none.
-fn count(answer: Answer) -> usize
+fn count(answer: Result<u64, Refusal>) -> usize
     ensures { result ≡ range_count answer }
 {
     match answer {
-        Answer::Value(n) => n as usize,
-        Answer::Refused(_) => 0,
+        Ok(n) => n as usize,
+        Err(_) => 0,
     }
 }
 
@@ -83,7 +79,7 @@ pub fn simplify(
     max_layer: u32,
     allow_negatives: bool,
     ranges: &mut [LayerRange],
-) -> Answer
+) -> Result<u64, Refusal>
     ensures { rule.lent result (map meaning.range ranges.new)
         ≡ rule.simplify text.now tree.now «record» max_layer allow_negatives
         (map meaning.range ranges.old) }

@@ -9,7 +9,7 @@ ghost use Rattle.simplify.specs.Reach as table;
 
 use layer::{Layer, LayerRange};
 use notation::limits::RANGE;
-use numbers::big_endian::write_u16;
+use numbers::big_endian::write;
 
 // Gathers one range.
 pub fn mark(reach: &mut [u16], range: LayerRange)
@@ -117,8 +117,8 @@ pub fn write_range(out: &mut [u8], at: usize, range: LayerRange)
     requires { at + 4 ≤ length out.old }
     ensures { out.new ≡ sets out.old at (big_endian 2 range.min.0 ++ big_endian 2 range.max.0) }
 {
-    write_u16(out, at, range.min.0);
-    write_u16(out, at + 2, range.max.0);
+    write::<2>(out, at, range.min.0 as u64);
+    write::<2>(out, at + 2, range.max.0 as u64);
 }
 
 // Writes the runs one after another.

@@ -1,10 +1,9 @@
 // The cases of the entries that take a tree, and of the listing, which takes none: a letter for the entry, length of the
 // lent buffer (6 digits), place or record (16 digits), `max_layer` (8 digits), whether negatives are allowed (0 or 1),
 // the text's segments, `|`, and the tree's segments.
-ghost use Rattle.std.specs.Prelude.{◌≤◌, ◌≡◌, length};
-ghost use Rattle.vectors.specs.Bounds.{AtMost, LINE};
-
-use crate::hex::Decoded;
+use crate::buffers::Buffers;
+use crate::hex::Damaged;
+use crate::line::Line;
 use crate::{hex, report, text};
 use hypuz_notation::{
     count_steps, display, family, family_refusal, flatten, inv, inv_deep, seek_step, simplify,
@@ -13,150 +12,150 @@ use notation::answer::Answer;
 use notation::limits::RANGE;
 use record::RECORD;
 
-// Bytes that stand before the text.
-const HEAD: usize = 32;
 // Bytes of a tree of the Rust's sample: no text of it has over 1,000 records.
 const SAMPLED: usize = RECORD * 1000;
 
-const MAX_U32: usize = 0xffffffff;
-// What an answer counts: bytes of the lent buffer, layer ranges in it, or steps, which take no bytes.
-const BYTES: usize = 1;
+// The entries that a letter stands for.
+#[derive(Clone, Copy)]
+enum Entry {
+    Inv,
+    InvDeep,
+    Display,
+    CountSteps,
+    Flatten,
+    SeekStep,
+    List,
+    // The deep inverse as text, for the Rust's answers, which are texts.
+    DeepShown,
+    Simplify,
+    Family,
+}
 
-const RANGES: usize = RANGE;
+// A letter that stands for no entry.
+#[derive(Clone, Copy)]
+struct Unknown;
 
-const STEPS: usize = 0;
+impl TryFrom<u8> for Entry {
+    type Error = Unknown;
+
+    fn try_from(letter: u8) -> Result<Entry, Unknown> {
+        match letter {
+            b'i' => Ok(Entry::Inv),
+            b'd' => Ok(Entry::InvDeep),
+            b'p' => Ok(Entry::Display),
+            b'c' => Ok(Entry::CountSteps),
+            b'f' => Ok(Entry::Flatten),
+            b's' => Ok(Entry::SeekStep),
+            b'o' => Ok(Entry::List),
+            b'x' => Ok(Entry::DeepShown),
+            b'l' => Ok(Entry::Simplify),
+            b'n' => Ok(Entry::Family),
+            _ => Err(Unknown),
+        }
+    }
+}
+
+impl Entry {
+    // Bytes of the lent buffer for each thing that an answer counts: steps take none.
+    fn unit(self) -> usize {
+        match self {
+            Entry::CountSteps => 0,
+            Entry::Simplify => RANGE,
+            _ => 1,
+        }
+    }
+}
 
 // What is asked beside the text and the tree. Entries pass over what they do not take.
 #[derive(Drop)]
 struct Call {
-    entry: u8,
     // The place of a step, or the number of a record.
     number: u64,
     max_layer: u32,
     negatives: bool,
 }
 
-// Puts the answer of the case `given` into `line`, and answers its length.
-pub fn case(
-    given: &[u8],
-    text: &mut [u8],
-    tree: &mut [u8],
-    out: &mut [u8],
-    line: &mut [u8],
-) -> Decoded
-    requires { length line.old ≡ LINE }
-    ensures { AtMost LINE result }
-{
-    if given.len() < HEAD {
-        return Decoded::Damaged;
-    }
-    let bar = text::find(given, HEAD, b'|');
-    if bar == given.len() {
-        return Decoded::Damaged;
-    }
-    let Decoded::Value(size) = text::spell(&given[HEAD..bar], text) else {
-        return Decoded::Damaged;
+// The answer of the case `given`.
+pub fn case(given: &[u8], buffers: &mut Buffers) -> Result<Line, Damaged> {
+    let [letter, given @ ..] = given else {
+        return Err(Damaged);
     };
-    let Decoded::Value(records) = text::spell(&given[bar + 1..], tree) else {
-        return Decoded::Damaged;
+    let (lent, given) = hex::field(given, 6)?;
+    let (call, spelled) = asked(given)?;
+    let bar = spelled
+        .iter()
+        .position(|byte| *byte == b'|')
+        .ok_or(Damaged)?;
+    let text = &mut *buffers.text;
+    let tree = &mut *buffers.tree;
+    let out = &mut *buffers.out;
+    let size = text::spell(&spelled[..bar], text)?;
+    let records = text::spell(&spelled[bar + 1..], tree)?;
+    // No refusal is 0: it tells a letter that stands for no entry.
+    let Ok(entry) = Entry::try_from(*letter) else {
+        return Ok(report::refused(0, &[]));
     };
-    let Decoded::Value(lent) = hex::number(&given[1..7]) else {
-        return Decoded::Damaged;
-    };
-    let room = report::least(lent, out.len());
-    asked(
-        given,
-        &text[0..size],
-        &tree[0..records],
-        &mut out[0..room],
-        line,
-    )
+    let room = lent.min(out.len());
+    Ok(called(
+        entry,
+        call,
+        &text[..size],
+        &tree[..records],
+        &mut out[..room],
+    ))
 }
 
-// Puts the answer into `line`, the text and the tree being at hand. `out` is what is lent.
-fn asked(given: &[u8], text: &[u8], tree: &[u8], out: &mut [u8], line: &mut [u8]) -> Decoded
-    requires { (32 ≤ length given.now) × (length line.old ≡ LINE) }
-    ensures { AtMost LINE result }
-{
-    let Decoded::Value(number) = hex::number(&given[7..23]) else {
-        return Decoded::Damaged;
+// What is asked, and the text and the tree that are spelled behind it.
+fn asked(given: &[u8]) -> Result<(Call, &[u8]), Damaged> {
+    let (number, given) = hex::field(given, 16)?;
+    let (max_layer, given) = hex::field(given, 8)?;
+    let [negatives, spelled @ ..] = given else {
+        return Err(Damaged);
     };
-    let Decoded::Value(max_layer) = hex::number(&given[23..31]) else {
-        return Decoded::Damaged;
-    };
-    if MAX_U32 < max_layer {
-        return Decoded::Damaged;
-    }
     let call = Call {
-        entry: given[0],
         number: number as u64,
-        max_layer: max_layer as u32,
-        negatives: given[31] == b'1',
+        max_layer: u32::try_from(max_layer)?,
+        negatives: *negatives == b'1',
     };
-    report::fill(out);
-    Decoded::Value(called(call, text, tree, out, line))
+    Ok((call, spelled))
 }
 
-// Calls the entry of a case and puts its answer into `line`.
-fn called(call: Call, text: &[u8], tree: &[u8], out: &mut [u8], line: &mut [u8]) -> usize
-    requires { length line.old ≡ LINE }
-    ensures { result ≤ LINE }
-{
-    let entry = call.entry;
-    if entry == b'n' {
-        return named(call.number, text, tree, line);
-    }
-    let answer = answer(call, text, tree, out);
-    report::answered(answer, unit(entry), out, line)
+// Calls the entry of a case. `out` is what is lent.
+fn called(entry: Entry, call: Call, text: &[u8], tree: &[u8], out: &mut [u8]) -> Line {
+    out.fill(report::UNTOUCHED);
+    let answer = match entry {
+        Entry::Inv => inv(text, tree, out),
+        Entry::InvDeep => inv_deep(text, tree, out),
+        Entry::Display => display(text, tree, out),
+        Entry::CountSteps => count_steps(text, tree),
+        Entry::Flatten => flatten(text, tree, out),
+        Entry::SeekStep => seek_step(text, tree, call.number, out),
+        Entry::List => listing::list(text, out),
+        Entry::DeepShown => deep_shown(text, tree, out),
+        Entry::Simplify => simplify(text, tree, call.number, call.max_layer, call.negatives, out),
+        Entry::Family => return named(call.number, text, tree),
+    };
+    report::answered(answer, entry.unit(), out)
 }
 
-// The call itself, for each entry that answers a number. No refusal is 0: it tells a letter that is none.
-fn answer(call: Call, text: &[u8], tree: &[u8], out: &mut [u8]) -> Answer {
-    let entry = call.entry;
-    match entry {
-        b'i' => inv(text, tree, out),
-        b'd' => inv_deep(text, tree, out),
-        b'p' => display(text, tree, out),
-        b'c' => count_steps(text, tree),
-        b'f' => flatten(text, tree, out),
-        b's' => seek_step(text, tree, call.number, out),
-        b'o' => listing::list(text, out),
-        b'x' => deep_shown(text, tree, out),
-        b'l' => simplify(text, tree, call.number, call.max_layer, call.negatives, out),
-        _ => Answer::Refused(0),
-    }
-}
-
-// The deep inverse as text, for the Rust's answers, which are texts.
+// The deep inverse as text.
 fn deep_shown(text: &[u8], tree: &[u8], out: &mut [u8]) -> Answer {
     let mut inverse = [0u8; SAMPLED];
     let answer = inv_deep(text, tree, &mut inverse);
     let Answer::Value(size) = answer else {
         return answer;
     };
-    let n = report::least(size as usize, SAMPLED);
-    display(text, &inverse[0..n], out)
+    let n = (size as usize).min(SAMPLED);
+    display(text, &inverse[..n], out)
 }
 
-// What the answer of an entry counts.
-fn unit(entry: u8) -> usize {
-    match entry {
-        b'c' => STEPS,
-        b'l' => RANGES,
-        _ => BYTES,
-    }
-}
-
-// Puts a family into `line`, a part of the text. Beside a refusal it is empty: bytes of it show as touched.
-fn named(record: u64, text: &[u8], tree: &[u8], line: &mut [u8]) -> usize
-    requires { length line.old ≡ LINE }
-    ensures { result ≤ LINE }
-{
+// The line of a family, a part of the text. Beside a refusal it is empty: bytes of it show as touched.
+fn named(record: u64, text: &[u8], tree: &[u8]) -> Line {
     let family = family(text, tree, record);
     let refusal = family_refusal(text, tree, record);
     if refusal == 0 {
-        report::read(family.len() as u64, family.len(), family, line)
+        report::read(family.len() as u64, family.len(), family)
     } else {
-        report::refused(refusal, family, line)
+        report::refused(refusal, family)
     }
 }

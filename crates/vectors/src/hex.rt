@@ -1,22 +1,26 @@
 // Hexadecimal digits, in lower case, to numbers and bytes and back.
-ghost use Rattle.std.specs.Prelude.{◌+◌, ◌*◌, ◌≤◌, ◌<◌, ◌≡◌, length};
-ghost use Rattle.vectors.specs.Bounds.{AtMost};
+ghost use Rattle.std.specs.Prelude.{◌<◌, ◌≤◌, IfOk, length};
 
-// What was read, or that the input is not what the vectors' script writes.
-#[derive(Drop)]
-pub enum Decoded {
-    Value(usize),
-    Damaged,
+use std::num::TryFromIntError;
+
+// The input is not what the vectors' script writes.
+#[derive(Clone, Copy, Debug, PartialEq, Eq)]
+pub struct Damaged;
+
+impl From<TryFromIntError> for Damaged {
+    fn from(_: TryFromIntError) -> Damaged {
+        Damaged
+    }
 }
 
-// The value of a digit, and 16 for a byte that is none.
-fn digit(byte: u8) -> usize
-    ensures { result ≤ 16 }
+// The value of a digit. The library's `to_digit` takes upper case too, which the script never writes.
+fn digit(byte: u8) -> Result<u8, Damaged>
+    ensures { IfOk result (λ d. d < 16) }
 {
     match byte {
-        b'0'..=b'9' => (byte - b'0') as usize,
-        b'a'..=b'f' => (byte - b'a') as usize + 10,
-        _ => 16,
+        b'0'..=b'9' => Ok(byte - b'0'),
+        b'a'..=b'f' => Ok(byte - b'a' + 10),
+        _ => Err(Damaged),
     }
 }
 
@@ -24,68 +28,35 @@ fn digit(byte: u8) -> usize
 pub fn glyph(value: u8) -> u8
     requires { value < 16 }
 {
-    if value < 10 {
-        b'0' + value
-    } else {
-        b'a' - 10 + value
-    }
+    b"0123456789abcdef"[value as usize]
+}
+
+// The number that the first `n` digits spell, and what follows them.
+pub fn field(given: &[u8], n: usize) -> Result<(usize, &[u8]), Damaged> {
+    let (digits, rest) = given.split_at_checked(n).ok_or(Damaged)?;
+    Ok((number(digits)?, rest))
 }
 
 // The number that all of `digits` spell; no field of a case has more than 64 bits.
-pub fn number(digits: &[u8]) -> Decoded {
-    let mut value = 0;
-    let mut i = 0;
-    while i < digits.len() {
-        let d = digit(digits[i]);
-        if d > 15 {
-            return Decoded::Damaged;
-        }
-        if value > 0xfffffffffffffff {
-            return Decoded::Damaged;
-        }
-        value = value * 16 + d;
-        i += 1;
+fn number(digits: &[u8]) -> Result<usize, Damaged> {
+    let mut value: usize = 0;
+    for byte in digits {
+        let d = digit(*byte)?;
+        value = value.checked_mul(16).ok_or(Damaged)? + d as usize;
     }
-    Decoded::Value(value)
+    Ok(value)
 }
 
 // Puts the bytes that `digits` spell, two digits to a byte, at the start of `out`, and answers how many they are.
-pub fn bytes(digits: &[u8], out: &mut [u8]) -> Decoded
-    ensures { AtMost (length out.old) result }
+pub fn bytes(digits: &[u8], out: &mut [u8]) -> Result<usize, Damaged>
+    ensures { IfOk result (λ n. n ≤ length out.old) }
 {
-    let count = digits.len() / 2;
-    if digits.len() % 2 == 1 {
-        return Decoded::Damaged;
+    let (pairs, odd) = digits.as_chunks::<2>();
+    if !odd.is_empty() || out.len() < pairs.len() {
+        return Err(Damaged);
     }
-    if out.len() < count {
-        return Decoded::Damaged;
+    for (byte, [high, low]) in out.iter_mut().zip(pairs) {
+        *byte = digit(*high)? * 16 + digit(*low)?;
     }
-    let mut i = 0;
-    while i < count {
-        let high = digit(digits[2 * i]);
-        let low = digit(digits[2 * i + 1]);
-        if high > 15 {
-            return Decoded::Damaged;
-        }
-        if low > 15 {
-            return Decoded::Damaged;
-        }
-        out[i] = (high * 16 + low) as u8;
-        i += 1;
-    }
-    Decoded::Value(count)
-}
-
-// Puts the digits of `bytes` into `out` from `at` on, and answers where they end.
-pub fn put_bytes(out: &mut [u8], at: usize, bytes: &[u8]) -> usize
-    requires { at + 2 * length bytes.now ≤ length out.old }
-    ensures { result ≡ at + 2 * length bytes.now }
-{
-    let mut i = 0;
-    while i < bytes.len() {
-        out[at + 2 * i] = glyph(bytes[i] / 16);
-        out[at + 2 * i + 1] = glyph(bytes[i] % 16);
-        i += 1;
-    }
-    at + 2 * bytes.len()
+    Ok(pairs.len())
 }

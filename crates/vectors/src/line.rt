@@ -1,71 +1,108 @@
-// The line of an answer, put together in a buffer.
-ghost use Rattle.std.specs.Prelude.{◌+◌, ◌<◌, ◌≤◌, ◌≡◌, length};
+// The line of an answer.
+ghost use Rattle.std.specs.Prelude.{◌+◌, ◌*◌, ◌<◌, ◌≤◌, ◌≡◌, [], ◌++◌, length};
 
-use crate::hex;
+use crate::hex::glyph;
+use std::marker::Model;
 
 // Bytes of a line: the longest is `read`, a number, 1,000 digits and ` touched`.
 pub const LINE: usize = 1100;
 
-// Puts `piece` into the line from `at` on, and answers where it ends.
-pub fn put(line: &mut [u8], at: usize, piece: &[u8]) -> usize
-    requires { at + length piece.now ≤ length line.old }
-    ensures { result ≡ at + length piece.now }
-{
-    let mut i = 0;
-    while i < piece.len() {
-        line[at + i] = piece[i];
-        i += 1;
-    }
-    at + i
+// Decimal digits of the largest number.
+pub const DIGITS: usize = 20;
+
+// The bytes that were put so far. Room for more is asked of the caller.
+#[derive(Drop)]
+pub struct Line {
+    buffer: [u8; LINE],
+    len: usize,
 }
 
-// Puts a number in decimal into the line.
-pub fn put_decimal(line: &mut [u8], at: usize, n: u64) -> usize
-    requires { at + 20 ≤ length line.old }
-    ensures { result ≤ at + 20 }
-{
-    let mut digits = [0u8; 20];
-    fill_digits(&mut digits, n, 10);
-    put_digits(line, at, &digits, 1)
+impl Model for Line {
+    ghost use Rattle.std.specs.Prelude.{List, ℕ, ◌≤◌, take};
+    ghost use Rattle.vectors.specs.declared.line.TheConstants.{LINE};
+
+    ghost Value = { List ℕ };
+
+    ghost view = { λ l. take l.len l.buffer };
+
+    ghost invariant = { λ l. l.len ≤ LINE };
 }
 
-// Puts a number in six hexadecimal digits into the line, or in as many as it takes.
-pub fn put_hex(line: &mut [u8], at: usize, n: u64) -> usize
-    requires { at + 16 ≤ length line.old }
-    ensures { result ≤ at + 16 }
-{
-    let mut digits = [0u8; 16];
-    fill_digits(&mut digits, n, 16);
-    put_digits(line, at, &digits, 6)
-}
-
-// Fills `digits` with the last digits of `n`, with zeros in front.
-fn fill_digits(digits: &mut [u8], n: u64, base: u64)
-    requires positive { 0 < base }
-    requires hexadecimal { base ≤ 16 }
-{
-    let mut rest = n;
-    let mut i = digits.len();
-    while 0 < i {
-        i -= 1;
-        digits[i] = hex::glyph((rest % base) as u8);
-        rest /= base;
-    }
-}
-
-// Puts digits into the line without the zeros in front, but for those among the last `least` digits.
-fn put_digits(line: &mut [u8], at: usize, digits: &[u8], least: usize) -> usize
-    requires fits { at + length digits.now ≤ length line.old }
-    requires within { least ≤ length digits.now }
-    ensures { result ≤ at + length digits.now }
-{
-    let spare = digits.len() - least;
-    let mut start = 0;
-    while start < spare {
-        if digits[start] != b'0' {
-            break;
+impl Line {
+    // The empty line.
+    pub fn new() -> Line
+        ensures { result ≡ [] }
+    {
+        Line {
+            buffer: [0; LINE],
+            len: 0,
         }
-        start += 1;
     }
-    put(line, at, &digits[start..])
+
+    // The bytes of the line.
+    pub fn bytes(&self) -> &[u8]
+        ensures { result.now ≡ self.now }
+    {
+        &self.buffer[..self.len]
+    }
+
+    // Puts `piece`.
+    pub fn put(&mut self, piece: &[u8])
+        requires { length self.old + length piece.now ≤ LINE }
+        ensures { self.new ≡ self.old ++ piece.now }
+    {
+        let end = self.len + piece.len();
+        self.buffer[self.len..end].copy_from_slice(piece);
+        self.len = end;
+    }
+
+    // Puts bytes in hexadecimal.
+    pub fn put_bytes(&mut self, bytes: &[u8])
+        requires { length self.old + 2 * length bytes.now ≤ LINE }
+        ensures { length self.new ≡ length self.old + 2 * length bytes.now }
+    {
+        for byte in bytes {
+            self.put(&[glyph(*byte / 16), glyph(*byte % 16)]);
+        }
+    }
+
+    // Puts a number in decimal.
+    pub fn put_decimal(&mut self, n: u64)
+        requires { length self.old + DIGITS ≤ LINE }
+        ensures { length self.new ≤ length self.old + DIGITS }
+    {
+        self.put_digits(n, 10, 1);
+    }
+
+    // Puts a number in six hexadecimal digits, or in as many as it takes.
+    pub fn put_hex(&mut self, n: u64)
+        requires { length self.old + DIGITS ≤ LINE }
+        ensures { length self.new ≤ length self.old + DIGITS }
+    {
+        self.put_digits(n, 16, 6);
+    }
+
+    // Puts the digits of a number without the zeros in front, but for those among the last `least` digits.
+    // By hand, since `write!` is no plainer: `write_str` may not ask for room, so each caller would have to take an error
+    // apart that never comes.
+    fn put_digits(&mut self, n: u64, base: u64, least: usize)
+        requires room { length self.old + DIGITS ≤ LINE }
+        requires positive { 0 < base }
+        requires hexadecimal { base ≤ 16 }
+        requires within { least ≤ DIGITS }
+        ensures { length self.new ≤ length self.old + DIGITS }
+    {
+        let mut digits = [0u8; DIGITS];
+        let mut rest = n;
+        for digit in digits.iter_mut().rev() {
+            *digit = glyph((rest % base) as u8);
+            rest /= base;
+        }
+        let spare = DIGITS - least;
+        let zeros = digits[..spare]
+            .iter()
+            .position(|digit| *digit != b'0')
+            .unwrap_or(spare);
+        self.put(&digits[zeros..]);
+    }
 }

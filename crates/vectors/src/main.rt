@@ -5,92 +5,62 @@
 #![tactic(auto)]
 
 mod agreement;
+mod buffers;
 mod calls;
 mod hex;
 mod line;
-mod pieces;
 mod reading;
 mod report;
 mod text;
 
-ghost use Rattle.std.specs.Prelude.{◌≡◌, ◌≤◌, IfOk, length};
-ghost use Rattle.vectors.specs.Bounds.{AtMost, LINE};
+ghost use Rattle.std.specs.Prelude.{◌≤◌, IfOk, length};
 
-use hex::Decoded;
+use buffers::Buffers;
+use hex::Damaged;
+use line::Line;
 use listing::input::read_full;
 use record::RECORD;
 use std::io;
 use std::io::Print;
 
 // One line of the input. Its answer goes out in one call.
-fn case(
-    rt: &impl Print,
-    given: &[u8],
-    text: &mut [u8],
-    tree: &mut [u8],
-    out: &mut [u8],
-) -> io::Result<()> {
-    let mut line = [0u8; line::LINE];
-    match answer(given, text, tree, out, &mut line) {
-        Decoded::Value(n) => rt.write_all(&line[0..n]),
-        Decoded::Damaged => rt.write_all(b"damaged\n"),
+fn case(rt: &impl Print, given: &[u8], buffers: &mut Buffers) -> io::Result<()> {
+    match answer(given, buffers) {
+        Ok(line) => rt.write_all(line.bytes()),
+        Err(Damaged) => rt.write_all(b"damaged\n"),
     }
 }
 
-// Puts the answer of the case `given` into `line`, and answers its length.
-fn answer(
-    given: &[u8],
-    text: &mut [u8],
-    tree: &mut [u8],
-    out: &mut [u8],
-    line: &mut [u8],
-) -> Decoded
-    requires { length line.old ≡ LINE }
-    ensures { AtMost LINE result }
-{
-    if given.len() == 0 {
-        return Decoded::Damaged;
-    }
-    match given[0] {
-        b'r' => reading::case(&given[1..], text, out, line),
-        b'a' => agreement::case(&given[1..], text, line),
-        _ => calls::case(given, text, tree, out, line),
+// The answer of the case `given`.
+fn answer(given: &[u8], buffers: &mut Buffers) -> Result<Line, Damaged> {
+    match given {
+        [] => Err(Damaged),
+        [b'r', rest @ ..] => reading::case(rest, &mut *buffers.text, &mut *buffers.out),
+        [b'a', rest @ ..] => agreement::case(rest, &mut *buffers.text),
+        _ => calls::case(given, buffers),
     }
 }
 
 // Runs the cases of these lines.
-fn run_cases(
-    rt: &impl Print,
-    input: &[u8],
-    text: &mut [u8],
-    tree: &mut [u8],
-    out: &mut [u8],
-) -> io::Result<()> {
-    let mut at = 0;
-    while at < input.len() {
-        let end = text::find(input, at, b'\n');
-        case(rt, &input[at..end], text, tree, out)?;
-        at = end + 1;
+fn run_cases(rt: &impl Print, input: &[u8], buffers: &mut Buffers) -> io::Result<()> {
+    for line in input.split_inclusive(|byte| *byte == b'\n') {
+        let given = match line {
+            [given @ .., b'\n'] => given,
+            _ => line,
+        };
+        case(rt, given, buffers)?;
     }
     Ok(())
 }
 
 // The input is read in pieces: what is kept of one is the start of the line that the next one goes on with. A last line
 // may lack its newline.
-fn run(
-    rt: &(impl Input + Print),
-    input: &mut [u8],
-    text: &mut [u8],
-    tree: &mut [u8],
-    out: &mut [u8],
-) -> io::Result<()> {
+fn run(rt: &(impl Input + Print), input: &mut [u8], buffers: &mut Buffers) -> io::Result<()> {
     let mut kept = 0;
-    let mut n = 0;
-    while n < MAX_PIECES {
-        kept = piece(rt, input, kept, text, tree, out)?;
-        n += 1;
+    for _ in 0..MAX_PIECES {
+        kept = piece(rt, input, kept, buffers)?;
     }
-    run_cases(rt, &input[0..kept], text, tree, out)
+    run_cases(rt, &input[..kept], buffers)
 }
 
 // Reads on behind what is kept, runs the cases of the lines that are whole, moves the start of the next one to the
@@ -99,19 +69,27 @@ fn piece(
     rt: &(impl Input + Print),
     input: &mut [u8],
     kept: usize,
-    text: &mut [u8],
-    tree: &mut [u8],
-    out: &mut [u8],
+    buffers: &mut Buffers,
 ) -> io::Result<usize>
     requires { kept ≤ length input.old }
     ensures { IfOk result (λ n. n ≤ length input.old) }
 {
     let n = read_full(&mut rt.reader(), &mut input[kept..])?;
     let filled = kept + n;
-    let whole = pieces::lines_end(&input[0..filled]);
-    run_cases(rt, &input[0..whole], text, tree, out)?;
-    pieces::to_front(&mut input[0..filled], whole);
+    let whole = lines_end(&input[..filled]);
+    run_cases(rt, &input[..whole], buffers)?;
+    input.copy_within(whole..filled, 0);
     Ok(filled - whole)
+}
+
+// Where the last whole line ends, 0 where there is none.
+fn lines_end(s: &[u8]) -> usize
+    ensures { result ≤ length s.now }
+{
+    match s.iter().rposition(|byte| *byte == b'\n') {
+        Some(at) => at + 1,
+        None => 0,
+    }
 }
 
 // An input has at most so many pieces of the size of its buffer: 16 MiB.
@@ -130,5 +108,10 @@ fn main(rt: HostRuntime) -> io::Result<()> {
     let mut text = [0u8; TEXT];
     let mut tree = [0u8; TREE];
     let mut out = [0u8; TREE];
-    run(&rt, &mut input, &mut text, &mut tree, &mut out)
+    let mut buffers = Buffers {
+        text: &mut text,
+        tree: &mut tree,
+        out: &mut out,
+    };
+    run(&rt, &mut input, &mut buffers)
 }

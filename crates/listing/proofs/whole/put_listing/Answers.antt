@@ -8,36 +8,25 @@ use Rattle.notation.specs.Entries.{reading, outcome}
 use Rattle.notation.specs.Lister.{listing}
 use Rattle.listing.specs.Listing.{MAX-TREE}
 use Rattle.listing.proofs.Fields.{wrote-to}
-use Rattle.listing.proofs.FirstLine.{text-long, text-fits, text-read}
-use Rattle.listing.proofs.Lending.{lent, unlent, given-part, given-fits, given-long}
+use Rattle.listing.proofs.FirstLine.{text-fits, text-read}
+use Rattle.listing.proofs.Lending.{lent, unlent, given-part, given-fits}
 use Rattle.listing.proofs.Sizes.{reading-long}
 use Rattle.listing.proofs.whole.put_listing.Goals as goal
-
-pub returns-then-text-gt-MAX_INPUT : goal.returns-then-text-gt-MAX_INPUT
-returns-then-text-gt-MAX_INPUT c =
-    let a = c.args in
-    wrote-to (listing a.features a.text.now) (text-long a.features a.text.now c.if-text-gt-MAX_INPUT.true) c.put_bytes.ensures
 
 pub slice_bounds-put_tree-end : goal.slice_bounds-put_tree-end
 slice_bounds-put_tree-end c =
     let a = c.args in
-    given-fits (lent (reading a.features a.text.now) (replicate MAX-TREE 0) _ _ (ap outcome c.in-Value.is) c.parse_notation.ensures)
+    given-fits (lent (reading a.features a.text.now) (replicate MAX-TREE 0) _ _ (ap outcome c.in-Ok.is) c.parse_notation.ensures)
 
-pub put_tree-requires : goal.put_tree-requires
-put_tree-requires c =
+pub returns-in-Ok : goal.returns-in-Ok
+returns-in-Ok c =
     let a = c.args in
-    let g = lent (reading a.features a.text.now) (replicate MAX-TREE 0) _ _ (ap outcome c.in-Value.is) c.parse_notation.ensures in
-    omega (arith, given-long g, length-replicate {0} {A = ℕ} MAX-TREE 0)
-
-pub returns-in-Value : goal.returns-in-Value
-returns-in-Value c =
-    let a = c.args in
-    let g = lent (reading a.features a.text.now) (replicate MAX-TREE 0) _ _ (ap outcome c.in-Value.is) c.parse_notation.ensures in
+    let g = lent (reading a.features a.text.now) (replicate MAX-TREE 0) _ _ (ap outcome c.in-Ok.is) c.parse_notation.ensures in
     wrote-to (listing a.features a.text.now) (text-read a.features a.text.now _ g.list c.if-text-gt-MAX_INPUT.false g.is (given-part g)) c.put_tree.ensures
 
-pub returns-in-Refused : goal.returns-in-Refused
-returns-in-Refused c =
+pub returns-in-Err : goal.returns-in-Err
+returns-in-Err c =
     let a = c.args in
     let r = unlent (reading a.features a.text.now) (replicate MAX-TREE 0) _ _
-    (λ l e. omega (arith, reading-long a.features a.text.now l e, c.if-text-gt-MAX_INPUT.false, length-replicate {0} {A = ℕ} MAX-TREE 0)) (ap outcome c.in-Refused.is) c.parse_notation.ensures in
+    (λ l e. omega (arith, reading-long a.features a.text.now l e, c.if-text-gt-MAX_INPUT.false, length-replicate {0} {A = ℕ} MAX-TREE 0)) (ap outcome c.in-Err.is) c.parse_notation.ensures in
     wrote-to (listing a.features a.text.now) (text-fits a.features a.text.now (refusal _) c.if-text-gt-MAX_INPUT.false r) c.refused_line.ensures

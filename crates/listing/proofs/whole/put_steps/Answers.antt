@@ -2,7 +2,6 @@
 use mathlib.Core.Path.{ap}
 use mathlib.Core.Bool.{false}
 use mathlib.Core.List.{[], ◌++◌}
-use native.Mathlib.Omega.{arith}
 use Rattle.notation.specs.Numbers.{show}
 use Rattle.notation.specs.Packed.{unpack}
 use Rattle.notation.specs.Invert.{undo}
@@ -10,34 +9,15 @@ use Rattle.notation.specs.Print.{put}
 use Rattle.notation.specs.Entries.{outcome, steps}
 use Rattle.notation.specs.Lister.{line, step_lines, steps_part, SHOWN}
 use Rattle.laws.specs.Unrolled.{flat}
-use Rattle.entries.proofs.Stepping.{refused-steps}
 use Rattle.display.proofs.Writing.{wrote_then}
-use Rattle.listing.proofs.Fields.{wrote-to, steps-counted, steps-refused}
+use Rattle.listing.proofs.Fields.{wrote-to, steps-counted}
 use Rattle.listing.proofs.whole.put_steps.Goals as goal
 
-pub overflow_cast-n : goal.overflow_cast-n
-overflow_cast-n c =
-    let counted = c.count_steps.ensures.counted _ (ap outcome c.in-Value.is) in
-    record { fits = omega (arith, counted.most) }
-
-pub step_lines-requires : goal.step_lines-requires
-step_lines-requires c =
-    let counted = c.count_steps.ensures.counted _ (ap outcome c.in-Value.is) in
-    counted
-
-pub returns-in-Value : goal.returns-in-Value
-returns-in-Value c =
+pub returns-in-Ok : goal.returns-in-Ok
+returns-in-Ok c =
     let a = c.args in
     let text = a.text.now in
     let tree = a.tree.now in
-    wrote-to (steps_part text (steps text tree)) (steps-counted text tree c.in-Value.n (c.count_steps.ensures.counted _ (ap outcome c.in-Value.is)))
-    (wrote_then {f = line (put "steps" []) (show c.in-Value.n [])} {g = λ rest. step_lines text SHOWN 0 (flat undo false (unpack tree)) ++ rest}
+    wrote-to (steps_part text (steps text tree)) (steps-counted text tree c.in-Ok.n (c.in-Ok.ensures.counted _ refl))
+    (wrote_then {f = line (put "steps" []) (show c.in-Ok.n [])} {g = λ rest. step_lines text SHOWN 0 (flat undo false (unpack tree)) ++ rest}
     c.number_line-counted.ensures c.step_lines.ensures)
-
-pub returns-in-Refused : goal.returns-in-Refused
-returns-in-Refused c =
-    let a = c.args in
-    let text = a.text.now in
-    let tree = a.tree.now in
-    wrote-to (steps_part text (steps text tree))
-    (steps-refused text tree _ (refused-steps text tree _ c.count_steps.ensures.answer _ (ap outcome c.in-Refused.is) [])) c.refused_line.ensures

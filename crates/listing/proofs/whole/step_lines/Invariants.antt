@@ -1,5 +1,4 @@
 -- Each turn puts a line of what is left. Assumes nothing.
-use Prim.Native.Nat.{◌-◌, ◌≤◌}
 use mathlib.Core.Bool.{false}
 use Rattle.notation.specs.Packed.{unpack}
 use Rattle.notation.specs.Invert.{undo}
@@ -8,7 +7,4 @@ use Rattle.listing.proofs.StepLoop.{Listed}
 use Rattle.listing.proofs.whole.step_lines.Given as goal
 
 abbrev pub invariant-loop-place : goal.invariant-loop-place
-invariant-loop-place l = (l.place ≤ l.end) × Listed l.text (flat undo false (unpack l.tree)) l.initial.printer l.printer l.place
-
-abbrev pub decreases-loop-place : goal.decreases-loop-place
-decreases-loop-place l = l.end - l.place
+invariant-loop-place l = Listed l.text (flat undo false (unpack l.tree)) l.initial.printer l.printer l.place

@@ -1,11 +1,9 @@
--- `vectors::text::spell` is safe, ends, since each segment ends after it starts, and answers no more than `text` has. Assumes nothing.
-use Prim.Native.Nat.{◌≤◌, ◌-◌}
-use mathlib.Core.Path.{◌≡◌}
-use lib.ListN.{length}
+-- `vectors::text::spell` puts no more than `text` has. Assumes nothing.
+use Rattle.std.proofs.Common.{◌≤◌, length}
 use Rattle.vectors.proofs.text.spell.Given as goal
 
-abbrev pub invariant-loop-at : goal.invariant-loop-at
-invariant-loop-at l = (l.at ≤ length l.given) × (l.size ≤ length l.initial.text) × (length l.text ≡ length l.initial.text)
-
-abbrev pub decreases-loop-at : goal.decreases-loop-at
-decreases-loop-at l = length l.given - l.at
+abbrev pub invariant-loop-piece : goal.invariant-loop-piece
+invariant-loop-piece l =
+    (goal.iterator-loop-piece).can_next l.piece-iterator ×
+    (goal.iterator-loop-piece).is_finite l.piece-iterator ×
+    (l.size ≤ length l.text)
