@@ -2,9 +2,10 @@
 use Prim.Native.Nat.{ℕ, ◌+◌, ◌≤◌, ◌<◌}
 use mathlib.Core.Path.{◌≡◌, refl, sym, ap, ◌∙◌}
 use mathlib.Core.List.{List, [], ◌++◌, append_assoc}
+use native.Mathlib.Numerals.{add-one}
 use native.Mathlib.Omega.{arith}
-use lib.ListN.{length, take, drop, set, length-append, take-append-drop}
-use lib.Seq.{paste, take_at, drop_at, drop-drop, length-take-le}
+use lib.ListN.{length, get_or, take, drop, set, length-set, length-append, take-append-drop}
+use lib.Seq.{take_at, drop_at, drop-drop, length-take-le, paste, paste-suc}
 use Rattle.display.specs.Written.{MOST, Wrote}
 use Rattle.display.specs.declared.write.Printer.{Printer}
 

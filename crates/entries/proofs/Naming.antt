@@ -1,11 +1,11 @@
 -- What the entries that name a record come to, case by case. Assumes nothing.
 use Prim.Native.Nat.{ℕ, ◌+◌, ◌-◌, ◌*◌, ◌/◌, ◌≤◌, ◌<◌}
 use mathlib.Core.Path.{◌≡◌, refl, sym, ap, subst}
-use mathlib.Core.Bool.{Bool, true}
+use mathlib.Core.Bool.{Bool, true, false}
 use mathlib.Core.List.{List, []}
 use native.Mathlib.Omega.{arith}
-use borrow.Author.Tests.{le-leb, lt-leb, lt-ltb, le-ltb, eq-eqb, ne_eqb}
-use lib.Dec.{eqb}
+use borrow.Author.Tests.{le-leb, lt-leb, lt-ltb, le-ltb, eq-eqb, ne_eqb, leb-true, leb-false, ltb-true, ltb-false, eqb-true, eqb-false}
+use lib.Dec.{eqb, leb, ltb}
 use lib.ListN.{length, take, drop, length-drop}
 use lib.Seq.{take_all}
 use Rattle.notation.specs.Basics.{pick, between}
@@ -29,6 +29,11 @@ use Rattle.notation.specs.Entries.{
   family,
   family_refusal,
 }
+use Rattle.std.specs.Prelude as code
+use Rattle.std.specs.Result.{result_err}
+use Rattle.notation.specs.declared.refusals.Refusal as refusals
+use Rattle.record.specs.declared.spanned.Span as record'
+use Rattle.entries.specs.Parts.{or_zero, part_outcome}
 use Rattle.record.specs.Meaning.{field, layers_at, kind_at, tilde_at, FAMILY, FAMILY-SIZE}
 use Rattle.record.proofs.Packed.{by-kind}
 use Rattle.laws.proofs.Bools.{and_left, and_right}
@@ -160,6 +165,11 @@ module _ (text tree : List ℕ) (k : ℕ) where
 
   pub family-empty : (r : ℕ) → refusal r ≡ family_span text tree k → [] ≡ family text tree k
   family-empty r e = rw (sym e)
+
+  -- the code's refusal, if there is one
+  pub or-zero-is : (r : code.Result record'.Span refusals.Refusal) → or_zero (result_err r) ≡ refusal_number (part_outcome r)
+  or-zero-is (code.Ok p) = refl
+  or-zero-is (code.Err r) = refl
 
   pub family-number : (o : Outcome Span) → o ≡ family_span text tree k → refusal_number o ≡ family_refusal text tree k
   family-number o e = ap refusal_number e

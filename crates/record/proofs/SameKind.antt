@@ -63,6 +63,21 @@ is-kind k l e t = eqb-true (kind_number k) (kind_number l) (sym (same_kind k l) 
 pub not-kind : (k l : Kind) {r : Bool} → r ≡ sameb the_type k l → r ≡ false → kind_number k ≡ kind_number l → ⊥
 not-kind k l e t = eqb-false (kind_number k) (kind_number l) (sym (same_kind k l) ∙ sym e ∙ t)
 
+-- and after one by `!=`
+pub same : (k l : Kind) {r : Bool} → r ≡ not (sameb the_type k l) → r ≡ false → kind_number k ≡ kind_number l
+same k l e t = eqb-true (kind_number k) (kind_number l) (sym (same_kind k l) ∙ twice (sameb the_type k l) (sym e ∙ t))
+  where
+    twice : (b : Bool) → not b ≡ false → b ≡ true
+    twice true h = refl
+    twice false h = sym h
+
+pub differs : (k l : Kind) {r : Bool} → r ≡ not (sameb the_type k l) → r ≡ true → kind_number k ≡ kind_number l → ⊥
+differs k l e t = eqb-false (kind_number k) (kind_number l) (sym (same_kind k l) ∙ twice (sameb the_type k l) (sym e ∙ t))
+  where
+    twice : (b : Bool) → not b ≡ true → b ≡ false
+    twice true h = sym h
+    twice false h = refl
+
 -- the test itself, by the numbers
 pub test-kind : (k l : Kind) {r : Bool} → r ≡ sameb the_type k l → r ≡ eqb (kind_number k) (kind_number l)
 test-kind k l e = e ∙ same_kind k l

@@ -11,6 +11,9 @@ use Rattle.notation.specs.WellFormed.{layers_ok}
 use Rattle.notation.specs.Entries.{outcome}
 use Rattle.record.specs.Meaning.{layers_at}
 use Rattle.checked.proofs.Outcomes.{handed_on}
+use Rattle.record.specs.Kinds.{kind_number}
+use Rattle.record.specs.declared.kinds.Kind.TheVariants.{Move}
+use Rattle.record.proofs.SameKind.{same, differs}
 use Rattle.entries.proofs.Naming.{
   found,
   accepted-record,
@@ -49,13 +52,13 @@ returns-then-tree-record c =
     let k = c.in_ok-check.ensures.found in
     simplify-none a.text.now a.tree.now a.«record» a.max_layer a.allow_negatives a.out.now k.accepted c.if-max_layer-eq0.false c.if-max_layer-gt-MAX_LAYER.false (omega (arith, c.if-tree-record.true))
 
-pub returns-then-kind-ne-MOVE : goal.returns-then-kind-ne-MOVE
-returns-then-kind-ne-MOVE c =
+pub returns-then-ne : goal.returns-then-ne
+returns-then-ne c =
     let a = c.args in
     let k = c.in_ok-check.ensures.found in
     let less : a.«record» < length a.tree.now / RECORD = omega (arith, c.if-tree-record.false) in
     simplify-no-move a.text.now a.tree.now a.«record» a.max_layer a.allow_negatives a.out.now k.accepted c.if-max_layer-eq0.false c.if-max_layer-gt-MAX_LAYER.false less
-    (no-prefix (found a.tree.now a.«record») c.kind.result c.kind.ensures c.if-kind-ne-MOVE.true)
+    (no-prefix (found a.tree.now a.«record») (kind_number c.kind.result) c.kind.ensures (differs _ Move c.ne.ensures c.if-ne.true))
 
 pub simplify-requires : goal.simplify-requires
 simplify-requires c =
@@ -66,7 +69,7 @@ simplify-requires c =
       layer = record { low = omega (arith, c.if-max_layer-eq0.false); high = c.if-max_layer-gt-MAX_LAYER.false };
       text_len_bound = k.accepted.short;
       layers_value = ap (λ (l : Layers Span). layers_ok a.text.now l) c.layers-layers.ensures
-          ∙ layers-inside (found a.tree.now a.«record») c.kind.result c.kind.ensures a.text.now c.if-kind-ne-MOVE.false ok;
+          ∙ layers-inside (found a.tree.now a.«record») (kind_number c.kind.result) c.kind.ensures a.text.now (same _ Move c.ne.ensures c.if-ne.false) ok;
     }
 
 pub returns : goal.returns
@@ -76,7 +79,7 @@ returns c =
     let less : a.«record» < length a.tree.now / RECORD = omega (arith, c.if-tree-record.false) in
     simplify-move a.text.now a.tree.now a.«record» a.max_layer a.allow_negatives a.out.now k.accepted c.if-max_layer-eq0.false c.if-max_layer-gt-MAX_LAYER.false less
     c.tilde-inverted.result _
-    (some_prefix (found a.tree.now a.«record») c.kind.result c.kind.ensures c.if-kind-ne-MOVE.false
+    (some_prefix (found a.tree.now a.«record») (kind_number c.kind.result) c.kind.ensures (same _ Move c.ne.ensures c.if-ne.false)
     ∙ ap (λ (t : Bool). result (t, layers_at (found a.tree.now a.«record»))) (sym c.tilde-inverted.ensures)
     ∙ ap (λ (l : Layers Span). result (c.tilde-inverted.result, l)) (sym c.layers-layers.ensures))
     _ c.simplify.ensures

@@ -1,5 +1,5 @@
 -- `steps::flatten` meets its contract: each way out is one case of the rule. Assumes nothing.
-use mathlib.Core.Path.{ap}
+use mathlib.Core.Path.{refl}
 use native.Mathlib.Omega.{arith}
 use Rattle.notation.specs.Entries.{outcome}
 use Rattle.checked.proofs.Outcomes.{handed_on}
