@@ -238,7 +238,8 @@ fn all_ascii(s: &[u8], at: usize) -> bool
     a | b | c | d | e | f | g | h <= 0x7f
 }
 
-// Whether the text is well-formed UTF-8.
+// Whether the text is well-formed UTF-8. By the rule's own table: `str::from_utf8` promises std's `IsUtf8`, and no lemma
+// says that it is the rule's `utf8`.
 pub fn is_utf8(s: &[u8]) -> bool
     ensures { result ≡ utf8 s.now }
 {

@@ -71,9 +71,3 @@ repeating-goes-on before size total out i l r h =
         ∙ sym (append_assoc (take i w) (get_or w i 0 ∷ []) (drop (suc i) before))
         ∙ ap (λ (s : List ℕ). s ++ drop (suc i) before) (sym (take-suc w i 0 (omega arith)))
         ∙ ap (λ (m : ℕ). take m w ++ drop m before) (sym (add-one i))
-
-pub repeated : (before : List ℕ) (size total : ℕ) (out : List ℕ) (i : ℕ) → Repeating before size total out i → total ≤ i →
-    (n : ℕ) → total ≤ n * size → out ≡ take total (copies n (take size before)) ++ drop total before
-repeated before size total out i r h n k =
-    let e : i ≡ total = omega (arith, r.most) in
-    r.bytes n k ∙ ap (λ (m : ℕ). take m (copies n (take size before)) ++ drop m before) e

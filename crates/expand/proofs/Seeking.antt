@@ -30,12 +30,12 @@ use Rattle.laws.proofs.ListEntries.{get-append-left, get-append-right}
 use Rattle.laws.specs.Unrolled.{flat_node, flat_body, flat}
 use Rattle.laws.proofs.Counting.{count_node-is}
 use Rattle.laws.specs.Unrolled.{undo_if}
-use Rattle.laws.proofs.Seeking.{undo-none, undo-again, in_repeat, from_end, in-A, in-B, in-A', in-B'}
+use Rattle.laws.proofs.Seeking.{undo-again, in_repeat, from_end, in-A, in-B, in-A', in-B'}
 use Rattle.expand.specs.Meaning.{binary_kind}
 use Rattle.expand.specs.Steps.{Undoable, IsGroup, body_of}
 use Rattle.expand.specs.Places.{step_in, found, Has, Sought}
 use Rattle.nodes.specs.Nodes.{IsNode, part, FirstNode, Lists}
-use Rattle.nodes.proofs.Nodes.{part_length, record-room, node-packed, FirstLeaf, leaf-node}
+use Rattle.nodes.proofs.Nodes.{record-room, node-packed, FirstLeaf, leaf-node}
 use Rattle.expand.proofs.Shapes.{Shape, shape_of, at_least, positive-right, both-within, block-is, group-body, binary-body, steps-are, repeats-some, first_counted, leaf-steps, one-count, one-flat}
 use Rattle.expand.proofs.Steps.{fits-undoable}
 use Rattle.expand.proofs.Undoing.{step-starts, step-undone}
@@ -51,9 +51,6 @@ some-record {list} {place} h = go (length list) refl
 
 pub room : {list : List ℕ} {place : ℕ} → Has list place → RECORD ≤ length list
 room {list} h = record-room list h.packed (some-record h)
-
-pub sought-starts : (tree : List ℕ) (place : ℕ) → Has tree place → Sought (step_in tree place) tree place false
-sought-starts tree place h = record { has = h; step = sym (undo-none (step_in tree place)) }
 
 pub sought-itself : (list : List ℕ) (place : ℕ) (inverted : Bool) → Has list place → Sought (undo_if inverted (step_in list place)) list place inverted
 sought-itself list place inverted h = record { has = h; step = refl }
@@ -273,10 +270,6 @@ module _ {o : Option Leaf} {bs : List ℕ} {k once middle a both remaining : ℕ
   B-few : count (B bs middle) ≤ MAX-STEPS
   B-few = omega (arith, few, p.whole.few)
 
-  -- A' ends where a sum of 64 bits can tell
-  pub sum-few : both + a ≤ 2 * MAX-STEPS
-  sum-few = omega (arith, both_is, few, p.whole.few)
-
   here : get_elem? (flat_body undo false (body_of p.whole.node)) remaining ≡ get_elem? (flat_body undo false (binary_group g (A bs middle) (B bs middle))) remaining
   here = ap (λ (b : Body Leaf). get_elem? (flat_body undo false b) remaining) (body p.whole p.high p.lists)
 
@@ -297,10 +290,6 @@ module _ {o : Option Leaf} {bs : List ℕ} {k once middle a both remaining : ℕ
       last : (g : BinaryGroupKind) → once ≡ count_binary g a (count (B bs middle)) → once - 1 - remaining < count (B bs middle)
       last Commutator e = omega (arith, both_is, p.whole.below)
       last Conjugate e = absurd (omega (arith, both_is, p.whole.below))
-
--- a list of a group is shorter than the list that the group stands in
-pub inside-less : (rest : List ℕ) (e from to : ℕ) → RECORD ≤ from → RECORD ≤ length rest → length (part from to (part 0 e rest)) < length rest
-inside-less rest e from to h i = omega (arith, part_length from to (part 0 e rest), part_length 0 e rest)
 
 -- The step's record, copied, and undone where the direction is inverted.
 copied : (x : Leaf) {from : List ℕ} (step : List ℕ) {s : List ℕ} → from ≡ leaf_record x → s ≡ from ++ drop RECORD step → s ≡ leaf_record x ++ drop RECORD step

@@ -1,17 +1,15 @@
 -- Looking for the step at a place.
-use Rattle.std.specs.Prelude.{ℕ, ◌≤◌, ◌<◌, ◌≡◌, Bool, false, List, [], length}
+use Rattle.std.specs.Prelude.{ℕ, ◌≤◌, ◌<◌, ◌≡◌, Bool, false, List, []}
 use Rattle.std.proofs.Math.Option.{Option, none, some}
 use Rattle.std.proofs.Math.ListN.{get_elem?}
-use Rattle.notation.specs.Basics.{pick}
 use Rattle.notation.specs.Tree.{Leaf}
-use Rattle.notation.specs.Packed.{RECORD, leaf_record, unpack}
+use Rattle.notation.specs.Packed.{leaf_record, unpack}
 use Rattle.notation.specs.Invert.{undo}
 use Rattle.notation.specs.Entries.{MAX-STEPS}
 use Rattle.notation.specs.Counts.{count}
 use Rattle.laws.specs.Packed.{Packed}
 use Rattle.laws.specs.Unrolled.{flat}
 use Rattle.laws.specs.Unrolled.{undo_if}
-use Rattle.nodes.specs.Nodes.{part}
 
 -- the step at a place of what a list unrolls into
 abbrev pub step_in : List ℕ → ℕ → Option Leaf
@@ -21,10 +19,6 @@ step_in list place = get_elem? (flat undo false (unpack list)) place
 abbrev pub found : Option Leaf → List ℕ
 found none = []
 found (some x) = leaf_record x
-
--- the second list of a group, from middle on, or the first, by the group's bytes
-abbrev pub list_of : Bool → ℕ → List ℕ → List ℕ
-list_of second middle group = pick second (part middle (length group) group) (part RECORD middle group)
 
 -- a packed list with a step at the place, and with no more steps than may be counted: what its groups store is the number of their steps
 pub record Has (list : List ℕ) (place : ℕ) : Type 0 where

@@ -128,10 +128,8 @@ fn repeat(out: &mut [u8], size: usize, total: usize)
     ensures { (n : ℕ) → total ≤ n * size → out.new ≡ take total (copies n (take size out.old)) ++
         drop total out.old }
 {
-    let mut i = size;
-    while i < total {
+    for i in size..total {
         out[i] = out[i - size];
-        i += 1;
     }
 }
 
@@ -153,8 +151,8 @@ pub fn turn(steps: &mut [u8])
     }
 }
 
-// The first and the last of two records or more change places, each undone. Both are copied first, since a slice is not
-// read while a part of it is written.
+// The first and the last of two records or more change places, each undone. Both are copied first: `swap_with_slice`
+// exchanges them byte by byte, which takes twice as long.
 fn exchange_ends(steps: &mut [u8])
     requires record_size_in_bounds { record_size + record_size ≤ length steps.old }
     requires starts_record { StartsRecord steps.old × StartsRecord (last_of steps.old) }

@@ -1,29 +1,14 @@
 -- The proof of the cycle of calls {inv_deep_refusal, node_refusal}: a list calls on its nodes, a node on the list inside it, which is shorter.
 -- Assumes nothing.
 use mathlib.Core.Path.{sym, ap, ◌∙◌}
-use native.Mathlib.Omega.{arith}
 use Rattle.laws.specs.Inverted.{deep_refusal}
-use Rattle.nodes.proofs.Nodes.{list-less, node-room, alone}
+use Rattle.nodes.proofs.Nodes.{node-room, alone}
 use Rattle.invert.proofs.Nodes.{node-starts, niss-refused, commutator-refused, leaf-refused}
-use Rattle.invert.proofs.Loops.{looked-none, looked-more, looked-all, deep-latest, front-node, front_long}
+use Rattle.invert.proofs.Loops.{looked-more, looked-all, deep-latest, front-node}
 use Rattle.record.proofs.SameKind.{is-kind, not-kind}
 use Rattle.record.specs.declared.kinds.Kind.TheVariants.{Niss, Commutator}
-use Rattle.record.proofs.KindTests.{leaf-high, no-leaf-low}
+use Rattle.record.proofs.KindTests.{leaf-high}
 use Rattle.invert.proofs.+inv_deep_refusal_node_refusal.Goals as goal
-
-pub inv_deep_refusal-loop-t-init : goal.inv_deep_refusal-loop-t-init
-inv_deep_refusal-loop-t-init t c = looked-none deep_refusal c.args.tree.now c.requires
-
-pub inv_deep_refusal-node_end-e-requires : goal.inv_deep_refusal-node_end-e-requires
-inv_deep_refusal-node_end-e-requires t c = record { packed = c.loop-t.invariant.packed; list_nonzero = c.loop-t-test.true }
-
-pub inv_deep_refusal-slice_bounds-node_refusal-end : goal.inv_deep_refusal-slice_bounds-node_refusal-end
-inv_deep_refusal-slice_bounds-node_refusal-end t c = sym (front_long c.node_end-e.ensures)
-
-pub inv_deep_refusal-node_refusal-requires : goal.inv_deep_refusal-node_refusal-requires
-inv_deep_refusal-node_refusal-requires t c =
-    let step = c.node_end-e.ensures in
-    (omega (arith, front_long step, step.most, c.loop-t.invariant.short, c.decreases), (_, front-node step))
 
 pub inv_deep_refusal-loop-t-preserved : goal.inv_deep_refusal-loop-t-preserved
 inv_deep_refusal-loop-t-preserved t c =
@@ -56,14 +41,8 @@ node_refusal-returns-then-is_leaf t c =
     c.pair_refusal.ensures
     ∙ leaf-refused _ c.requires.1 (leaf-high c.is_leaf.ensures c.if-is_leaf.true)
 
-pub node_refusal-inner_start-m-requires : goal.node_refusal-inner_start-m-requires
-node_refusal-inner_start-m-requires t c =
-    record { node = c.requires; node_bound = no-leaf-low c.is_leaf.ensures c.if-is_leaf.false; no_commutator = λ e. not-kind _ Commutator c.eq-2.ensures c.if-eq-2.false (c.kind-kind.ensures ∙ e) }
-
-pub node_refusal-inv_deep_refusal-requires : goal.node_refusal-inv_deep_refusal-requires
-node_refusal-inv_deep_refusal-requires t c =
-    let law = c.inner_start-m.ensures in
-    (list-less c.args.node.now _ _ _ law.least (node-room c.requires.1) c.decreases, law.packed)
+pub node_refusal-inner_start-m-requires-clause-no_commutator : goal.node_refusal-inner_start-m-requires-clause-no_commutator
+node_refusal-inner_start-m-requires-clause-no_commutator t c = λ e. not-kind _ Commutator c.eq-2.ensures c.if-eq-2.false (c.kind-kind.ensures ∙ e)
 
 pub node_refusal-returns : goal.node_refusal-returns
 node_refusal-returns t c =

@@ -1,19 +1,12 @@
 -- `invert::inv_refusal` meets its contract. The loop's invariant: the refusal of what is left, or else `found`, is the tree's.
 -- Assumes nothing.
 use mathlib.Core.Path.{◌∙◌}
-use Rattle.laws.specs.Inverted.{inv_refusal}
 use Rattle.invert.proofs.Nodes.{packed-starts}
-use Rattle.invert.proofs.Loops.{looked-none, looked-more, looked-all, inv-latest, inv-one}
+use Rattle.invert.proofs.Loops.{looked-more, looked-all, inv-latest, inv-one}
 use Rattle.invert.proofs.inv_refusal.Goals as goal
-
-pub loop-t-init : goal.loop-t-init
-loop-t-init c = looked-none inv_refusal c.args.tree.now c.requires
 
 pub pair_refusal-requires : goal.pair_refusal-requires
 pair_refusal-requires c = packed-starts c.loop-t.t.now c.loop-t.invariant.packed c.loop-t-test.true
-
-pub node_end-e-requires : goal.node_end-e-requires
-node_end-e-requires c = record { packed = c.loop-t.invariant.packed; list_nonzero = c.loop-t-test.true }
 
 pub loop-t-preserved : goal.loop-t-preserved
 loop-t-preserved c =

@@ -1,32 +1,18 @@
 -- `count::count` meets its contract. Assumes nothing.
 use native.Mathlib.Omega.{arith}
-use lib.Dec.{lit≤}
-use Rattle.notation.specs.Packed.{RECORD}
-use Rattle.nodes.proofs.Nodes.{record-room, rest-less, first_of, first_leaf}
+use Rattle.nodes.proofs.Nodes.{record-room, first_of, first_leaf}
 use Rattle.expand.proofs.Shapes.{first-steps, leaf-steps}
-use Rattle.expand.proofs.Counting.{counting-starts, left-few, counted-few, counting-goes-on, counted}
+use Rattle.expand.proofs.Counting.{left-few, counted-few, counting-goes-on, counted}
 use Rattle.expand.proofs.count.count.Goals as goal
-
-pub loop-t-init : goal.loop-t-init
-loop-t-init c = counting-starts _ c.requires.packed c.requires.list_bound
 
 pub is_leaf-requires : goal.is_leaf-requires
 is_leaf-requires c = record-room _ c.loop-t.invariant.packed c.loop-t-test.true
-
-pub overflow_add-steps : goal.overflow_add-steps
-overflow_add-steps c =
-    let leaf = first_leaf c.loop-t.invariant.packed c.loop-t-test.true c.is_leaf.ensures c.if-is_leaf.true in
-    record { fits = omega (arith, counted-few c.loop-t.invariant leaf.first (leaf-steps leaf)) }
 
 pub slice_bounds-t-count : goal.slice_bounds-t-count
 slice_bounds-t-count c = record-room _ c.loop-t.invariant.packed c.loop-t-test.true
 
 pub slice_bounds-t-start : goal.slice_bounds-t-start
 slice_bounds-t-start c = record-room _ c.loop-t.invariant.packed c.loop-t-test.true
-
-pub loop-t-smaller-then-is_leaf : goal.loop-t-smaller-then-is_leaf
-loop-t-smaller-then-is_leaf c =
-    rest-less c.loop-t.t.now RECORD (lit≤ tt) (record-room _ c.loop-t.invariant.packed c.loop-t-test.true)
 
 pub loop-t-preserved-then-is_leaf : goal.loop-t-preserved-then-is_leaf
 loop-t-preserved-then-is_leaf c =
@@ -40,9 +26,6 @@ pub overflow_add-steps-else-is_leaf : goal.overflow_add-steps-else-is_leaf
 overflow_add-steps-else-is_leaf c =
     let first = first_of _ c.loop-t.invariant.packed c.loop-t-test.true in
     record { fits = omega (arith, counted-few c.loop-t.invariant first (first-steps first (left-few c.loop-t.invariant) c.count-steps.ensures)) }
-
-pub loop-t-smaller : goal.loop-t-smaller
-loop-t-smaller c = rest-less c.loop-t.t.now _ c.node_end-end.ensures.least c.node_end-end.ensures.most
 
 pub loop-t-preserved : goal.loop-t-preserved
 loop-t-preserved c =

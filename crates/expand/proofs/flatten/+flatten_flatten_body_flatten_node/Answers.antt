@@ -2,10 +2,10 @@
 -- hands on its nodes, a node itself, and a body its lists, which are shorter. Assumes nothing.
 use mathlib.Core.Logic.{⊎_elim}
 use native.Mathlib.Omega.{arith}
-use lib.Dec.{lit≤}
 use lib.ListN.{length}
 use Rattle.notation.specs.Packed.{RECORD}
-use Rattle.nodes.proofs.Nodes.{part_length, record-room, node-room, rest-less, first_leaf, leaf-record}
+use Rattle.nodes.proofs.Nodes.{part_length, record-room, node-room, first_leaf, leaf-record}
+use Rattle.record.specs.Kinds.{kind_number}
 use Rattle.record.specs.declared.kinds.Kind.TheVariants.{Commutator}
 use Rattle.record.proofs.SameKind.{test-kind}
 use Rattle.record.proofs.KindTests.{single, binary}
@@ -27,11 +27,6 @@ flatten-copy_record-requires t c =
     let leaf = first_leaf c.loop-t.invariant.packed c.loop-t-test.true c.is_leaf.ensures c.if-is_leaf.true in
     record { from_len = leaf-record leaf; record_size_in_bounds = leaf_room leaf (leaf-fits c.loop-t.invariant leaf.first) }
 
-pub flatten-overflow_add-at : goal.flatten-overflow_add-at
-flatten-overflow_add-at t c =
-    let leaf = first_leaf c.loop-t.invariant.packed c.loop-t-test.true c.is_leaf.ensures c.if-is_leaf.true in
-    omega (arith, next_fits c.loop-t.invariant leaf.first (leaf-written leaf c.copy_record.ensures), c.loop-t.invariant.long, c.well_formed)
-
 pub flatten-slice_bounds-t-count : goal.flatten-slice_bounds-t-count
 flatten-slice_bounds-t-count t c =
     record-room _ c.loop-t.invariant.packed c.loop-t-test.true
@@ -39,10 +34,6 @@ flatten-slice_bounds-t-count t c =
 pub flatten-slice_bounds-t-start : goal.flatten-slice_bounds-t-start
 flatten-slice_bounds-t-start t c =
     record-room _ c.loop-t.invariant.packed c.loop-t-test.true
-
-pub flatten-loop-t-smaller-then-is_leaf : goal.flatten-loop-t-smaller-then-is_leaf
-flatten-loop-t-smaller-then-is_leaf t c =
-    rest-less c.loop-t.t.now RECORD (lit≤ tt) (record-room _ c.loop-t.invariant.packed c.loop-t-test.true)
 
 pub flatten-loop-t-preserved-then-is_leaf : goal.flatten-loop-t-preserved-then-is_leaf
 flatten-loop-t-preserved-then-is_leaf t c =
@@ -62,10 +53,6 @@ pub flatten-overflow_add-at-then-count-ne0 : goal.flatten-overflow_add-at-then-c
 flatten-overflow_add-at-then-count-ne0 t c =
     omega (arith, next_fits c.loop-t.invariant c.node_end-end.ensures (node-written c.node_end-end.ensures.is_node c.flatten_node-size.ensures), c.loop-t.invariant.long, c.well_formed)
 
-pub flatten-loop-t-smaller : goal.flatten-loop-t-smaller
-flatten-loop-t-smaller t c =
-    rest-less c.loop-t.t.now _ c.node_end-end.ensures.least c.node_end-end.ensures.most
-
 pub flatten-loop-t-preserved : goal.flatten-loop-t-preserved
 flatten-loop-t-preserved t c =
     ⊎_elim
@@ -73,18 +60,11 @@ flatten-loop-t-preserved t c =
     (λ w. flattening-carried w.out-is w.at-is (flattening-passes c.loop-t.invariant c.node_end-end.ensures c.count.ensures w.if-count-ne0.false))
     c.if-count-ne0.branch-raw
 
-pub flatten-shape_of-out : goal.flatten-shape_of-out
-flatten-shape_of-out t c = c.loop-t.invariant.long
-
 pub flatten-returns : goal.flatten-returns
 flatten-returns t c = flattened c.loop-t.invariant c.loop-t-test.false
 
 pub flatten_body-kind-kind-requires : goal.flatten_body-kind-kind-requires
 flatten_body-kind-kind-requires t c = node-room c.requires.group.is_node
-
-pub flatten_body-first_end-middle-requires : goal.flatten_body-first_end-middle-requires
-flatten_body-first_end-middle-requires t c =
-    (c.requires.group.node, c.requires.group.is_node)
 
 pub flatten_body-flatten-a-requires : goal.flatten_body-flatten-a-requires
 flatten_body-flatten-a-requires t c = (

@@ -1,10 +1,6 @@
 -- `flatten::repeat` meets its contract. Assumes nothing.
-use Prim.Native.Nat.{◌-◌}
 use Rattle.expand.proofs.Repeating.{Repeating}
 use Rattle.expand.proofs.flatten.repeat.Given as goal
 
 abbrev pub invariant-loop-i : goal.invariant-loop-i
 invariant-loop-i l = Repeating l.initial.out l.size l.total l.out l.i
-
-abbrev pub decreases-loop-i : goal.decreases-loop-i
-decreases-loop-i l = l.total - l.i

@@ -1,9 +1,6 @@
 -- `flatten::turn_if` meets its contract. Assumes nothing.
-use Rattle.expand.proofs.Completing.{contents-as_steps, turned-written, kept-written}
+use Rattle.expand.proofs.Completing.{turned-written, kept-written}
 use Rattle.expand.proofs.flatten.turn_if.Goals as goal
-
-pub turn-requires : goal.turn-requires
-turn-requires c = contents-as_steps c.requires
 
 pub returns-then-inverted : goal.returns-then-inverted
 returns-then-inverted c = turned-written c.requires c.if-inverted.true c.turn.ensures
