@@ -6,7 +6,7 @@ ghost use Rattle.record.specs.Range.{FitsSpan};
 
 use crate::fields;
 use crate::kinds::LayerForm;
-use crate::spanned::{LayerPrefixContents, Move, Rotation, Span};
+use crate::spanned::{LayerPrefixContents, Move, NOWHERE, Rotation, Span};
 
 // What a record of a rotation says.
 pub fn rotation(t: &[u8]) -> Rotation
@@ -40,11 +40,7 @@ fn family_at(p: Span) -> Span
     ensures result_value { meaning.span result ≡ family_at p.offset p.size }
     ensures fits_span { FitsSpan (meaning.span result) }
 {
-    if p.size == 0 {
-        Span { offset: 0, size: 0 }
-    } else {
-        p
-    }
+    if p.size == 0 { NOWHERE } else { p }
 }
 
 // The family of a move or a rotation.

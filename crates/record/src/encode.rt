@@ -9,10 +9,8 @@ ghost use Rattle.record.specs.Meaning as meaning;
 
 use crate::fields;
 use crate::kinds::{Kind, LayerForm};
-use crate::spanned::{LayerPrefixContents, Move, Rotation, Span};
+use crate::spanned::{LayerPrefixContents, Move, NOWHERE, Rotation, Span};
 use notation::common::{BinaryGroupKind, GroupKind, MegaminxScrambleMove};
-
-const NOWHERE: Span = Span { offset: 0, size: 0 };
 
 // The step count of a leaf.
 pub const LEAF: u64 = 1;

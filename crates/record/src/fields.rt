@@ -1,4 +1,6 @@
 // The fields of the first record of a slice, read and written one by one. Only here is it looked up where a field stands.
+// Each field has functions of its own: its type and its clause go by the field, so that one function with the field as a
+// parameter would need a cast and a case for each of them.
 ghost use Rattle.std.specs.Prelude.{◌≡◌, ◌+◌, ◌/◌, ◌%◌, ◌≤◌, length, take, drop, ◌&&◌, eqb, ltb};
 ghost use Rattle.std.proofs.lemmas.List.Edits.{sets};
 ghost use Rattle.notation.specs.Numbers.{big_endian, from_big_endian};
@@ -11,8 +13,7 @@ ghost use Rattle.record.specs.Meaning.{kind_at, tilde_at, form_at, present_at};
 ghost use Rattle.record.specs.Meaning.{SMALL, FIRST, SECOND, NUMBER, OTHER, FAMILY, CONSTRAINTS, LAYER-SET, COUNT};
 
 use crate::kinds::{Kind, LayerForm};
-use crate::layout;
-use crate::layout::{COUNT_BYTES, LIST_BYTES, NUMBER_BYTES, PLACE_BYTES};
+use crate::layout::{self, COUNT_BYTES, LIST_BYTES, NUMBER_BYTES, PLACE_BYTES};
 use crate::spanned::Span;
 use numbers::big_endian::{read, write};
 
@@ -164,7 +165,8 @@ pub fn counts_one(t: &[u8]) -> bool
     read::<4>(t, layout::COUNT) == 0 && read::<1>(t, layout::COUNT + 4) == 1
 }
 
-// Whether both fields from `at` on, of three bytes each, are 0.
+// Whether both fields from `at` on, of three bytes each, are 0. To read the part of the text and to compare it with the
+// empty one takes twice as many instructions.
 fn both_zero(t: &[u8], at: usize) -> bool
     requires { at + (place_width + place_width) ≤ length t.now }
     ensures { result

@@ -55,6 +55,7 @@ impl Kind {
         }
     }
 
+    // Its number.
     pub fn number(self) -> u8
         ensures value { result ≡ kind_number self }
         ensures bound { result < 16 }
@@ -154,6 +155,7 @@ impl LayerForm {
         }
     }
 
+    // Its number.
     pub fn number(self) -> u8
         ensures value { result ≡ form_number self }
         ensures bound { result < 4 }

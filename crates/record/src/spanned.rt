@@ -8,6 +8,9 @@ pub struct Span {
     pub size: u32,
 }
 
+// The part that stands for none.
+pub const NOWHERE: Span = Span { offset: 0, size: 0 };
+
 // The layers before a move's family.
 #[derive(Clone, Copy)]
 pub enum LayerPrefixContents {
