@@ -18,7 +18,7 @@ loop-i-init c =
 pub returns-then-high-i : goal.returns-then-high-i
 returns-then-high-i c =
     let kept = c.loop-i.invariant in
-    record { ordered = kept.0; run = sym kept.3 ∙ ends _ _ c.loop-i.high c.loop-i.i kept.2 c.if-high-i.true }
+    record { ordered = kept.0; run = sym kept.3 ∙ ends _ _ c.loop-i.high c.loop-i.i kept.2 (omega (arith, c.if-high-i.true)) }
 
 pub loop-i-preserved : goal.loop-i-preserved
 loop-i-preserved c =
