@@ -6,11 +6,10 @@ use mathlib.Core.Logic.{◌⊎◌, inl, inr, ⊎_elim}
 use mathlib.Core.List.{List, ◌∷◌, ◌++◌}
 use mathlib.Core.Option.{Option, none, some}
 use native.Mathlib.Omega.{arith}
-use borrow.Author.Tests.{leb-true, ne_eqb}
+use borrow.Author.Tests.{ne_eqb}
 use lib.Arith.{lt_of_le-ne}
 use lib.Dec.{leb, eqb}
 use lib.IntN.{ℤ}
-use lib.ListN.{length, take, drop}
 use Rattle.notation.specs.Basics.{pick}
 use Rattle.notation.specs.Chars.{is_family_char}
 use Rattle.notation.specs.Utf8.{run}

@@ -1,6 +1,6 @@
 -- What a node and a list of nodes print, by their bytes. Assumes nothing.
 use Prim.Native.Nat.{ℕ, ◌/◌, ◌≤◌, ◌<◌}
-use mathlib.Core.Path.{◌≡◌, refl, sym, ap, ◌∙◌, subst}
+use mathlib.Core.Path.{◌≡◌, sym, ap, ◌∙◌, subst}
 use mathlib.Core.Bool.{true, ◌&&◌}
 use mathlib.Core.List.{List, ◌∷◌}
 use native.Mathlib.Omega.{arith}
@@ -37,7 +37,7 @@ use Rattle.nodes.proofs.Nodes.{
   leaf-node,
   leaf-head,
 }
-use Rattle.display.specs.Written.{MOST, Wrote}
+use Rattle.display.specs.Written.{Wrote}
 use Rattle.display.specs.declared.write.Printer.{Printer}
 use Rattle.display.specs.Nodes.{GoodNode, GoodLeaf}
 use Rattle.display.proofs.Writing.{wrote_none, wrote_as, wrote_then}

@@ -1,8 +1,8 @@
 -- Signed numbers and multipliers by their sign and magnitude. Assumes nothing.
-use Prim.Native.Nat.{ℕ, suc}
-use mathlib.Core.Path.{◌≡◌, sym, ◌∙◌}
-use mathlib.Core.Bool.{Bool, true, false}
-use mathlib.Core.List.{List, ◌∷◌}
+use Prim.Native.Nat.{ℕ}
+use mathlib.Core.Path.{◌≡◌}
+use mathlib.Core.Bool.{Bool}
+use mathlib.Core.List.{◌∷◌}
 use borrow.Author.Tests.{eq-eqb, ne_eqb}
 use lib.Dec.{eqb}
 use lib.IntN.{ℤ, pos, negsuc, nat_abs}
@@ -10,7 +10,6 @@ use Rattle.notation.specs.Basics.{pick}
 use Rattle.notation.specs.Numbers.{show, show_signed}
 use Rattle.notation.specs.Print.{put_multiplier}
 use Rattle.numbers.specs.Sign.{is_negative}
-use Rattle.laws.proofs.Bools.{false-true}
 use Rattle.display.specs.Written.{Wrote}
 use Rattle.display.specs.declared.write.Printer.{Printer}
 

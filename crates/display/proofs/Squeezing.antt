@@ -48,7 +48,7 @@ use Rattle.laws.proofs.Readers.{not-read, pick-read, run-le}
 use Rattle.laws.proofs.Runs.{run_alone}
 use Rattle.laws.proofs.Braces.{just-read}
 use Rattle.laws.proofs.ReadBack.Starts.{fails, no_run, Whole, end, skip, char, family-whole, name-no-white}
-use Rattle.display.specs.Written.{MOST, Wrote}
+use Rattle.display.specs.Written.{Wrote}
 use Rattle.display.specs.declared.write.Printer.{Printer}
 use Rattle.display.specs.Squeezed.{squeezed_from, squeezed}
 use Rattle.display.proofs.Writing.{wrote_none, wrote_then, wrote_as}

@@ -1,15 +1,13 @@
 -- Printers one after the other: writing one thing and then another writes both. Assumes nothing.
-use Prim.Native.Nat.{ℕ, suc, ◌+◌, ◌-◌, ◌≤◌, ◌<◌, min}
+use Prim.Native.Nat.{ℕ, ◌+◌, ◌≤◌, ◌<◌}
 use mathlib.Core.Path.{◌≡◌, refl, sym, ap, ◌∙◌}
-use mathlib.Core.List.{List, [], ◌∷◌, ◌++◌, append_assoc, append-nil}
+use mathlib.Core.List.{List, [], ◌++◌, append_assoc}
 use native.Mathlib.Numerals.{add-one}
 use native.Mathlib.Omega.{arith}
 use lib.ListN.{length, get_or, take, drop, set, length-set, length-append, take-append-drop}
-use lib.Seq.{take_at, drop_at, drop-drop, get_or-take, get_or-drop, length-take-le, take-length, set_split, paste, paste-zero, paste-suc, length-paste}
+use lib.Seq.{take_at, drop_at, drop-drop, length-take-le, paste, paste-suc}
 use Rattle.display.specs.Written.{MOST, Wrote}
 use Rattle.display.specs.declared.write.Printer.{Printer}
-use Rattle.nodes.specs.Nodes.{part}
-use Rattle.nodes.proofs.Nodes.{length_part}
 
 -- nothing
 pub wrote_none : (p : Printer) → Wrote p p (λ rest. rest)

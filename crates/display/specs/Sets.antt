@@ -1,5 +1,5 @@
 -- Layer sets in braces: what follows an element.
-use Rattle.std.specs.Prelude.{ℕ, ◌≡◌, true, List, [], ◌∷◌, drop}
+use Rattle.std.specs.Prelude.{ℕ, ◌≡◌, List, [], ◌∷◌, drop}
 use Rattle.notation.specs.Grammar.{read, Reader, and_then, just, whitespace, padded, more_of}
 
 -- these elements follow at `at`, and then the brace that ends the part; the fuel is some that suffices

@@ -1,6 +1,5 @@
 -- `bound::fits` meets its contract: only where all records were counted off does it say that the text fits. Assumes nothing.
 use native.Mathlib.Omega.{arith}
-use Rattle.laws.proofs.Bools.{false-true}
 use Rattle.display.proofs.Sure.{going-starts, going-room, going_on, going-shorter, going-all}
 use Rattle.display.proofs.bound.fits.Goals as goal
 
@@ -10,11 +9,8 @@ loop-t-init c = going-starts c.args.tree.now c.args.room c.requires
 pub layer_form-requires : goal.layer_form-requires
 layer_form-requires c = going-room c.loop-t.invariant c.loop-t-test.true
 
-pub allowance-size-requires : goal.allowance-size-requires
-allowance-size-requires c = going-room c.loop-t.invariant c.loop-t-test.true
-
-pub returns-then-left-size : goal.returns-then-left-size
-returns-then-left-size c = λ e. absurd (false-true e)
+pub allowance-requires : goal.allowance-requires
+allowance-requires c = going-room c.loop-t.invariant c.loop-t-test.true
 
 pub slice_bounds-t-count : goal.slice_bounds-t-count
 slice_bounds-t-count c = going-room c.loop-t.invariant c.loop-t-test.true
@@ -27,7 +23,8 @@ loop-t-smaller c = going-shorter c.loop-t.invariant c.loop-t-test.true
 
 pub loop-t-preserved : goal.loop-t-preserved
 loop-t-preserved c =
-    going_on c.loop-t.invariant c.loop-t-test.true c.layer_form.ensures (omega arith) c.allowance-size.ensures c.if-left-size.false
+    let less = rw c.in-Some.is at c.checked_sub.ensures in
+    rw less.1 (going_on c.loop-t.invariant c.loop-t-test.true c.layer_form.ensures (omega arith) c.allowance.ensures less.0)
 
 pub returns : goal.returns
 returns c =

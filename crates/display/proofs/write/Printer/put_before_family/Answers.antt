@@ -1,6 +1,5 @@
 -- By the kind, and by the layers. Assumes nothing.
 use mathlib.Core.Path.{◌∙◌}
-use native.Mathlib.Omega.{arith}
 use Rattle.display.proofs.Writing.{wrote_then}
 use Rattle.display.proofs.Leaves.{rotation-before, move-before, no-layers}
 use Rattle.display.proofs.write.Printer.put_before_family.Goals as goal

@@ -1,9 +1,8 @@
 -- The digits fill an array from its end, and the part that they fill is copied. Assumes nothing.
-use Prim.Native.Nat.{ℕ, ◌+◌}
+use Prim.Native.Nat.{ℕ}
 use native.Mathlib.Omega.{arith}
 use mathlib.Core.Path.{refl, ap, ◌∙◌}
 use mathlib.Core.List.{List, ◌++◌}
-use lib.ListN.{length-set}
 use Rattle.notation.specs.Numbers.{show}
 use Rattle.display.proofs.Writing.{wrote_as}
 use Rattle.display.proofs.Decimals.{all_left, more_left, one_less, none_left, show-adds}

@@ -1,5 +1,4 @@
 -- One after the other. Assumes nothing.
-use mathlib.Core.Path.{◌≡◌}
 use Rattle.display.proofs.Writing.{wrote_then}
 use Rattle.display.proofs.Leaves.{family-ok, transform-as}
 use Rattle.display.proofs.write.Printer.put_transform.Goals as goal
