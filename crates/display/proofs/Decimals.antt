@@ -1,13 +1,18 @@
--- Decimal digits, the last one behind the others. Assumes nothing.
-use Prim.Native.Nat.{ℕ, zero, suc, ◌+◌, ◌/◌, ◌%◌, ◌^◌, ◌≤◌, ◌<◌}
-use mathlib.Core.Path.{◌≡◌, refl, sym, ◌∙◌}
-use mathlib.Core.Bool.{Bool, true, false}
-use mathlib.Core.List.{List, ◌∷◌}
+-- Decimal digits found from the last one on. Assumes nothing.
+use Prim.Native.Nat.{ℕ, zero, suc, ◌+◌, ◌-◌, ◌/◌, ◌%◌, ◌^◌, ◌≤◌, ◌<◌}
+use mathlib.Core.Path.{◌≡◌, sym, ap, ◌∙◌}
+use mathlib.Core.List.{List, [], ◌∷◌, ◌++◌}
 use native.Mathlib.Omega.{arith}
 use native.Mathlib.Nat.{pow-suc}
-use borrow.Author.Tests.{lt-ltb, le-ltb, ltb-true, ltb-false}
-use lib.Dec.{ltb}
+use borrow.Author.Tests.{lt-ltb, le-ltb}
+use lib.ListN.{length, take, drop, set, length-set, length-drop, drop_of_length-le}
+use lib.Seq.{set_split, drop_at, length-take-le, take_all}
 use Rattle.notation.specs.Numbers.{show_from, show}
+use Rattle.laws.proofs.ReadBack.Numbers.{show-apart}
+
+-- the digits stand in front of what follows
+pub show-adds : (n : ℕ) (rest : List ℕ) → show n [] ++ rest ≡ show n rest
+show-adds n rest = sym (show-apart 10 n rest)
 
 show-last : (k n : ℕ) (rest : List ℕ) → n < 10 → show_from (suc k) n rest ≡ (48 + n) ∷ rest
 unfolding show_from
@@ -20,20 +25,54 @@ show-more : (k n : ℕ) (rest : List ℕ) → 10 ≤ n → show_from (suc k) n r
 unfolding show_from
 show-more k n rest h = rw (le-ltb n 10 h)
 
--- more digits than enough change nothing
-show-enough : (k n : ℕ) (rest : List ℕ) → n < 10 ^ suc k → show_from (suc k) n rest ≡ show_from (suc (suc k)) n rest
-show-enough zero n rest h =
-    let l : n < 10 = omega arith in
-    show-last 0 n rest l ∙ sym (show-last 1 n rest l)
-show-enough (suc k) n rest h = go (ltb n 10) refl (show-enough k (n / 10) ((48 + n % 10) ∷ rest) (omega (arith, pow-suc 10 (suc k))))
-  where
-    go : (t : Bool) → ltb n 10 ≡ t → show_from (suc k) (n / 10) ((48 + n % 10) ∷ rest) ≡ show_from (suc (suc k)) (n / 10) ((48 + n % 10) ∷ rest) →
-        show_from (suc (suc k)) n rest ≡ show_from (suc (suc (suc k))) n rest
-    go true e f = let l : n < 10 = ltb-true n 10 e in show-last (suc k) n rest l ∙ sym (show-last (suc (suc k)) n rest l)
-    go false e f =
-        let l : 10 ≤ n = ltb-false n 10 e in
-        show-more (suc k) n rest l ∙ f ∙ sym (show-more (suc (suc k)) n rest l)
+-- from a store on
+stored : (l : List ℕ) (i a : ℕ) → i < length l → drop i (set l i a) ≡ a ∷ drop (suc i) l
+stored l i a h = ap (drop i) (set_split l i a h) ∙ drop_at (take i l) (a ∷ drop (suc i) l) i (length-take-le i l (omega arith))
 
--- the last digit stands behind the others
-pub show-tens : (n : ℕ) (rest : List ℕ) → 10 ≤ n → n < 4294967296 → show (n / 10) ((48 + n % 10) ∷ rest) ≡ show n rest
-show-tens n rest l h = sym (show-more 9 n rest l ∙ show-enough 8 (n / 10) ((48 + n % 10) ∷ rest) (omega arith))
+-- what the loop keeps: i + 1 places are left for the digits of `rest`, and the others hold those after them
+pub record Left (digits : List ℕ) (rest i : ℕ) (whole : List ℕ) : Type 0 where
+  pub short : i ≤ 9
+  pub long : length digits ≡ 10
+  pub room : rest < 10 ^ suc i
+  pub shows : show_from (suc i) rest (drop (suc i) digits) ≡ whole
+
+pub all_left : (digits : List ℕ) (n : ℕ) → length digits ≡ 10 → n < 4294967296 → Left digits n 9 (show n [])
+all_left digits n l h =
+    record {
+      short = omega arith;
+      long = l;
+      room = omega arith;
+      shows = ap (show_from 10 n) (drop_of_length-le digits {i = 10} (omega arith));
+    }
+
+module _ {digits : List ℕ} {rest i : ℕ} {whole : List ℕ} (w : Left digits rest i whole) where
+  -- one more digit
+  pub more_left : 10 ≤ rest → 1 ≤ i
+  more_left h = go i w.room
+    where
+      go : (i : ℕ) → rest < 10 ^ suc i → 1 ≤ i
+      go zero r = absurd (omega arith)
+      go (suc i) r = omega arith
+
+  pub one_less : 10 ≤ rest → Left (set digits i (48 + rest % 10)) (rest / 10) (i - 1) whole
+  one_less h =
+      let e : i ≡ suc (i - 1) = omega (arith, more_left h) in
+      let r : rest < 10 ^ suc (suc (i - 1)) = rw e at w.room in
+      record {
+        short = omega (arith, w.short);
+        long = length-set digits i (48 + rest % 10) ∙ w.long;
+        room = omega (arith, pow-suc 10 (suc (i - 1)));
+        shows =
+            ap (λ (k : ℕ). show_from k (rest / 10) (drop k (set digits i (48 + rest % 10)))) (sym e)
+            ∙ ap (show_from i (rest / 10)) (stored digits i (48 + rest % 10) (omega (arith, w.long, w.short)))
+            ∙ sym (show-more i rest (drop (suc i) digits) h)
+            ∙ w.shows;
+      }
+
+  -- the last digit, and the part from it on
+  pub none_left : rest < 10 → take (10 - i) (drop i (set digits i (48 + rest))) ≡ whole
+  none_left h =
+      take_all (10 - i) (drop i (set digits i (48 + rest))) (omega (arith, length-drop i (set digits i (48 + rest)), length-set digits i (48 + rest), w.long))
+      ∙ stored digits i (48 + rest) (omega (arith, w.long, w.short))
+      ∙ sym (show-last i rest (drop (suc i) digits) h)
+      ∙ w.shows

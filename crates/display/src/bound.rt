@@ -11,7 +11,7 @@ use numbers::signed::magnitude;
 use record::kinds::LayerForm;
 use record::{Kind, RECORD, fields};
 
-// `size` where the test holds.
+// `size` where the test holds. Four sums over `if` and `else` would be no plainer.
 fn extra(test: bool, size: usize) -> usize
     ensures value { result ≡ pick test size 0 }
     ensures upper_bound { result ≤ size }
@@ -48,11 +48,10 @@ pub fn fits(tree: &[u8], room: usize) -> bool
         if fields::layer_form(t) == LayerForm::Set {
             return false;
         }
-        let size = allowance(t);
-        if left < size {
+        let Some(rest) = left.checked_sub(allowance(t)) else {
             return false;
-        }
-        left -= size;
+        };
+        left = rest;
         t = &t[RECORD..];
     }
     true

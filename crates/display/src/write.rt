@@ -81,17 +81,24 @@ impl<'a> Printer<'a> {
         if n < 10 {
             return self.put(b'0' + n as u8);
         }
-        self.put_digits(n / 10).put(b'0' + (n % 10) as u8)
+        self.put_long_number(n)
     }
 
-    // Puts the digits of a number, the last one after the others. It calls itself, so it is not put into its callers.
-    fn put_digits(self, n: u32) -> Printer<'a>
+    // Puts a number whose digits are found from the last one on. To call itself for the digits before the last one takes
+    // twice as many instructions.
+    fn put_long_number(self, n: u32) -> Printer<'a>
         ensures { Wrote self.entry result (show n) }
     {
-        if n < 10 {
-            return self.put(b'0' + n as u8);
+        let mut digits = [0u8; 10];
+        let mut i = 9;
+        let mut rest = n;
+        while 10 <= rest {
+            digits[i] = b'0' + (rest % 10) as u8;
+            rest /= 10;
+            i -= 1;
         }
-        self.put_digits(n / 10).put(b'0' + (n % 10) as u8)
+        digits[i] = b'0' + rest as u8;
+        self.put_bytes(&digits[i..])
     }
 
     // Puts a number given by its 32 bits.
