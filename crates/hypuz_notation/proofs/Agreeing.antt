@@ -31,7 +31,8 @@ use Rattle.notation.specs.Entries.{
 }
 use Rattle.notation.specs.Demands.{Gives, Agrees, Demand3, printed_inverse, tree_back}
 use Rattle.notation.specs.declared.features.Features.{Features}
-use Rattle.notation.specs.declared.answer.Answer.{Answer}
+use Rattle.std.specs.Prelude.{Result}
+use Rattle.notation.specs.declared.refusals.Refusal.{Refusal}
 use Rattle.record.proofs.RoundTrip.{length-head_record}
 use Rattle.laws.proofs.DemandThree.{theorem}
 use Rattle.hypuz_notation.specs.declared.agreement.Agreement.{Agreement}
@@ -61,7 +62,7 @@ gives-is o l g = go o (g l (omega arith))
             sym (take_at m (drop (length m) l) (length l) n) ∙ ap (take (length l)) b ∙ take_at l (drop (length l) l) (length l) refl)
 
 -- the used part of a buffer that was written
-front-is : (a : Answer) (buffer after l : List ℕ) → lent a after ≡ filled l buffer → front a after ≡ l
+front-is : (a : Result ℕ Refusal) (buffer after l : List ℕ) → lent a after ≡ filled l buffer → front a after ≡ l
 front-is a buffer after l e =
     let n : value (outcome a) ≡ length l = ap (λ x. value x.answer) e in
     let b : after ≡ l ++ drop (length l) buffer = ap (λ x. x.buffer) e in
@@ -126,7 +127,7 @@ module _ {f : Features} {text : List ℕ} {k : ℕ} {r : Agreement} {before afte
   recount-is = run.recounts ∙ ap₂ (λ (l m : List ℕ). count_steps l m) text-is tree-back ∙ g.count_back
 
   -- a step that is sought, in a buffer with room for its record
-  found : (x : Leaf) (answer : Answer) (buffer buffer' : List ℕ) {entry : List ℕ → Lent ℕ} → lent answer buffer' ≡ entry buffer →
+  found : (x : Leaf) (answer : Result ℕ Refusal) (buffer buffer' : List ℕ) {entry : List ℕ → Lent ℕ} → lent answer buffer' ≡ entry buffer →
       Gives entry (leaf_record x) → Found x answer buffer buffer'
   found x answer buffer buffer' e h room =
       e ∙ h buffer (omega (arith, length-head_record (leaf_head x)))

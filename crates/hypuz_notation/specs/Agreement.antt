@@ -1,5 +1,5 @@
 -- Demand 3 of what the entries returned, in lent buffers.
-use Rattle.std.specs.Prelude.{ℕ, suc, ◌-◌, ◌≤◌, ◌≡◌, List, ◌++◌, length, take, drop}
+use Rattle.std.specs.Prelude.{ℕ, suc, ◌-◌, ◌≤◌, ◌≡◌, List, ◌++◌, length, take, drop, Result}
 use Rattle.std.proofs.Math.Option.{some}
 use Rattle.std.proofs.Math.ListN.{get_elem?}
 use Rattle.notation.specs.Refusals.{result}
@@ -12,7 +12,7 @@ use Rattle.notation.specs.Entries as rule
 use Rattle.notation.specs.Entries.{outcome, value, lent, parse_notation, inv_entry, display_entry, count_steps, seek_step, MAX-TEXT}
 use Rattle.notation.specs.Demands.{Unrollable, printed_inverse, tree_back, AtMost}
 use Rattle.notation.specs.declared.features.Features.{Features}
-use Rattle.notation.specs.declared.answer.Answer.{Answer}
+use Rattle.notation.specs.declared.refusals.Refusal.{Refusal}
 use Rattle.hypuz_notation.specs.declared.agreement.Agreement.{Agreement}
 
 -- The bytes of the buffers lent: for the text's tree, the inverse, that as text, that text's tree, the step at the place and the
@@ -26,7 +26,7 @@ pub record Buffers : Type 0 where
   pub undone : List ℕ
 
 -- the part of a buffer that an answer says is used
-abbrev pub front : Answer → List ℕ → List ℕ
+abbrev pub front : Result ℕ Refusal → List ℕ → List ℕ
 front a buffer = take (value (outcome a)) buffer
 
 -- Which rule each answer is of, and with it the buffer after the run: each entry took what the one before it had written.
@@ -52,7 +52,7 @@ pub record Assumed (f : Features) (text tree : List ℕ) (list : List Leaf) (bef
   pub room_back : AtMost (length before.back) (tree_back f text tree)
 
 -- a step is found: in a buffer that has room for a record its record takes the front, and the rest stays
-abbrev pub Found : Leaf → Answer → List ℕ → List ℕ → Type 0
+abbrev pub Found : Leaf → Result ℕ Refusal → List ℕ → List ℕ → Type 0
 Found x a before after =
     RECORD ≤ length before → lent a after ≡ record { answer = result RECORD; buffer = leaf_record x ++ drop RECORD before }
 

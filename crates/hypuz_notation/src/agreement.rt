@@ -4,31 +4,31 @@ ghost use Rattle.notation.specs.Entries as rule;
 ghost use Rattle.hypuz_notation.specs.Agreement.{Agreed};
 
 use entries::{count_steps, display, inv, seek_step};
-use notation::answer::Answer;
 use notation::features::Features;
+use notation::refusals::Refusal;
 use parse::parse_notation;
 
 // What each entry answered.
-#[derive(Drop)]
+#[derive(Clone, Copy, Debug, PartialEq, Eq)]
 pub struct Agreement {
     // Reading the text, its shallow inverse, that printed, and that read back under the same setting.
-    pub read: Answer,
-    pub inverse: Answer,
-    pub printed: Answer,
-    pub back: Answer,
+    pub read: Result<u64, Refusal>,
+    pub inverse: Result<u64, Refusal>,
+    pub printed: Result<u64, Refusal>,
+    pub back: Result<u64, Refusal>,
     // The steps of the text and those of the inverse read back.
-    pub count: Answer,
-    pub recount: Answer,
+    pub count: Result<u64, Refusal>,
+    pub recount: Result<u64, Refusal>,
     // The step at the place, and the one as far from the end of the inverse read back.
-    pub step: Answer,
-    pub undone: Answer,
+    pub step: Result<u64, Refusal>,
+    pub undone: Result<u64, Refusal>,
 }
 
 // The part of a buffer that an answer says is used.
-fn front(answer: Answer, buffer: &[u8]) -> &[u8]
+fn front(answer: Result<u64, Refusal>, buffer: &[u8]) -> &[u8]
     ensures { result.now ≡ take (rule.value (rule.outcome answer)) buffer.now }
 {
-    let Answer::Value(n) = answer else {
+    let Ok(n) = answer else {
         return &buffer[0..0];
     };
     let size = n as usize;
@@ -39,16 +39,13 @@ fn front(answer: Answer, buffer: &[u8]) -> &[u8]
 }
 
 // As far from the end as the place is from the start.
-fn from_end(count: Answer, place: u64) -> u64
+fn from_end(count: Result<u64, Refusal>, place: u64) -> u64
     ensures { result ≡ rule.value (rule.outcome count) - suc place }
 {
-    let Answer::Value(n) = count else {
-        return 0;
-    };
-    if n <= place {
-        return 0;
+    match count {
+        Ok(n) => n.saturating_sub(place).saturating_sub(1),
+        Err(_) => 0,
     }
-    n - 1 - place
 }
 
 // Reads a text, inverts it, prints the inverse and reads that back under the same setting, counts both, and seeks the

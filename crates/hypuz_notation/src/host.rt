@@ -6,10 +6,10 @@ ghost use Rattle.notation.specs.Entries as rule;
 ghost use Rattle.notation.specs.Features as flags;
 ghost use Rattle.notation.specs.Host.{coded, part_number, Hands};
 
-use entries::parts::{PartAnswer, family_part};
+use entries::parts::family_part;
 use entries::{count_steps, display, flatten, inv, inv_deep, seek_step, simplify};
-use notation::answer::Answer;
 use notation::features;
+use notation::refusals::Refusal;
 use parse::parse_notation;
 
 // 2^56
@@ -19,12 +19,12 @@ const VALUES: u64 = 72057594037927936;
 const PART: u64 = 16777216;
 
 // An answer as one number.
-fn code(answer: Answer) -> u64
+fn code(answer: Result<u64, Refusal>) -> u64
     ensures { result ≡ coded (rule.outcome answer) }
 {
     match answer {
-        Answer::Value(value) => value % VALUES,
-        Answer::Refused(number) => number as u64 * VALUES,
+        Ok(value) => value % VALUES,
+        Err(refusal) => refusal.number() as u64 * VALUES,
     }
 }
 
@@ -99,7 +99,7 @@ pub fn hypuz_family(text: &[u8], tree: &[u8], record: u64) -> u64
     ensures { result ≡ coded (part_number (rule.family_span text.now tree.now «record»)) }
 {
     match family_part(text, tree, record) {
-        PartAnswer::Part(p) => p.offset as u64 * PART + p.size as u64,
-        PartAnswer::Refused(number) => number as u64 * VALUES,
+        Ok(p) => p.offset as u64 * PART + p.size as u64,
+        Err(refusal) => refusal.number() as u64 * VALUES,
     }
 }

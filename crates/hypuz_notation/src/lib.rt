@@ -7,7 +7,7 @@ pub mod agreement;
 pub mod host;
 
 pub use agreement::agree;
-pub use entries::parts::{PartAnswer, family_part};
+pub use entries::parts::family_part;
 pub use entries::{
     count_steps, display, family, family_refusal, flatten, inv, inv_deep, seek_step, simplify,
 };

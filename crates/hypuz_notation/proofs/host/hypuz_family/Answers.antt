@@ -4,11 +4,11 @@ use Rattle.entries.specs.Parts.{part_outcome, Fits}
 use Rattle.hypuz_notation.proofs.Handing.{part-coded, no-part-coded}
 use Rattle.hypuz_notation.proofs.host.hypuz_family.Goals as goal
 
-pub returns-in-Part : goal.returns-in-Part
-returns-in-Part c =
-    let fits = subst Fits c.in-Part.is c.family_part.ensures.fits in
-    part-coded _ _ fits.offset fits.size (ap part_outcome (sym c.in-Part.is) ∙ c.family_part.ensures.result_value)
+pub returns-in-Ok : goal.returns-in-Ok
+returns-in-Ok c =
+    let fits = subst Fits c.in-Ok.is c.family_part.ensures.fits in
+    part-coded _ _ fits.offset fits.size (ap part_outcome (sym c.in-Ok.is) ∙ c.family_part.ensures.result_value)
 
-pub returns-in-Refused : goal.returns-in-Refused
-returns-in-Refused c =
-    no-part-coded _ _ (ap part_outcome (sym c.in-Refused.is) ∙ c.family_part.ensures.result_value)
+pub returns-in-Err : goal.returns-in-Err
+returns-in-Err c =
+    no-part-coded _ _ (ap part_outcome (sym c.in-Err.is) ∙ c.family_part.ensures.result_value)
