@@ -8,8 +8,8 @@ use crate::line::{LINE, Line};
 use crate::{hex, report, text};
 use hypuz_notation::agree;
 use hypuz_notation::agreement::Agreement;
-use notation::answer::Answer;
 use notation::features;
+use notation::refusals::Refusal;
 use record::RECORD;
 
 // Bytes of the longest buffers that a case may lend: 120 records for each tree and text, and two for each step.
@@ -100,15 +100,15 @@ fn put_answers(line: &mut Line, found: Agreement)
 }
 
 // Puts a value, or the number of a refusal behind a minus, and a space.
-fn put_answer(line: &mut Line, answer: Answer)
+fn put_answer(line: &mut Line, answer: Result<u64, Refusal>)
     requires { length line.old + 22 ≤ LINE }
     ensures { length line.new ≤ length line.old + 22 }
 {
     match answer {
-        Answer::Value(value) => line.put_decimal(value),
-        Answer::Refused(number) => {
+        Ok(value) => line.put_decimal(value),
+        Err(refusal) => {
             line.put(b"-");
-            line.put_decimal(number as u64);
+            line.put_decimal(refusal.number() as u64);
         }
     }
     line.put(b" ");

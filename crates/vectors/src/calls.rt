@@ -8,8 +8,8 @@ use crate::{hex, report, text};
 use hypuz_notation::{
     count_steps, display, family, family_refusal, flatten, inv, inv_deep, seek_step, simplify,
 };
-use notation::answer::Answer;
 use notation::limits::RANGE;
+use notation::refusals::Refusal;
 use record::RECORD;
 
 // Bytes of a tree of the Rust's sample: no text of it has over 1,000 records.
@@ -139,12 +139,9 @@ fn called(entry: Entry, call: Call, text: &[u8], tree: &[u8], out: &mut [u8]) ->
 }
 
 // The deep inverse as text.
-fn deep_shown(text: &[u8], tree: &[u8], out: &mut [u8]) -> Answer {
+fn deep_shown(text: &[u8], tree: &[u8], out: &mut [u8]) -> Result<u64, Refusal> {
     let mut inverse = [0u8; SAMPLED];
-    let answer = inv_deep(text, tree, &mut inverse);
-    let Answer::Value(size) = answer else {
-        return answer;
-    };
+    let size = inv_deep(text, tree, &mut inverse)?;
     let n = (size as usize).min(SAMPLED);
     display(text, &inverse[..n], out)
 }
@@ -152,10 +149,8 @@ fn deep_shown(text: &[u8], tree: &[u8], out: &mut [u8]) -> Answer {
 // The line of a family, a part of the text. Beside a refusal it is empty: bytes of it show as touched.
 fn named(record: u64, text: &[u8], tree: &[u8]) -> Line {
     let family = family(text, tree, record);
-    let refusal = family_refusal(text, tree, record);
-    if refusal == 0 {
-        report::read(family.len() as u64, family.len(), family)
-    } else {
-        report::refused(refusal, family)
+    match family_refusal(text, tree, record) {
+        None => report::read(family.len() as u64, family.len(), family),
+        Some(refusal) => report::refused(refusal.number(), family),
     }
 }

@@ -3,7 +3,7 @@
 ghost use Rattle.std.specs.Prelude.{◌<◌, ◌≤◌, ◌≡◌, [], length};
 
 use crate::line::Line;
-use notation::answer::Answer;
+use notation::refusals::Refusal;
 
 // What a lent buffer holds before a call, so that a byte that was written without need shows.
 pub const UNTOUCHED: u8 = 0xaa;
@@ -11,10 +11,10 @@ pub const UNTOUCHED: u8 = 0xaa;
 const SHOWN: usize = 500;
 
 // The line of an answer whose value counts things of `unit` bytes that were written to the front of `buffer`.
-pub fn answered(answer: Answer, unit: usize, buffer: &[u8]) -> Line {
+pub fn answered(answer: Result<u64, Refusal>, unit: usize, buffer: &[u8]) -> Line {
     match answer {
-        Answer::Value(value) => read(value, bytes_used(value, unit, buffer.len()), buffer),
-        Answer::Refused(number) => refused(number, buffer),
+        Ok(value) => read(value, bytes_used(value, unit, buffer.len()), buffer),
+        Err(refusal) => refused(refusal.number(), buffer),
     }
 }
 

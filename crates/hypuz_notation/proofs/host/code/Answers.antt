@@ -8,4 +8,4 @@ pub returns-in-Ok : goal.returns-in-Ok
 returns-in-Ok c = value-coded _ _ (ap outcome c.in-Ok.is)
 
 pub returns-in-Err : goal.returns-in-Err
-returns-in-Err c = refusal-coded _ _ (ap outcome c.in-Err.is)
+returns-in-Err c = rw c.number.ensures (refusal-coded _ _ (ap outcome c.in-Err.is))

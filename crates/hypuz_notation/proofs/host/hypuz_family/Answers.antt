@@ -11,4 +11,4 @@ returns-in-Ok c =
 
 pub returns-in-Err : goal.returns-in-Err
 returns-in-Err c =
-    no-part-coded _ _ (ap part_outcome (sym c.in-Err.is) ∙ c.family_part.ensures.result_value)
+    rw c.number.ensures (no-part-coded _ _ (ap part_outcome (sym c.in-Err.is) ∙ c.family_part.ensures.result_value))

@@ -1,5 +1,5 @@
 -- The count and the lines after it, or a refusal. Assumes nothing.
-use mathlib.Core.Path.{ap}
+use mathlib.Core.Path.{refl}
 use mathlib.Core.Bool.{false}
 use mathlib.Core.List.{[], ◌++◌}
 use Rattle.notation.specs.Numbers.{show}
