@@ -30,12 +30,6 @@ abbrev Separated : (old new : Printer) (kind : ℕ) → Type 0
 Separated old new kind = (k : BinaryGroupKind) → kind ≡ binary_number k → Wrote old new (put_separator k)
 
 module _ {old new : Printer} {kind : ℕ} where
-  pub simple-opened : kind ≡ 0 → Wrote old new (λ rest. 40 ∷ rest) → Opened old new kind
-  simple-opened h w Simple e = w
-  simple-opened h w Macro e = absurd (omega arith)
-  simple-opened h w Simultaneous e = absurd (omega arith)
-  simple-opened h w Niss e = absurd (omega arith)
-
   pub macro-opened : kind ≡ 1 → Wrote old new (λ rest. 33 ∷ 40 ∷ rest) → Opened old new kind
   macro-opened h w Simple e = absurd (omega arith)
   macro-opened h w Macro e = w

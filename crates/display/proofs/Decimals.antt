@@ -5,7 +5,7 @@ use mathlib.Core.List.{List, [], ◌∷◌, ◌++◌}
 use native.Mathlib.Omega.{arith}
 use native.Mathlib.Nat.{pow-suc}
 use borrow.Author.Tests.{lt-ltb, le-ltb}
-use lib.ListN.{length, take, drop, set, length-set, length-drop, drop_of_length-le}
+use lib.ListN.{length, take, drop, set, length-set, length-drop}
 use lib.Seq.{set_split, drop_at, length-take-le, take_all}
 use Rattle.notation.specs.Numbers.{show_from, show}
 use Rattle.laws.proofs.ReadBack.Numbers.{show-apart}
@@ -36,18 +36,9 @@ pub record Left (digits : List ℕ) (rest i : ℕ) (whole : List ℕ) : Type 0 w
   pub room : rest < 10 ^ suc i
   pub shows : show_from (suc i) rest (drop (suc i) digits) ≡ whole
 
-pub all_left : (digits : List ℕ) (n : ℕ) → length digits ≡ 10 → n < 4294967296 → Left digits n 9 (show n [])
-all_left digits n l h =
-    record {
-      short = omega arith;
-      long = l;
-      room = omega arith;
-      shows = ap (show_from 10 n) (drop_of_length-le digits {i = 10} (omega arith));
-    }
-
 module _ {digits : List ℕ} {rest i : ℕ} {whole : List ℕ} (w : Left digits rest i whole) where
   -- one more digit
-  pub more_left : 10 ≤ rest → 1 ≤ i
+  more_left : 10 ≤ rest → 1 ≤ i
   more_left h = go i w.room
     where
       go : (i : ℕ) → rest < 10 ^ suc i → 1 ≤ i

@@ -156,9 +156,6 @@ pub record Sofar (part : List ℕ) (end : ℕ) (old mid : Printer) (l : List Lay
   pub follows : Following (layer_set_element true) part end left
   pub onward : (new : Printer) → Wrote mid new (put_more put_element left) → Wrote old new (put_more put_element l)
 
-pub sofar-none : {part : List ℕ} {end : ℕ} {l : List LayerSetElement} (p : Printer) → Following (layer_set_element true) part end l → Sofar part end p p l
-sofar-none {l = l} p f = record { left = l; follows = f; onward = λ new w. w }
-
 module _ {part : List ℕ} {end : ℕ} {old mid : Printer} {l : List LayerSetElement} (w : Sofar part end old mid l)
     (comma : ℕ) (space : comma ≡ end + run white_space (drop end part)) where
   -- no comma: the elements are at their end

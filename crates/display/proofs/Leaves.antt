@@ -4,7 +4,7 @@ use mathlib.Core.Path.{◌≡◌, refl, ap, sym, ◌∙◌}
 use mathlib.Core.Bool.{Bool, true, false, ◌&&◌}
 use mathlib.Core.Logic.{◌⊎◌, inl, inr, ⊎_elim}
 use mathlib.Core.List.{List, ◌∷◌, ◌++◌}
-use mathlib.Core.Option.{Option, none, some}
+use mathlib.Core.Option.{Option, some}
 use native.Mathlib.Omega.{arith}
 use borrow.Author.Tests.{ne_eqb}
 use lib.Arith.{lt_of_le-ne}
@@ -17,14 +17,12 @@ use Rattle.notation.specs.Numbers.{from_bits}
 use Rattle.notation.specs.Tree as tree
 use Rattle.notation.specs.Tree.{part_of, no_layers, Leaf, rotation, move, pair, megaminx}
 use Rattle.notation.specs.Packed.{family_at, leaf_head, head_at, megaminx_number}
-use Rattle.notation.specs.Meaning.{or_empty, constraints_in, layer_set_in, constraint_meaning, layer_meaning, step_of}
-use Rattle.notation.specs.WellFormed.{is_some, inside, family_ok, constraints_ok, layers_ok, multiplier_ok, leaf_ok}
-use Rattle.notation.specs.Print.{put_braces, put_constraint, put_constraints, put_element, put_layers, put_tilde, put_multiplier, put_megaminx, put_step}
+use Rattle.notation.specs.Meaning.{or_empty, constraints_in, constraint_meaning, layer_meaning, step_of}
+use Rattle.notation.specs.WellFormed.{inside, family_ok, constraints_ok, layers_ok, multiplier_ok, leaf_ok}
+use Rattle.notation.specs.Print.{put_braces, put_constraint, put_constraints, put_layers, put_tilde, put_multiplier, put_megaminx, put_step}
 use Rattle.notation.specs.declared.common.MegaminxScrambleMove.{MegaminxScrambleMove}
-use Rattle.record.specs.Meaning.{span, layers, field, span_at, layers_at, constraints_at, kind_at, tilde_at, form_at, present_at, NUMBER, OTHER, FAMILY, FAMILY-SIZE, CONSTRAINTS}
+use Rattle.record.specs.Meaning.{span, field, span_at, layers_at, constraints_at, kind_at, tilde_at, present_at, NUMBER, OTHER, FAMILY, FAMILY-SIZE, CONSTRAINTS}
 use Rattle.record.specs.declared.spanned.Span.{Span}
-use Rattle.record.specs.declared.spanned.LayerPrefixContents.{LayerPrefixContents}
-use Rattle.record.specs.declared.spanned.LayerPrefixContents.TheVariants as prefix
 use Rattle.record.proofs.Packed.{head_at-kind}
 use Rattle.laws.proofs.Bools.{and_left, and_right}
 use Rattle.display.specs.Written.{Wrote}
@@ -36,31 +34,14 @@ use Rattle.display.proofs.ByKind.{megaminx-told}
 use Rattle.display.proofs.Squeezing.{set-squeezed}
 
 -- the constraints of a record, by the bit that tells of them
-pub no-constraints : (bs : List ℕ) {r : Bool} → r ≡ present_at bs → r ≡ false → constraints_at bs ≡ none
-no-constraints bs e h = rw (sym e ∙ h)
-
 pub some-constraints : (bs : List ℕ) (p : Span) {r : Bool} → r ≡ present_at bs → r ≡ true → span p ≡ span_at CONSTRAINTS bs → constraints_at bs ≡ some (span p)
 some-constraints bs p e h i = rw (sym e ∙ h) (ap some (sym i))
 
 module _ (text : List ℕ) {q : Option tree.Span} (p : Span) (e : q ≡ some (span p)) (h : constraints_ok text q ≡ true) where
-  pub constraints-inside : inside text (span p) ≡ true
-  constraints-inside = and_left (inside text (span p)) _ (rw e at h)
-
   pub constraints-print : {old new : Printer} → Wrote old new (λ rest. squeezed (part_of text (span p)) ++ rest) → Wrote old new (put_constraints (constraint_meaning text q))
   constraints-print w =
       rw e (wrote_as (put_braces put_constraint (or_empty (constraints_in (part_of text (span p)))))
       (set-squeezed (part_of text (span p)) (and_right (inside text (span p)) _ (rw e at h))) w)
-
-module _ (text : List ℕ) (q : LayerPrefixContents) (p : Span) (e : q ≡ prefix.Set p) where
-  pub layers-inside : layers_ok text (layers q) ≡ true → inside text (span p) ≡ true
-  layers-inside h = and_left (inside text (span p)) _ (rw e at h)
-
-  pub layers-set : layers_ok text (layers q) ≡ true → is_some (layer_set_in (part_of text (span p))) ≡ true
-  layers-set h = and_right (inside text (span p)) _ (rw e at h)
-
-  pub layers-print : {old new : Printer} → Wrote old new (put_braces put_element (or_empty (layer_set_in (part_of text (span p))))) →
-      Wrote old new (put_layers (layer_meaning text (layers q)))
-  layers-print w = rw e w
 
 -- What a leaf that is well formed consists of.
 family-inside : (text : List ℕ) (n : ℕ) (f : tree.Span) → family_ok text n f ≡ true → inside text f ≡ true
@@ -103,20 +84,11 @@ tilde-put true rest = refl
 tilde-put false rest = refl
 
 module _ (text bs : List ℕ) {kind : ℕ} (e : kind ≡ kind_at bs) {old new : Printer} where
-  pub rotation-before : kind ≡ 6 → Wrote old new (λ rest. 64 ∷ rest) → Wrote old new (put_before text bs)
-  rotation-before h w = let i : kind_at bs ≡ 6 = sym e ∙ h in wrote_as (put_before text bs) (λ rest. rw i) w
-
   pub move-before : {t : Bool} {l : tree.Layers tree.Span} → (kind ≡ 6 → ⊥) → t ≡ tilde_at bs → l ≡ layers_at bs →
       Wrote old new (λ rest. let rest' = put_layers (layer_meaning text l) rest in pick t (126 ∷ rest') rest') → Wrote old new (put_before text bs)
   move-before {t = t} {l = l} h i j w =
       wrote_as (put_before text bs)
       (λ rest. rw (ne_eqb (kind_at bs) 6 (λ z. h (e ∙ z))) (tilde-put t (put_layers (layer_meaning text l) rest) ∙ rw (i, j))) w
-
-pub no-layers : (bs : List ℕ) {form : ℕ} → form ≡ form_at bs → form ≡ 0 → no_layers ≡ layers_at bs
-no-layers bs e h = rw (sym e ∙ h)
-
-pub family-ok : (text : List ℕ) {f g : tree.Span} → f ≡ g → inside text g ≡ true → inside text f ≡ true
-family-ok text e h = rw e h
 
 pub transform-as : (text bs : List ℕ) {f : tree.Span} {m : ℕ} → f ≡ family_at (field FAMILY bs) (field FAMILY-SIZE bs) → m ≡ field NUMBER bs → {old new : Printer} →
     Wrote old new (λ rest. put_before text bs (part_of text f ++ put_constraints (constraint_meaning text (constraints_at bs)) (put_multiplier (from_bits 32 m) rest))) →

@@ -178,9 +178,6 @@ pub record Listing (printer : NodeList LeafStep → List ℕ → List ℕ) (text
   pub shorter : length t ≤ length tree
   pub onward : (new : Printer) → Wrote mid new (printer (unspanned text (unpack t))) → Wrote old new (put_nodes (unspanned text (unpack tree)))
 
-pub listing-starts : {text tree : List ℕ} (p : Printer) → Packed tree → tree_ok text (unpack tree) ≡ true → Listing put_nodes text tree tree p p
-listing-starts p q h = record { packed_left = q; ok = h; shorter = omega arith; onward = λ new w. w }
-
 module _ {text tree t : List ℕ} {old mid : Printer} (w : Listing put_nodes text tree t old mid) where
   node-listed : {mid' : Printer} {e : ℕ} (f : FirstNode t e) → Wrote mid mid' (put_node (map_node (step_of text) f.node)) →
       Listing put_others text tree (part e (length t) t) old mid' × (length (part e (length t) t) < length t)

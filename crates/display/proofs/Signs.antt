@@ -3,7 +3,6 @@ use Prim.Native.Nat.{ℕ}
 use mathlib.Core.Path.{◌≡◌}
 use mathlib.Core.Bool.{Bool}
 use mathlib.Core.List.{◌∷◌}
-use borrow.Author.Tests.{eq-eqb, ne_eqb}
 use lib.Dec.{eqb}
 use lib.IntN.{ℤ, pos, negsuc, nat_abs}
 use Rattle.notation.specs.Basics.{pick}
@@ -18,13 +17,6 @@ module _ {old new : Printer} where
       Wrote old new (λ rest. pick b (45 ∷ show m rest) (show m rest)) → Wrote old new (show_signed z)
   signed-is (pos n) e i w = rw (e, i) at w
   signed-is (negsuc n) e i w = rw (e, i) at w
-
-  -- a multiplier's magnitude
-  pub magnitude-one : {n : ℕ} → n ≡ 1 → Wrote old new (λ rest. rest) → Wrote old new (λ rest. pick (eqb n 1) rest (show n rest))
-  magnitude-one {n} h w = rw (eq-eqb n 1 h) w
-
-  pub magnitude-other : {n : ℕ} → (n ≡ 1 → ⊥) → Wrote old new (show n) → Wrote old new (λ rest. pick (eqb n 1) rest (show n rest))
-  magnitude-other {n} h w = rw (ne_eqb n 1 h) w
 
   pub multiplier-is : (z : ℤ) {b : Bool} {m : ℕ} → b ≡ is_negative z → m ≡ nat_abs z →
       Wrote old new (λ rest. pick (eqb m 1) (pick b (39 ∷ rest) rest) (show m (pick b (39 ∷ rest) rest))) → Wrote old new (put_multiplier z)

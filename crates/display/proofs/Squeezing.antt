@@ -296,9 +296,6 @@ pub record Remaining (part : List ℕ) (i : ℕ) (old mid : Printer) : Type 0 wh
   pub inside : i ≤ length part
   pub onward : (new : Printer) → Wrote mid new (λ rest. squeezed (drop i part) ++ rest) → Wrote old new (λ rest. squeezed part ++ rest)
 
-pub all-remains : (part : List ℕ) (p : Printer) → Remaining part 0 p p
-all-remains part p = record { inside = omega arith; onward = λ new w. w }
-
 module _ {part : List ℕ} {i : ℕ} {old mid : Printer} (w : Remaining part i old mid) where
   pub byte_put : {mid' : Printer} → i < length part → width_if white_space (drop i part) ≡ 0 →
       Wrote mid mid' (λ rest. get_or part i 0 ∷ rest) → Remaining part (i + 1) old mid'

@@ -22,7 +22,6 @@ use Rattle.display.proofs.Nodes.{
   first_good,
   leaf-good,
   Listing,
-  listing-starts,
   leaf-listed,
   group-listed,
   listing-spaced,
@@ -63,9 +62,6 @@ put_group-returns-then-not-is_binary t c =
     let g = one (goal.at.put_group-returns-then-not-is_binary t c).Then-not-is_binary in
     wrote_as (put_nodes (unspanned c.args.text.now (unpack c.args.bytes.now))) g.inside.prints (wrote_then (c.put_opening.ensures g.group g.number) (wrote_then c.put_nodes.ensures c.put_closing.ensures))
 
-pub put_group-first_end-middle-requires : goal.put_group-first_end-middle-requires
-put_group-first_end-middle-requires t c = let g = c.requires.good_node in (g.node, g.is_node)
-
 pub put_group-put_nodes-requires-2 : goal.put_group-put_nodes-requires-2
 put_group-put_nodes-requires-2 t c =
     let o = (two (goal.at.put_group-put_nodes-requires-2 t c).After-first_end-middle).inside in (
@@ -86,9 +82,6 @@ put_group-returns t c =
     wrote_as (put_nodes (unspanned c.args.text.now (unpack c.args.bytes.now))) g.inside.prints
     (wrote_then c.put.ensures (wrote_then c.put_nodes-2.ensures (wrote_then (c.put_separator.ensures g.group g.number) (wrote_then c.put_nodes-3.ensures c.put_closing-2.ensures))))
 
-pub put_nodes-loop-t-init : goal.put_nodes-loop-t-init
-put_nodes-loop-t-init t c = listing-starts c.args.self c.requires.packed c.requires.tree_value
-
 pub put_nodes-is_leaf-requires : goal.put_nodes-is_leaf-requires
 put_nodes-is_leaf-requires t c = record-room _ c.loop-t.invariant.packed_left c.loop-t-test.true
 
@@ -101,9 +94,6 @@ put_nodes-slice_bounds-t-count t c = record-room _ c.loop-t.invariant.packed_lef
 
 pub put_nodes-slice_bounds-t-start : goal.put_nodes-slice_bounds-t-start
 put_nodes-slice_bounds-t-start t c = record-room _ c.loop-t.invariant.packed_left c.loop-t-test.true
-
-pub put_nodes-node_end-end-requires : goal.put_nodes-node_end-end-requires
-put_nodes-node_end-end-requires t c = record { packed = c.loop-t.invariant.packed_left; list_nonzero = c.loop-t-test.true }
 
 pub put_nodes-put_group-self-requires : goal.put_nodes-put_group-self-requires
 put_nodes-put_group-self-requires t c = (

@@ -1,10 +1,6 @@
--- Each arm. Assumes nothing.
+-- The two numbers with dots between them. Assumes nothing.
 use Rattle.display.proofs.Writing.{wrote_then}
 use Rattle.display.proofs.write.Printer.put_element.Goals as goal
-
-pub returns-in-Single : goal.returns-in-Single
-returns-in-Single c =
-    rw c.in-Single.is c.put_signed.ensures
 
 pub returns-in-Range : goal.returns-in-Range
 returns-in-Range c =

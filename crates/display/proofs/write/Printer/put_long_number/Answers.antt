@@ -1,18 +1,12 @@
 -- The digits fill an array from its end, and the part that they fill is copied. Assumes nothing.
 use Prim.Native.Nat.{ℕ}
 use native.Mathlib.Omega.{arith}
-use mathlib.Core.Path.{refl, ap, ◌∙◌}
+use mathlib.Core.Path.{ap, ◌∙◌}
 use mathlib.Core.List.{List, ◌++◌}
 use Rattle.notation.specs.Numbers.{show}
 use Rattle.display.proofs.Writing.{wrote_as}
-use Rattle.display.proofs.Decimals.{all_left, more_left, one_less, none_left, show-adds}
+use Rattle.display.proofs.Decimals.{one_less, none_left, show-adds}
 use Rattle.display.proofs.write.Printer.put_long_number.Goals as goal
-
-pub loop-rest-init : goal.loop-rest-init
-loop-rest-init c = all_left _ c.args.n refl (omega (arith, c.ranges.n))
-
-pub overflow_sub-i : goal.overflow_sub-i
-overflow_sub-i c = more_left c.loop-rest.invariant c.loop-rest-test.true
 
 pub loop-rest-preserved : goal.loop-rest-preserved
 loop-rest-preserved c = one_less c.loop-rest.invariant c.loop-rest-test.true

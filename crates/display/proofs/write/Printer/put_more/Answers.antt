@@ -12,12 +12,9 @@ use Rattle.parse.specs.Meaning.{layer_set_element_of}
 use Rattle.charsets.proofs.Runs.{end-length}
 use Rattle.parse.proofs.Bytes.{seen}
 use Rattle.display.proofs.Writing.{wrote_then}
-use Rattle.display.proofs.Elements.{nothing-read, element-read, sofar-none, sofar-all, sofar-never, sofar-more, item-end}
+use Rattle.display.proofs.Elements.{nothing-read, element-read, sofar-all, sofar-never, sofar-more, item-end}
 use Rattle.display.proofs.write.Printer.put_more.Goals as goal
 use Rattle.display.proofs.write.Printer.put_more.Goals.{After-whitespace_end-start, In-Some}
-
-pub loop-self-init : goal.loop-self-init
-loop-self-init c = (c.requires, λ l f. sofar-none c.args.self f)
 
 pub returns-then-not-is_comma : goal.returns-then-not-is_comma
 returns-then-not-is_comma c =

@@ -1,10 +1,7 @@
 -- One after the other. Assumes nothing.
 use Rattle.display.proofs.Writing.{wrote_then}
-use Rattle.display.proofs.Leaves.{family-ok, transform-as}
+use Rattle.display.proofs.Leaves.{transform-as}
 use Rattle.display.proofs.write.Printer.put_transform.Goals as goal
-
-pub part_of-requires : goal.part_of-requires
-part_of-requires c = family-ok c.args.text.now c.family_of.ensures.result_value c.requires.family
 
 pub returns : goal.returns
 returns c =
