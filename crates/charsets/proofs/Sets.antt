@@ -6,7 +6,7 @@ use Prim.Native.Nat.{ℕ, ◌≤◌}
 use borrow.Author.Tests.{le-leb, ne_eqb}
 use lib.Dec.{eqb, leb}
 use Rattle.notation.specs.declared.char_set.CharSet.TheVariants.{LowercaseLatin, UppercaseLatin, UppercaseGreek, TallLowercaseGreek, ShortLowercaseGreek, Underscore, Prime}
-use Rattle.std.specs.Prelude.{Option, Some, None}
+use Rattle.std.specs.Prelude.{Some, None}
 use Rattle.notation.specs.Basics.{pick, between, one_of, every}
 use Rattle.notation.specs.Chars.{classify, class_number, is_family_class, is_family_char, is_prime_class, is_prime, is_latin_letter, uppercase_greek, tall_lowercase_greek, short_lowercase_greek, curly_prime_codes}
 use Rattle.charsets.proofs.Bools.{contra}

@@ -1,14 +1,11 @@
 -- What a record says and what its signs are, by its kind. Assumes nothing.
 use Prim.Native.Nat.{ℕ, zero, suc, ◌+◌, ◌-◌, ◌%◌, ◌<◌, ◌≤◌}
-use mathlib.Core.Path.{◌≡◌, refl, sym, ◌∙◌}
-use mathlib.Core.Bool.{Bool, true, false, ◌&&◌}
+use mathlib.Core.Path.{◌≡◌}
 use mathlib.Core.List.{List, ◌∷◌}
 use native.Mathlib.Omega.{arith}
-use borrow.Author.Tests.{leb-true, leb-false}
-use lib.Dec.{leb, ltb, eqb}
+use lib.Dec.{ltb, eqb}
 use lib.ListN.{get_or}
-use Rattle.notation.specs.Basics.{between, pick}
-use Rattle.laws.proofs.Bools.{and_left}
+use Rattle.notation.specs.Basics.{pick}
 use Rattle.notation.specs.Tree.{pause, megaminx}
 use Rattle.notation.specs.Packed.{Head, leaf_head, group_number, binary_number, megaminx_number}
 use Rattle.notation.specs.Print.{put_prefix, put_separator, put_megaminx}

@@ -5,7 +5,7 @@ use mathlib.Core.List.{List, ◌++◌, append-nil}
 use native.Mathlib.Omega.{arith}
 use lib.ListN.{length, take, drop, length-take}
 use lib.Seq.{drop-length}
-use Rattle.notation.specs.Refusals.{Outcome, refusal, result, NO-ROOM}
+use Rattle.notation.specs.Refusals.{refusal, result, NO-ROOM}
 use Rattle.notation.specs.Packed.{unpack}
 use Rattle.notation.specs.Print.{printed}
 use Rattle.notation.specs.Entries.{display, display_entry}

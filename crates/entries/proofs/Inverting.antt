@@ -1,31 +1,24 @@
 -- What the inverses come to, said once for both: a refusal is met or the whole tree is written. Assumes nothing.
-use Prim.Native.Nat.{ℕ, suc, ◌-◌, ◌*◌, ◌≤◌, ◌<◌}
+use Prim.Native.Nat.{ℕ, ◌-◌, ◌*◌, ◌≤◌, ◌<◌}
 use mathlib.Core.Path.{◌≡◌, refl, sym, ap, ◌∙◌}
 use mathlib.Core.Bool.{Bool, true, false}
 use mathlib.Core.List.{List, ◌++◌}
 use mathlib.Core.Option.{Option, none, some}
 use native.Mathlib.Omega.{arith}
 use lib.ListN.{length, drop}
-use Rattle.notation.specs.Basics.{pick}
 use Rattle.notation.specs.Refusals.{Outcome, refusal, result, ◌>>=◌, NO-ROOM}
-use Rattle.notation.specs.Tree.{Leaf, Node, leaf, block, Body, group, binary_group, nil, cons, Tree}
+use Rattle.notation.specs.Tree.{Tree}
 use Rattle.notation.specs.Packed.{RECORD, size, pack, unpack}
-use Rattle.notation.specs.Invert.{overflows}
 use Rattle.notation.specs.Entries.{lend, checked}
-use Rattle.notation.specs.declared.common.GroupKind.{GroupKind}
-use Rattle.notation.specs.declared.common.GroupKind.TheVariants.{Simple, Macro, Simultaneous, Niss}
-use Rattle.notation.specs.declared.common.BinaryGroupKind.{BinaryGroupKind}
-use Rattle.notation.specs.declared.common.BinaryGroupKind.TheVariants.{Commutator, Conjugate}
-use Rattle.laws.specs.Unrolled.{first}
 use Rattle.laws.proofs.Unrolling.{verdict}
-use Rattle.laws.specs.Inverted.{leaf_refusal, inv_refusal_node, inverted, inv_refusal, deeply, niss_first, conjugate_only, deep_refusal_node, deep_refusal_body, deep_refusal}
+use Rattle.laws.specs.Inverted.{inverted, inv_refusal, deeply, deep_refusal}
 use Rattle.laws.proofs.Inverses.{inv-is, inv_deep-is}
 use Rattle.laws.proofs.Packing.{length-pack}
 use Rattle.laws.proofs.WellFormedInverses.{inverted-size, deeply-size}
 use Rattle.laws.specs.Packed.{Packed}
 use Rattle.checked.specs.Checked.{Accepted, checked_steps}
 use Rattle.entries.specs.Inverses.{refusing, written, ruled}
-use Rattle.checked.proofs.Outcomes.{refused, lend-refused, lend-handed, lend-short, lend-fits}
+use Rattle.checked.proofs.Outcomes.{refused, lend-refused, lend-short, lend-fits}
 
 -- An inverse: what refuses it, what it writes, as long as the tree.
 pub record Inverting (text tree : List ℕ) (o : Outcome (List ℕ)) (refuses : Option ℕ) (bytes : List ℕ) : Type 0 where

@@ -10,7 +10,7 @@ use Rattle.notation.specs.Grammar.{Reading, rejected, read, Reader, or_else, whe
 use Rattle.notation.specs.Primes.{Unchanged}
 use Rattle.notation.specs.declared.features.Features.{Features}
 use Rattle.notation.specs.declared.char_set.CharSet.TheVariants.{LowercaseLatin, UppercaseLatin, UppercaseGreek, TallLowercaseGreek, ShortLowercaseGreek, Underscore, Prime}
-use Rattle.std.specs.Prelude.{Option, Some, None}
+use Rattle.std.specs.Prelude.{Some, None}
 use Rattle.laws.proofs.Bools.{false-true}
 
 -- families hold letters and the underscore, as before there was a class of primes

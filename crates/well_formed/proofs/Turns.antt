@@ -9,7 +9,7 @@ use borrow.Author.Tests.{leb-true, leb-false, eqb-true, eqb-false, lt-ltb}
 use lib.Dec.{leb, ltb, eqb}
 use lib.ListN.{length, take, drop, get_or, length-drop}
 use lib.Seq.{take_all}
-use Rattle.notation.specs.Basics.{between, pick, same_list}
+use Rattle.notation.specs.Basics.{pick, same_list}
 use Rattle.notation.specs.Numbers.{from_bits}
 use Rattle.notation.specs.Tree.{Leaf, Tree}
 use Rattle.notation.specs.Counts.{CAP, cap, count_node, count, stored}

@@ -8,7 +8,6 @@ use Rattle.notation.specs.Refusals.{result}
 use Rattle.notation.specs.Tree.{Span, Layers}
 use Rattle.notation.specs.Packed.{RECORD}
 use Rattle.notation.specs.WellFormed.{layers_ok}
-use Rattle.notation.specs.Entries.{outcome}
 use Rattle.record.specs.Meaning.{layers_at}
 use Rattle.checked.proofs.Outcomes.{handed_on}
 use Rattle.record.specs.Kinds.{kind_number}

@@ -1,7 +1,5 @@
 -- `printing::display` meets its contract: each way out is one case of the rule. Assumes nothing.
-use mathlib.Core.Path.{ap}
 use native.Mathlib.Omega.{arith}
-use Rattle.notation.specs.Entries.{outcome}
 use Rattle.checked.proofs.Outcomes.{handed_on}
 use Rattle.entries.proofs.Displaying.{display-unaccepted, display-short, display-at-once, display-measured}
 use Rattle.entries.proofs.printing.display.Goals as goal

@@ -1,7 +1,6 @@
 -- `steps::flatten` meets its contract: each way out is one case of the rule. Assumes nothing.
 use mathlib.Core.Path.{refl}
 use native.Mathlib.Omega.{arith}
-use Rattle.notation.specs.Entries.{outcome}
 use Rattle.checked.proofs.Outcomes.{handed_on}
 use Rattle.entries.proofs.Stepping.{flatten-refused, flatten-short, flatten-written}
 use Rattle.entries.proofs.steps.flatten.Goals as goal

@@ -1,7 +1,6 @@
 -- `steps::seek_step` meets its contract: each way out is one case of the rule. Assumes nothing.
 use mathlib.Core.Path.{refl}
 use native.Mathlib.Omega.{arith}
-use Rattle.notation.specs.Entries.{outcome}
 use Rattle.checked.proofs.Outcomes.{handed_on}
 use Rattle.entries.proofs.Stepping.{seek-refused, seek-past, seek-short, seek-written}
 use Rattle.entries.proofs.steps.seek_step.Goals as goal

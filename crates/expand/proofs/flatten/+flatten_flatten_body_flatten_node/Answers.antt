@@ -5,7 +5,6 @@ use native.Mathlib.Omega.{arith}
 use lib.ListN.{length}
 use Rattle.notation.specs.Packed.{RECORD}
 use Rattle.nodes.proofs.Nodes.{part_length, record-room, node-room, first_leaf, leaf-record}
-use Rattle.record.specs.Kinds.{kind_number}
 use Rattle.record.specs.declared.kinds.Kind.TheVariants.{Commutator}
 use Rattle.record.proofs.SameKind.{test-kind}
 use Rattle.record.proofs.KindTests.{single, binary}

@@ -1,7 +1,6 @@
 -- A refusal, or a tree that is printed. Assumes nothing.
-use mathlib.Core.Path.{ap}
 use Rattle.notation.specs.Packed.{unpack}
-use Rattle.notation.specs.Entries.{display, outcome}
+use Rattle.notation.specs.Entries.{display}
 use Rattle.notation.specs.Lister.{field}
 use Rattle.listing.proofs.Fields.{wrote-line, display-given}
 use Rattle.listing.proofs.lines.tree_line.Goals as goal

@@ -6,7 +6,7 @@ use Rattle.notation.specs.Numbers.{show}
 use Rattle.notation.specs.Packed.{unpack}
 use Rattle.notation.specs.Invert.{undo}
 use Rattle.notation.specs.Print.{put}
-use Rattle.notation.specs.Entries.{outcome, steps}
+use Rattle.notation.specs.Entries.{steps}
 use Rattle.notation.specs.Lister.{line, step_lines, steps_part, SHOWN}
 use Rattle.laws.specs.Unrolled.{flat}
 use Rattle.display.proofs.Writing.{wrote_then}

@@ -1,7 +1,7 @@
 -- By the kind: the tilde, then the layers. Assumes nothing.
 use mathlib.Core.Path.{◌∙◌}
 use Rattle.record.specs.declared.kinds.Kind.TheVariants.{Rotation}
-use Rattle.record.proofs.SameKind.{is-kind, not-kind}
+use Rattle.record.proofs.SameKind.{not-kind}
 use Rattle.display.proofs.Writing.{wrote_then}
 use Rattle.display.proofs.Leaves.{move-before}
 use Rattle.display.proofs.write.Printer.put_before_family.Goals as goal
