@@ -1,5 +1,6 @@
 // The layers of an axis: the Rust's layer/count.rs.
-ghost use Rattle.layer.specs.Bounds.{IsLayer};
+ghost use Rattle.std.specs.Prelude.{◌≤◌};
+ghost use Rattle.notation.specs.Layers.{MAX-LAYER};
 
 use crate::range::LayerRange;
 use crate::signed::SignedLayer;
@@ -11,7 +12,7 @@ pub struct AxisLayersInfo {
     pub max_layer: u16,
     // Whether negative layers, which count from the deepest, are allowed.
     pub allow_negatives: bool,
-    pub ghost real: { IsLayer max_layer },
+    pub ghost real: { max_layer ≤ MAX-LAYER },
 }
 
 // An end of a range, before it is brought inside the axis.
@@ -62,6 +63,7 @@ impl AxisLayersInfo {
     // The range between two layers as far as the axis has it; none where both ends lie beyond the same side or one is
     // invalid.
     pub fn resolve_range(self, a: SignedLayer, b: SignedLayer) -> Option<LayerRange>
+        requires layer { meaning.IsLayer self.max_layer }
         ensures result_value { meaning.range_option result
             ≡ rule.resolve_range self.max_layer self.allow_negatives (meaning.signed a) (meaning.signed b) }
         ensures each { meaning.Each (meaning.RangeUpTo self.max_layer) (meaning.range_option result) }
@@ -78,6 +80,7 @@ impl AxisLayersInfo {
 
     // The layer of the axis that is nearest to an end; none for an invalid one.
     fn clamp(self, end: UnclampedLayer) -> Option<Layer>
+        requires layer { meaning.IsLayer self.max_layer }
         requires concrete_up_to { meaning.ConcreteUpTo self.max_layer end }
         ensures result_value { meaning.layer_option result ≡ meaning.nearest self.max_layer end }
         ensures each { meaning.Each (meaning.LayerUpTo self.max_layer) (meaning.layer_option result) }

@@ -22,6 +22,7 @@ fn range_at(bytes: &[u8], k: usize) -> LayerRange
     ensures { result ≡ range_at bytes.now k }
 {
     let at = RANGE * k;
+    // Two calls and no array: the two fields of two bytes are read as they are named.
     LayerRange {
         min: Layer(read::<2>(bytes, at) as u16),
         max: Layer(read::<2>(bytes, at + 2) as u16),

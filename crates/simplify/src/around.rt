@@ -38,7 +38,11 @@ fn write_some(out: &mut [u8], at: usize, range: Option<LayerRange>) -> usize
 }
 
 // Answers the ranges of two, either of which may be none.
-fn answer_both(first: Option<LayerRange>, second: Option<LayerRange>, out: &mut [u8]) -> Result<u64, Refusal>
+fn answer_both(
+    first: Option<LayerRange>,
+    second: Option<LayerRange>,
+    out: &mut [u8],
+) -> Result<u64, Refusal>
     ensures { elements.Gives (table.listed first ++ table.listed second) result out.new out.old }
 {
     let ranges = first.is_some() as usize + second.is_some() as usize;
@@ -73,7 +77,12 @@ fn simplify_around(range: LayerRange, max_layer: u16, out: &mut [u8]) -> Result<
 }
 
 // Simplifies a prefix that is no set, with a tilde before it or without one.
-pub fn simplify_no_set(range: LayerRange, inverted: bool, max_layer: u16, out: &mut [u8]) -> Result<u64, Refusal>
+pub fn simplify_no_set(
+    range: LayerRange,
+    inverted: bool,
+    max_layer: u16,
+    out: &mut [u8],
+) -> Result<u64, Refusal>
     requires range { meaning.IsRange (meaning.range range) }
     requires layer { meaning.IsLayer max_layer }
     ensures { elements.GivesRanges

@@ -117,6 +117,7 @@ pub fn write_range(out: &mut [u8], at: usize, range: LayerRange)
     requires { at + 4 ≤ length out.old }
     ensures { out.new ≡ sets out.old at (big_endian 2 range.min.0 ++ big_endian 2 range.max.0) }
 {
+    // Two calls and no array: the two fields of two bytes are written as they are named.
     write::<2>(out, at, range.min.0 as u64);
     write::<2>(out, at + 2, range.max.0 as u64);
 }

@@ -44,7 +44,8 @@ fn signed_layer(bits: u32) -> SignedLayer
 
 // The layers that an element of a set names.
 fn element_range(axis: AxisLayersInfo, element: LayerSetElement) -> Option<LayerRange>
-    requires { elements.IsElement (layer_set_element_of element) }
+    requires layer { meaning.IsLayer axis.max_layer }
+    requires element { elements.IsElement (layer_set_element_of element) }
     ensures result_value { meaning.range_option result
         ≡ rule.element_range axis.max_layer axis.allow_negatives (layer_set_element_of element) }
     ensures each { meaning.Each (meaning.RangeUpTo axis.max_layer) (meaning.range_option result) }
@@ -57,6 +58,7 @@ fn element_range(axis: AxisLayersInfo, element: LayerSetElement) -> Option<Layer
 
 // Gathers the range of one element.
 fn mark_element(reach: &mut [u16], axis: AxisLayersInfo, element: LayerSetElement)
+    requires layer { meaning.IsLayer axis.max_layer }
     requires max_layer_in_bounds { axis.max_layer < length reach.old }
     requires element { elements.IsElement (layer_set_element_of element) }
     ensures { reach.new
@@ -83,6 +85,7 @@ fn after_comma(part: &[u8], at: usize) -> Option<usize>
 
 // Gathers the ranges of a layer set, braces and all.
 fn mark_set(part: &[u8], axis: AxisLayersInfo, reach: &mut [u16])
+    requires layer { meaning.IsLayer axis.max_layer }
     requires max_layer_in_bounds { axis.max_layer < length reach.old }
     requires part_value { is_some (layer_set_in part.now) ≡ true }
     ensures { reach.new
@@ -104,6 +107,7 @@ fn mark_set(part: &[u8], axis: AxisLayersInfo, reach: &mut [u16])
 
 // Gathers the ranges of a layer set in an empty table of the axis, or with a tilde the layers that they do not give.
 fn gather_set(part: &[u8], axis: AxisLayersInfo, inverted: bool, reach: &mut [u16])
+    requires layer { meaning.IsLayer axis.max_layer }
     requires reach_value { reach.old ≡ replicate (axis.max_layer + 1) 0 }
     requires part_value { is_some (layer_set_in part.now) ≡ true }
     ensures { table.Gathered axis.max_layer
@@ -123,6 +127,7 @@ fn simplify_set(
     reach: &mut [u16],
     out: &mut [u8],
 ) -> Result<u64, Refusal>
+    requires layer { meaning.IsLayer axis.max_layer }
     requires reach_value { reach.old ≡ replicate (axis.max_layer + 1) 0 }
     requires part_value { is_some (layer_set_in part.now) ≡ true }
     ensures { elements.GivesRanges
@@ -145,6 +150,7 @@ fn simplify_set_by<const N: usize>(
     inverted: bool,
     out: &mut [u8],
 ) -> Result<u64, Refusal>
+    requires layer { meaning.IsLayer axis.max_layer }
     requires max_layer_in_bounds { axis.max_layer < N }
     requires table_len_bound { N ≤ 65536 }
     requires part_value { is_some (layer_set_in part.now) ≡ true }

@@ -43,7 +43,7 @@ returns-in_default c =
 
 pub mark_element-requires : goal.mark_element-requires
 mark_element-requires c =
-    record { max_layer_in_bounds = omega (arith, c.requires.max_layer_in_bounds, c.loop-element.invariant.3); element = (found (goal.at.mark_element-requires c).In-Some).layers }
+    record { layer = c.requires.layer; max_layer_in_bounds = omega (arith, c.requires.max_layer_in_bounds, c.loop-element.invariant.3); element = (found (goal.at.mark_element-requires c).In-Some).layers }
 
 pub after_comma-requires : goal.after_comma-requires
 after_comma-requires c = (found (goal.at.after_comma-requires c).In-Some).within
