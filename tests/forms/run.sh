@@ -7,31 +7,32 @@ out=$root/target/forms
 python3 "$root/tests/unproved.py" --copy "$out"
 main=$out/crates/forms/src/main.rt
 mkdir -p "$(dirname "$main")"
-echo "forms: layer notation parse ranges reader record" >>"$out/crates.txt"
+echo "forms: layer notation parsed parse ranges reader record" >>"$out/crates.txt"
 cat >"$out/program" <<'PROGRAM'
 use layer::{Layer, LayerRange};
-use notation::answer::Answer;
 use notation::features;
 use notation::features::Features;
+use notation::refusals::Refusal;
 use parse::parse_notation;
-use parse::parts::{LeafAnswer, Taken};
+use parsed::Parsed;
 use reader::Reader;
 use record::RECORD;
+use record::encode::Fields;
 use std::io;
 
 // Room for ten records.
 const TREE: usize = 10 * RECORD;
 
-fn answer(rt: &impl Print, a: Answer) -> io::Result<()> {
+fn answer(rt: &impl Print, a: Result<u64, Refusal>) -> io::Result<()> {
     match a {
-        Answer::Value(n) => print!(rt; "{n} "),
-        Answer::Refused(n) => print!(rt; "refused {n} "),
+        Ok(n) => print!(rt; "{n} "),
+        Err(refusal) => print!(rt; "refused {} ", refusal.number()),
     }
 }
 
 fn ranges_of(rt: &impl Print, text: &[u8], record: u64, max_layer: u32, negatives: bool) -> io::Result<()> {
     let mut tree = [0u8; TREE];
-    let Answer::Value(size) = parse_notation(text, features::maximal(), &mut tree) else {
+    let Ok(size) = parse_notation(text, features::maximal(), &mut tree) else {
         return Ok(());
     };
     let end = size as usize;
@@ -43,13 +44,12 @@ fn ranges_of(rt: &impl Print, text: &[u8], record: u64, max_layer: u32, negative
     println!(rt; "")
 }
 
-fn leaf(rt: &impl Print, a: LeafAnswer) -> io::Result<()> {
-    match a {
-        LeafAnswer::Took(f, next) => {
-            print!(rt; "{} {} {} {} {next} ", f.small, f.number, f.family.offset, f.family.size)
-        }
-        LeafAnswer::Nothing => print!(rt; "nothing "),
-    }
+fn leaf(rt: &impl Print, a: Option<Parsed<Fields>>) -> io::Result<()> {
+    let Some(read) = a else {
+        return print!(rt; "nothing ");
+    };
+    let f = read.value;
+    print!(rt; "{} {} {} {} {} ", f.small, f.number, f.family.offset, f.family.size, read.next)
 }
 
 fn walked(rt: &impl Print, text: &[u8], features: Features) -> io::Result<()> {
@@ -57,8 +57,8 @@ fn walked(rt: &impl Print, text: &[u8], features: Features) -> io::Result<()> {
     r.skip_whitespace();
     leaf(rt, r.leaf(features))?;
     match r.constraint_set() {
-        Taken::To(next) => print!(rt; "{next} ")?,
-        Taken::Nothing => print!(rt; "none ")?,
+        Some(next) => print!(rt; "{next} ")?,
+        None => print!(rt; "none ")?,
     }
     print!(rt; "{} ", r.multiplier(features))?;
     if r.at_end() {

@@ -25,13 +25,12 @@ use charsets::is_family_char;
 use charsets::is_prime;
 use charsets::is_whitespace;
 use notation::char_set::CharSet;
-use notation::char_set::Class;
 
 // 0 outside, else 1 and on in the order of the Rust's enum, and 7 for the primes.
 #[unsafe(no_mangle)]
 pub extern "C" fn class_of(c: u32) -> u32 {
     match classify(c) {
-        Class::In(set) => match set {
+        Some(set) => match set {
             CharSet::LowercaseLatin => 1,
             CharSet::UppercaseLatin => 2,
             CharSet::UppercaseGreek => 3,
@@ -40,7 +39,7 @@ pub extern "C" fn class_of(c: u32) -> u32 {
             CharSet::Underscore => 6,
             CharSet::Prime => 7,
         },
-        Class::Outside => 0,
+        None => 0,
     }
 }
 

@@ -64,7 +64,7 @@ fn simplify_range(range: LayerRange, max_layer: u16, out: &mut [u8]) -> Result<u
 }
 
 // The layers of the axis without those of the range.
-fn simplify_around(range: LayerRange, max_layer: u16, out: &mut [u8]) -> Result<u64, Refusal>
+pub fn simplify_around(range: LayerRange, max_layer: u16, out: &mut [u8]) -> Result<u64, Refusal>
     requires range { meaning.IsRange (meaning.range range) }
     requires layer { meaning.IsLayer max_layer }
     ensures { elements.GivesRanges
