@@ -239,7 +239,7 @@ fn all_ascii(s: &[u8], at: usize) -> bool
 }
 
 // Whether the text is well-formed UTF-8. By the rule's own table: `str::from_utf8` promises std's `IsUtf8`, and no lemma
-// says that it is the rule's `utf8`.
+// says that it is the rule's `utf8`. The offset goes on by hand, since it goes on by one, by eight or by a character.
 pub fn is_utf8(s: &[u8]) -> bool
     ensures { result ≡ utf8 s.now }
 {
@@ -260,7 +260,7 @@ pub fn is_utf8(s: &[u8]) -> bool
     true
 }
 
-// Where the run of wanted characters that begins at `at` ends.
+// Where the run of wanted characters that begins at `at` ends. The offset goes on by a character, whose widths differ.
 fn run_end<W: Wanted>(s: &[u8], at: usize) -> usize
     requires { at ≤ length s.now }
     ensures { result ≡ at + run W.rule (drop at s.now) }

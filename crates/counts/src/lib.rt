@@ -41,28 +41,19 @@ fn contents(kind: Kind, a: u64, b: u64) -> u64
     requires { (a ≤ rule.CAP) × (b ≤ rule.CAP) }
     ensures { result ≡ rule.cap (contents_of (kind_number kind) a b) }
 {
-    cap(times_first(kind) * a + times_second(kind) * b)
+    let (first, second) = times(kind);
+    cap(first * a + second * b)
 }
 
-// How often the first list is played: twice in A B A' B' and in A B A'.
-fn times_first(kind: Kind) -> u64
-    ensures { (result ≡ contents_of (kind_number kind) 1 0) × (result ≤ 2) }
+// How often each list is played: both twice in A B A' B', the first twice in A B A'.
+fn times(kind: Kind) -> (u64, u64)
+    ensures first { (result.0 ≡ contents_of (kind_number kind) 1 0) × (result.0 ≤ 2) }
+    ensures second { (result.1 ≡ contents_of (kind_number kind) 0 1) × (result.1 ≤ 2) }
 {
     match kind {
-        Kind::Commutator => 2,
-        Kind::Conjugate => 2,
-        _ => 1,
-    }
-}
-
-// How often the second list is played: twice in a commutator, once in a conjugate.
-fn times_second(kind: Kind) -> u64
-    ensures { (result ≡ contents_of (kind_number kind) 0 1) × (result ≤ 2) }
-{
-    match kind {
-        Kind::Commutator => 2,
-        Kind::Conjugate => 1,
-        _ => 0,
+        Kind::Commutator => (2, 2),
+        Kind::Conjugate => (2, 1),
+        _ => (1, 0),
     }
 }
 

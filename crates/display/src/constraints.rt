@@ -7,7 +7,8 @@ use crate::write::Printer;
 use charsets::whitespace_width;
 
 impl<'a> Printer<'a> {
-    // Puts the bytes of a part of the text, but those of white space.
+    // Puts the bytes of a part of the text, but those of white space. The offset goes on by hand, since white space has
+    // several widths.
     pub(crate) fn put_squeezed(mut self, part: &[u8]) -> Printer<'a>
         ensures { Wrote self.entry result (λ rest. squeezed part.now ++ rest) }
     {

@@ -133,7 +133,8 @@ fn repeat(out: &mut [u8], size: usize, total: usize)
     }
 }
 
-// Turns a run of steps round and undoes each, from both ends inwards.
+// Turns a run of steps round and undoes each, from both ends inwards. Both bounds move by hand: a `for` would work out both from
+// one number.
 pub fn turn(steps: &mut [u8])
     requires { AreSteps steps.old }
     ensures { steps.new ≡ records (backwards (as_steps steps.old)) }
