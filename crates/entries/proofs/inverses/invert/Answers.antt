@@ -8,29 +8,29 @@ use Rattle.entries.proofs.Inverting.{inverting, inverse-unaccepted, inverse-refu
 use Rattle.entries.proofs.inverses.invert.Goals as goal
 
 pub returns-in_err-check : goal.returns-in_err-check
-returns-in_err-check c =
+returns-in_err-check g c =
     let a = c.args in
-    rw (handed_on _ _ c.from_residual.ensures) (inverse-unaccepted (inverting a.deep a.text.now a.tree.now) a.out.now _ c.in_err-check.ensures.answer)
+    rw (handed_on _ _ c.from_residual.ensures) (inverse-unaccepted (inverting g.I.Inverse.deep a.text.now a.tree.now) a.out.now _ c.in_err-check.ensures.answer)
 
 pub refusal-requires : goal.refusal-requires
-refusal-requires c = c.in_ok-check.ensures.found.accepted.packed
+refusal-requires g c = c.in_ok-check.ensures.found.accepted.packed
 
 pub returns-in-Some : goal.returns-in-Some
-returns-in-Some c =
+returns-in-Some g c =
     let a = c.args in
-    inverse-refused (inverting a.deep a.text.now a.tree.now) a.out.now c.in_ok-check.ensures.found.accepted _ (ap number_of (sym c.in-Some.is) ∙ c.refusal.ensures)
+    inverse-refused (inverting g.I.Inverse.deep a.text.now a.tree.now) a.out.now c.in_ok-check.ensures.found.accepted _ (ap number_of (sym c.in-Some.is) ∙ c.refusal.ensures)
 
 pub returns-then-out-size : goal.returns-then-out-size
-returns-then-out-size c =
+returns-then-out-size g c =
     let a = c.args in
-    inverse-short (inverting a.deep a.text.now a.tree.now) a.out.now c.in_ok-check.ensures.found.accepted (ap number_of (sym c.in_default.is) ∙ c.refusal.ensures) c.if-out-size.true
+    inverse-short (inverting g.I.Inverse.deep a.text.now a.tree.now) a.out.now c.in_ok-check.ensures.found.accepted (ap number_of (sym c.in_default.is) ∙ c.refusal.ensures) c.if-out-size.true
 
 pub write-requires : goal.write-requires
-write-requires c =
+write-requires g c =
     record { packed = c.in_ok-check.ensures.found.accepted.packed; out_len = simp length-take (omega (arith, c.if-out-size.false)) }
 
 pub returns : goal.returns
-returns c =
+returns g c =
     let a = c.args in
-    inverse-written (inverting a.deep a.text.now a.tree.now) a.out.now c.in_ok-check.ensures.found.accepted (ap number_of (sym c.in_default.is) ∙ c.refusal.ensures)
+    inverse-written (inverting g.I.Inverse.deep a.text.now a.tree.now) a.out.now c.in_ok-check.ensures.found.accepted (ap number_of (sym c.in_default.is) ∙ c.refusal.ensures)
     c.if-out-size.false _ c.write.ensures
