@@ -16,13 +16,12 @@ use Rattle.laws.proofs.Inverses.{inv-is, inv_deep-is}
 use Rattle.laws.proofs.Packing.{length-pack}
 use Rattle.laws.proofs.WellFormedInverses.{inverted-size, deeply-size}
 use Rattle.laws.specs.Packed.{Packed}
-use Rattle.checked.specs.Checked.{Accepted, checked_steps}
+use Rattle.checked.specs.Checked.{Accepted}
 use Rattle.entries.specs.Inverses.{refusing, written, ruled}
-use Rattle.checked.proofs.Outcomes.{refused, lend-refused, lend-short, lend-fits}
+use Rattle.checked.proofs.Outcomes.{lend-refused, lend-short, lend-fits}
 
 -- An inverse: what refuses it, what it writes, as long as the tree.
 pub record Inverting (text tree : List ℕ) (o : Outcome (List ℕ)) (refuses : Option ℕ) (bytes : List ℕ) : Type 0 where
-  pub passes : (r : ℕ) → checked text tree ≡ refusal r → o ≡ refusal r
   pub is : checked text tree ≡ result (unpack tree) → o ≡ verdict refuses bytes
   pub long : Packed tree → length bytes ≡ length tree
 
@@ -34,10 +33,6 @@ sized : (deep : Bool) (t : Tree) → size (written deep t) ≡ size t
 sized true t = deeply-size t
 sized false t = inverted-size t
 
-passed : (deep : Bool) (text tree : List ℕ) (r : ℕ) → checked text tree ≡ refusal r → ruled deep text tree ≡ refusal r
-passed true text tree r c = rw c
-passed false text tree r c = rw c
-
 ruled-is : (deep : Bool) (text tree : List ℕ) → checked text tree ≡ result (unpack tree) → ruled deep text tree ≡ verdict (refusing deep (unpack tree)) (pack (written deep (unpack tree)))
 ruled-is true text tree c = rw (c, inv_deep-is (unpack tree)) (packs (deep_refusal (unpack tree)) (deeply (unpack tree)))
 ruled-is false text tree c = rw (c, inv-is (unpack tree)) (packs (inv_refusal (unpack tree)) (inverted (unpack tree)))
@@ -45,16 +40,12 @@ ruled-is false text tree c = rw (c, inv-is (unpack tree)) (packs (inv_refusal (u
 pub inverting : (deep : Bool) (text tree : List ℕ) → Inverting text tree (ruled deep text tree) (refusing deep (unpack tree)) (pack (written deep (unpack tree)))
 inverting deep text tree =
     record {
-      passes = passed deep text tree;
       is = ruled-is deep text tree;
       long = λ p. length-pack (written deep (unpack tree)) ∙ ap (λ (k : ℕ). RECORD * k) (sized deep (unpack tree)) ∙ sym (length-pack (unpack tree)) ∙ ap length p.whole;
     }
 
 -- The ways out of an inverse.
 module _ {text tree : List ℕ} {o : Outcome (List ℕ)} {refuses : Option ℕ} {bytes : List ℕ} (i : Inverting text tree o refuses bytes) (buffer : List ℕ) where
-  pub inverse-unaccepted : (r : ℕ) → refusal r ≡ checked_steps text tree → record { answer = refusal r; buffer = buffer } ≡ lend o buffer
-  inverse-unaccepted r c = lend-refused o buffer r (i.passes r (refused text tree c refl))
-
   pub inverse-refused : Accepted text tree → (r : ℕ) → some r ≡ refuses → record { answer = refusal r; buffer = buffer } ≡ lend o buffer
   inverse-refused s r e = lend-refused o buffer r (i.is s.is ∙ ap (λ (q : Option ℕ). verdict q bytes) (sym e))
 

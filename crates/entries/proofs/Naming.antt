@@ -1,38 +1,20 @@
 -- What the entries that name a record come to, case by case. Assumes nothing.
-use Prim.Native.Nat.{ℕ, ◌+◌, ◌-◌, ◌/◌, ◌≤◌, ◌<◌}
-use mathlib.Core.Path.{◌≡◌, refl, sym, ap}
+use Prim.Native.Nat.{ℕ, ◌/◌, ◌≤◌, ◌<◌}
+use mathlib.Core.Path.{◌≡◌, refl, sym}
 use mathlib.Core.Bool.{Bool, true, false}
-use mathlib.Core.List.{List, []}
+use mathlib.Core.List.{List}
 use native.Mathlib.Omega.{arith}
 use borrow.Author.Tests.{le-leb, lt-leb, lt-ltb, le-ltb, eq-eqb, ne_eqb, leb-true, leb-false, ltb-true, ltb-false, eqb-true, eqb-false}
 use lib.Dec.{eqb, leb, ltb}
-use lib.ListN.{length, take, drop}
+use lib.ListN.{length}
 use Rattle.notation.specs.Basics.{pick, between}
-use Rattle.notation.specs.Refusals.{Outcome, refusal, result, NO-SUCH-LAYER-COUNT, NO-SUCH-RECORD}
+use Rattle.notation.specs.Refusals.{refusal, result, NO-SUCH-LAYER-COUNT, NO-SUCH-RECORD}
 use Rattle.notation.specs.Layers.{MAX-LAYER, lit, simplified}
 use Rattle.notation.specs.Tree.{Span, Layers}
 use Rattle.notation.specs.Packed.{RECORD, Head, head_at, family_at}
 use Rattle.notation.specs.WellFormed.{inside, family_ok, layers_ok, leaf_ok}
-use Rattle.notation.specs.Entries.{
-  Lent,
-  refusal_number,
-  prefix_of,
-  ranges_in,
-  layer_ranges,
-  lend,
-  in_entries,
-  range_bytes,
-  simplify_bytes,
-  family_of,
-  family_span,
-  family,
-  family_refusal,
-}
-use Rattle.std.specs.Prelude as code
-use Rattle.std.specs.Result.{result_err}
-use Rattle.notation.specs.declared.refusals.Refusal as refusals
-use Rattle.record.specs.declared.spanned.Span as record'
-use Rattle.entries.specs.Parts.{Begins, or_zero, part_outcome}
+use Rattle.notation.specs.Entries.{Lent, prefix_of, ranges_in, layer_ranges, lend, in_entries, range_bytes, simplify_bytes, family_of, family_span}
+use Rattle.entries.specs.Parts.{Begins}
 use Rattle.record.specs.Meaning.{field, layers_at, kind_at, tilde_at, FAMILY, FAMILY-SIZE}
 use Rattle.record.proofs.Packed.{by-kind}
 use Rattle.laws.proofs.Bools.{and_left, and_right}
@@ -146,25 +128,6 @@ module _ (text tree : List ℕ) (k : ℕ) where
       pub family-is : family_of (head_at found) ≡ family_span text tree k
       unfolding family_span
       family-is = rw (s.is, lt-ltb k (length tree / RECORD) b.there, b.is)
-
--- Families.
-module _ (text tree : List ℕ) (k : ℕ) where
-  pub family-part : (p : Span) → result p ≡ family_span text tree k →
-      take (p.offset + p.size - p.offset) (drop p.offset text) ≡ family text tree k
-  family-part p e =
-      let z : p.offset + p.size - p.offset ≡ p.size = omega arith in
-      rw (sym e, z)
-
-  pub family-empty : (r : ℕ) → refusal r ≡ family_span text tree k → [] ≡ family text tree k
-  family-empty r e = rw (sym e)
-
-  -- the code's refusal, if there is one
-  pub or-zero-is : (r : code.Result record'.Span refusals.Refusal) → or_zero (result_err r) ≡ refusal_number (part_outcome r)
-  or-zero-is (code.Ok p) = refl
-  or-zero-is (code.Err r) = refl
-
-  pub family-number : (o : Outcome Span) → o ≡ family_span text tree k → refusal_number o ≡ family_refusal text tree k
-  family-number o e = ap refusal_number e
 
 -- Layer ranges.
 module _ (text tree : List ℕ) (k n : ℕ) (neg : Bool) (buffer : List ℕ) where

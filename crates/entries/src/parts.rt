@@ -78,11 +78,7 @@ pub fn family<'a>(text: &'a [u8], tree: &[u8], record: u64) -> &'a [u8]
     ensures { result.now ≡ rule.family text.now tree.now «record» }
 {
     match family_part(text, tree, record) {
-        Ok(p) => {
-            let from = p.offset as usize;
-            let to = from + (p.size as usize);
-            &text[from..to]
-        }
+        Ok(p) => &text[p.offset as usize..][..p.size as usize],
         Err(_) => &text[0..0],
     }
 }

@@ -13,17 +13,17 @@ use Rattle.checked.proofs.Outcomes.{handed_on}
 use Rattle.entries.proofs.Naming.{family-other, family-named, family-inside, family-unaccepted, family-none, accepted-record, family-is}
 use Rattle.entries.proofs.parts.family_part.Goals as goal
 
-pub returns-in_err-check : goal.returns-in_err-check
-returns-in_err-check c =
+pub returns-in_err-check-clause-result_value : goal.returns-in_err-check-clause-result_value
+returns-in_err-check-clause-result_value c =
     let a = c.args in
     rw (handed_on _ _ c.from_residual.ensures)
-    (record { result_value = family-unaccepted a.text.now a.tree.now a.«record» _ c.in_err-check.ensures.answer; inside = tt; fits = tt })
+    (family-unaccepted a.text.now a.tree.now a.«record» _ c.in_err-check.ensures.answer)
 
-pub returns-in_err-found : goal.returns-in_err-found
-returns-in_err-found c =
+pub returns-in_err-found-clause-result_value : goal.returns-in_err-found-clause-result_value
+returns-in_err-found-clause-result_value c =
     let a = c.args in
     rw (handed_on _ _ c.from_residual-in_err-found.ensures, c.in_err-found.ensures.0)
-    (record { result_value = family-none a.text.now a.tree.now a.«record» c.in_ok-check.ensures.found.accepted c.in_err-found.ensures.1; inside = tt; fits = tt })
+    (family-none a.text.now a.tree.now a.«record» c.in_ok-check.ensures.found.accepted c.in_err-found.ensures.1)
 
 pub returns-in-Rotation : goal.returns-in-Rotation
 returns-in-Rotation c =
