@@ -22,6 +22,7 @@ use Rattle.checked.proofs.Outcomes.{lend-refused, lend-short, lend-fits}
 
 -- An inverse: what refuses it, what it writes, as long as the tree.
 pub record Inverting (text tree : List ℕ) (o : Outcome (List ℕ)) (refuses : Option ℕ) (bytes : List ℕ) : Type 0 where
+  pub passes : (r : ℕ) → checked text tree ≡ refusal r → o ≡ refusal r
   pub is : checked text tree ≡ result (unpack tree) → o ≡ verdict refuses bytes
   pub long : Packed tree → length bytes ≡ length tree
 
@@ -33,6 +34,10 @@ sized : (deep : Bool) (t : Tree) → size (written deep t) ≡ size t
 sized true t = deeply-size t
 sized false t = inverted-size t
 
+passed : (deep : Bool) (text tree : List ℕ) (r : ℕ) → checked text tree ≡ refusal r → ruled deep text tree ≡ refusal r
+passed true text tree r c = rw c
+passed false text tree r c = rw c
+
 ruled-is : (deep : Bool) (text tree : List ℕ) → checked text tree ≡ result (unpack tree) → ruled deep text tree ≡ verdict (refusing deep (unpack tree)) (pack (written deep (unpack tree)))
 ruled-is true text tree c = rw (c, inv_deep-is (unpack tree)) (packs (deep_refusal (unpack tree)) (deeply (unpack tree)))
 ruled-is false text tree c = rw (c, inv-is (unpack tree)) (packs (inv_refusal (unpack tree)) (inverted (unpack tree)))
@@ -40,6 +45,7 @@ ruled-is false text tree c = rw (c, inv-is (unpack tree)) (packs (inv_refusal (u
 pub inverting : (deep : Bool) (text tree : List ℕ) → Inverting text tree (ruled deep text tree) (refusing deep (unpack tree)) (pack (written deep (unpack tree)))
 inverting deep text tree =
     record {
+      passes = passed deep text tree;
       is = ruled-is deep text tree;
       long = λ p. length-pack (written deep (unpack tree)) ∙ ap (λ (k : ℕ). RECORD * k) (sized deep (unpack tree)) ∙ sym (length-pack (unpack tree)) ∙ ap length p.whole;
     }
