@@ -4,8 +4,8 @@ use mathlib.Core.Path.{◌≡◌, refl, sym}
 use mathlib.Core.Bool.{Bool, true, false}
 use mathlib.Core.List.{List}
 use native.Mathlib.Omega.{arith}
-use borrow.Author.Tests.{le-leb, lt-leb, lt-ltb, le-ltb, eq-eqb, ne_eqb, leb-true, leb-false, ltb-true, ltb-false, eqb-true, eqb-false}
-use lib.Dec.{eqb, leb, ltb}
+use borrow.Author.Tests.{le-leb, lt-leb, lt-ltb, le-ltb, eq-eqb, ne_eqb, leb-true}
+use lib.Dec.{eqb, leb}
 use lib.ListN.{length}
 use Rattle.notation.specs.Basics.{pick, between}
 use Rattle.notation.specs.Refusals.{refusal, result, NO-SUCH-LAYER-COUNT, NO-SUCH-RECORD}
@@ -37,27 +37,13 @@ module _ (bs : List ℕ) (k : ℕ) (e : k ≡ kind_at bs) where
       (refl, (refl, (refl, (refl, (refl, (refl, (refl, (refl, (refl, (refl, (refl, (refl, (refl, (refl, (refl, tt)))))))))))))))
       (λ j l. rw (ne_eqb j 7 (omega arith)))
 
-  pub family-low : k < 6 → refusal NO-SUCH-RECORD ≡ family_of (head_at bs)
-  family-low h = rw (family-by-kind, lt-leb 6 k h)
-
-  pub family-high : 7 < k → refusal NO-SUCH-RECORD ≡ family_of (head_at bs)
-  family-high h = rw (family-by-kind, le-leb 6 k (omega arith), lt-leb k 7 h)
-
   -- of a kind that is neither a rotation nor a move
   pub family-other : (k ≡ 6 → ⊥) → (k ≡ 7 → ⊥) → refusal NO-SUCH-RECORD ≡ family_of (head_at bs)
   family-other a b = go (leb 6 k) refl
     where
       go : (t : Bool) → leb 6 k ≡ t → refusal NO-SUCH-RECORD ≡ family_of (head_at bs)
-      go true p = let l = leb-true 6 k p in family-high (above (ltb 7 k) refl l)
-        where
-          above : (t : Bool) → ltb 7 k ≡ t → 6 ≤ k → 7 < k
-          above true q l = ltb-true 7 k q
-          above false q l = absurd (split (eqb k 6) refl)
-            where
-              split : (t : Bool) → eqb k 6 ≡ t → ⊥
-              split true z = a (eqb-true k 6 z)
-              split false z = b (let m = ltb-false 7 k q in let n = eqb-false k 6 z in omega (arith, n))
-      go false p = family-low (leb-false 6 k p)
+      go true p = let l = leb-true 6 k p in rw (family-by-kind, p, lt-leb k 7 (omega (arith, a, b)))
+      go false p = rw (family-by-kind, p)
 
   pub family-named : 6 ≤ k → k ≤ 7 → result (family_at (field FAMILY bs) (field FAMILY-SIZE bs)) ≡ family_of (head_at bs)
   family-named l h = rw (family-by-kind, le-leb 6 k l, le-leb k 7 h)
