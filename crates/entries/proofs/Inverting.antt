@@ -16,9 +16,9 @@ use Rattle.laws.proofs.Inverses.{inv-is, inv_deep-is}
 use Rattle.laws.proofs.Packing.{length-pack}
 use Rattle.laws.proofs.WellFormedInverses.{inverted-size, deeply-size}
 use Rattle.laws.specs.Packed.{Packed}
-use Rattle.checked.specs.Checked.{Accepted, checked_steps}
+use Rattle.checked.specs.Checked.{Accepted}
 use Rattle.entries.specs.Inverses.{refusing, written, ruled}
-use Rattle.checked.proofs.Outcomes.{refused, lend-refused, lend-short, lend-fits}
+use Rattle.checked.proofs.Outcomes.{lend-refused, lend-short, lend-fits}
 
 -- An inverse: what refuses it, what it writes, as long as the tree.
 pub record Inverting (text tree : List ℕ) (o : Outcome (List ℕ)) (refuses : Option ℕ) (bytes : List ℕ) : Type 0 where
@@ -52,9 +52,6 @@ inverting deep text tree =
 
 -- The ways out of an inverse.
 module _ {text tree : List ℕ} {o : Outcome (List ℕ)} {refuses : Option ℕ} {bytes : List ℕ} (i : Inverting text tree o refuses bytes) (buffer : List ℕ) where
-  pub inverse-unaccepted : (r : ℕ) → refusal r ≡ checked_steps text tree → record { answer = refusal r; buffer = buffer } ≡ lend o buffer
-  inverse-unaccepted r c = lend-refused o buffer r (i.passes r (refused text tree c refl))
-
   pub inverse-refused : Accepted text tree → (r : ℕ) → some r ≡ refuses → record { answer = refusal r; buffer = buffer } ≡ lend o buffer
   inverse-refused s r e = lend-refused o buffer r (i.is s.is ∙ ap (λ (q : Option ℕ). verdict q bytes) (sym e))
 

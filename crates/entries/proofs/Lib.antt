@@ -1,4 +1,3 @@
 pub mod Inverting
 pub mod Stepping
-pub mod Displaying
 pub mod Naming

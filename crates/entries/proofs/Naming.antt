@@ -1,39 +1,20 @@
 -- What the entries that name a record come to, case by case. Assumes nothing.
-use Prim.Native.Nat.{ℕ, ◌+◌, ◌-◌, ◌*◌, ◌/◌, ◌≤◌, ◌<◌}
-use mathlib.Core.Path.{◌≡◌, refl, sym, ap, subst}
+use Prim.Native.Nat.{ℕ, ◌/◌, ◌≤◌, ◌<◌}
+use mathlib.Core.Path.{◌≡◌, refl, sym}
 use mathlib.Core.Bool.{Bool, true, false}
-use mathlib.Core.List.{List, []}
+use mathlib.Core.List.{List}
 use native.Mathlib.Omega.{arith}
-use borrow.Author.Tests.{le-leb, lt-leb, lt-ltb, le-ltb, eq-eqb, ne_eqb, leb-true, leb-false, ltb-true, ltb-false, eqb-true, eqb-false}
-use lib.Dec.{eqb, leb, ltb}
-use lib.ListN.{length, take, drop, length-drop}
-use lib.Seq.{take_all}
+use borrow.Author.Tests.{le-leb, lt-leb, lt-ltb, le-ltb, eq-eqb, ne_eqb, leb-true}
+use lib.Dec.{eqb, leb}
+use lib.ListN.{length}
 use Rattle.notation.specs.Basics.{pick, between}
-use Rattle.notation.specs.Refusals.{Outcome, refusal, result, NO-SUCH-LAYER-COUNT, NO-SUCH-RECORD}
+use Rattle.notation.specs.Refusals.{refusal, result, NO-SUCH-LAYER-COUNT, NO-SUCH-RECORD}
 use Rattle.notation.specs.Layers.{MAX-LAYER, lit, simplified}
 use Rattle.notation.specs.Tree.{Span, Layers}
 use Rattle.notation.specs.Packed.{RECORD, Head, head_at, family_at}
 use Rattle.notation.specs.WellFormed.{inside, family_ok, layers_ok, leaf_ok}
-use Rattle.notation.specs.Entries.{
-  Lent,
-  refusal_number,
-  prefix_of,
-  ranges_in,
-  layer_ranges,
-  lend,
-  in_entries,
-  range_bytes,
-  simplify_bytes,
-  family_of,
-  family_span,
-  family,
-  family_refusal,
-}
-use Rattle.std.specs.Prelude as code
-use Rattle.std.specs.Result.{result_err}
-use Rattle.notation.specs.declared.refusals.Refusal as refusals
-use Rattle.record.specs.declared.spanned.Span as record'
-use Rattle.entries.specs.Parts.{or_zero, part_outcome}
+use Rattle.notation.specs.Entries.{Lent, prefix_of, ranges_in, layer_ranges, lend, in_entries, range_bytes, simplify_bytes, family_of, family_span}
+use Rattle.entries.specs.Parts.{Begins}
 use Rattle.record.specs.Meaning.{field, layers_at, kind_at, tilde_at, FAMILY, FAMILY-SIZE}
 use Rattle.record.proofs.Packed.{by-kind}
 use Rattle.laws.proofs.Bools.{and_left, and_right}
@@ -56,27 +37,13 @@ module _ (bs : List ℕ) (k : ℕ) (e : k ≡ kind_at bs) where
       (refl, (refl, (refl, (refl, (refl, (refl, (refl, (refl, (refl, (refl, (refl, (refl, (refl, (refl, (refl, tt)))))))))))))))
       (λ j l. rw (ne_eqb j 7 (omega arith)))
 
-  pub family-low : k < 6 → refusal NO-SUCH-RECORD ≡ family_of (head_at bs)
-  family-low h = rw (family-by-kind, lt-leb 6 k h)
-
-  pub family-high : 7 < k → refusal NO-SUCH-RECORD ≡ family_of (head_at bs)
-  family-high h = rw (family-by-kind, le-leb 6 k (omega arith), lt-leb k 7 h)
-
   -- of a kind that is neither a rotation nor a move
   pub family-other : (k ≡ 6 → ⊥) → (k ≡ 7 → ⊥) → refusal NO-SUCH-RECORD ≡ family_of (head_at bs)
   family-other a b = go (leb 6 k) refl
     where
       go : (t : Bool) → leb 6 k ≡ t → refusal NO-SUCH-RECORD ≡ family_of (head_at bs)
-      go true p = let l = leb-true 6 k p in family-high (above (ltb 7 k) refl l)
-        where
-          above : (t : Bool) → ltb 7 k ≡ t → 6 ≤ k → 7 < k
-          above true q l = ltb-true 7 k q
-          above false q l = absurd (split (eqb k 6) refl)
-            where
-              split : (t : Bool) → eqb k 6 ≡ t → ⊥
-              split true z = a (eqb-true k 6 z)
-              split false z = b (let m = ltb-false 7 k q in let n = eqb-false k 6 z in omega (arith, n))
-      go false p = family-low (leb-false 6 k p)
+      go true p = let l = leb-true 6 k p in rw (family-by-kind, p, lt-leb k 7 (omega (arith, a, b)))
+      go false p = rw (family-by-kind, p)
 
   pub family-named : 6 ≤ k → k ≤ 7 → result (family_at (field FAMILY bs) (field FAMILY-SIZE bs)) ≡ family_of (head_at bs)
   family-named l h = rw (family-by-kind, le-leb 6 k l, le-leb k 7 h)
@@ -130,10 +97,6 @@ module _ (bs : List ℕ) (k : ℕ) (e : k ≡ kind_at bs) where
   pub layers-inside : (text : List ℕ) → k ≡ 7 → HeadOk text (head_at bs) → layers_ok text (layers_at bs) ≡ true
   layers-inside text z h = prefix-ok text (head_at bs) (tilde_at bs) (layers_at bs) h (some_prefix z)
 
--- The record at a number, as the part of the tree from it on that the code takes.
-abbrev pub found : List ℕ → ℕ → List ℕ
-found tree k = take (length tree - RECORD * k) (drop (RECORD * k) tree)
-
 module _ (text tree : List ℕ) (k : ℕ) where
   pub family-unaccepted : (r : ℕ) → refusal r ≡ checked_steps text tree → refusal r ≡ family_span text tree k
   unfolding family_span
@@ -144,35 +107,13 @@ module _ (text tree : List ℕ) (k : ℕ) where
     unfolding family_span
     family-none h = rw (s.is, le-ltb k (length tree / RECORD) h)
 
-    module _ (h : k < length tree / RECORD) where
-      from : head_at (found tree k) ≡ head_at (drop (RECORD * k) tree)
-      from = ap head_at (take_all (length tree - RECORD * k) (drop (RECORD * k) tree) (simp length-drop (omega arith)))
+    module _ {found : List ℕ} (b : Begins tree k found) where
+      pub accepted-record : HeadOk text (head_at found)
+      accepted-record = rw b.is (record-ok text tree s k b.there)
 
-      pub accepted-record : HeadOk text (head_at (found tree k))
-      accepted-record = subst (HeadOk text) (sym from) (record-ok text tree s k h)
-
-      pub family-is : family_of (head_at (found tree k)) ≡ family_span text tree k
+      pub family-is : family_of (head_at found) ≡ family_span text tree k
       unfolding family_span
-      family-is = rw (s.is, lt-ltb k (length tree / RECORD) h, from)
-
--- Families.
-module _ (text tree : List ℕ) (k : ℕ) where
-  pub family-part : (p : Span) → result p ≡ family_span text tree k →
-      take (p.offset + p.size - p.offset) (drop p.offset text) ≡ family text tree k
-  family-part p e =
-      let z : p.offset + p.size - p.offset ≡ p.size = omega arith in
-      rw (sym e, z)
-
-  pub family-empty : (r : ℕ) → refusal r ≡ family_span text tree k → [] ≡ family text tree k
-  family-empty r e = rw (sym e)
-
-  -- the code's refusal, if there is one
-  pub or-zero-is : (r : code.Result record'.Span refusals.Refusal) → or_zero (result_err r) ≡ refusal_number (part_outcome r)
-  or-zero-is (code.Ok p) = refl
-  or-zero-is (code.Err r) = refl
-
-  pub family-number : (o : Outcome Span) → o ≡ family_span text tree k → refusal_number o ≡ family_refusal text tree k
-  family-number o e = ap refusal_number e
+      family-is = rw (s.is, lt-ltb k (length tree / RECORD) b.there, b.is)
 
 -- Layer ranges.
 module _ (text tree : List ℕ) (k n : ℕ) (neg : Bool) (buffer : List ℕ) where
@@ -184,27 +125,21 @@ module _ (text tree : List ℕ) (k n : ℕ) (neg : Bool) (buffer : List ℕ) whe
   simplify-unaccepted r c = rw (refused text tree c refl)
 
   module _ (s : Accepted text tree) where
-    pub simplify-no-layers : n ≡ 0 → Refused NO-SUCH-LAYER-COUNT
+    pub simplify-layers : between 1 MAX-LAYER n ≡ false → Refused NO-SUCH-LAYER-COUNT
     unfolding layer_ranges
-    simplify-no-layers z = rw (s.is, z)
+    simplify-layers h = rw (s.is, h)
 
-    pub simplify-many-layers : MAX-LAYER < n → Refused NO-SUCH-LAYER-COUNT
-    unfolding layer_ranges
-    simplify-many-layers h = rw (s.is, le-leb 1 n (omega arith), lt-leb n MAX-LAYER h)
-
-    module _ (low : (n ≡ 0 → ⊥)) (high : n ≤ MAX-LAYER) where
+    module _ (e : between 1 MAX-LAYER n ≡ true) where
       pub simplify-none : length tree / RECORD ≤ k → Refused NO-SUCH-RECORD
       unfolding layer_ranges
-      simplify-none h = rw (s.is, le-leb 1 n (omega arith), le-leb n MAX-LAYER high, le-ltb k (length tree / RECORD) h)
+      simplify-none h = rw (s.is, e, le-ltb k (length tree / RECORD) h)
 
-      module _ (h : k < length tree / RECORD) where
-        pub simplify-no-move : prefix_of (head_at (found tree k)) ≡ refusal NO-SUCH-RECORD → Refused NO-SUCH-RECORD
+      module _ {found : List ℕ} (b : Begins tree k found) where
+        pub simplify-no-move : prefix_of (head_at found) ≡ refusal NO-SUCH-RECORD → Refused NO-SUCH-RECORD
         unfolding layer_ranges
-        simplify-no-move t =
-            rw (s.is, le-leb 1 n (omega arith), le-leb n MAX-LAYER high, lt-ltb k (length tree / RECORD) h, sym (from text tree k s h), t)
+        simplify-no-move t = rw (s.is, e, lt-ltb k (length tree / RECORD) b.there, sym b.is, t)
 
-        pub simplify-move : (tilde : Bool) (l : Layers Span) → prefix_of (head_at (found tree k)) ≡ result (tilde, l) → (o : Lent ℕ) →
+        pub simplify-move : (tilde : Bool) (l : Layers Span) → prefix_of (head_at found) ≡ result (tilde, l) → (o : Lent ℕ) →
             o ≡ in_entries 4 (lend (result (range_bytes (simplified (lit n tilde (ranges_in text n neg l))))) buffer) → o ≡ simplify_bytes text tree k n neg buffer
         unfolding layer_ranges
-        simplify-move tilde l t o q =
-            rw (s.is, le-leb 1 n (omega arith), le-leb n MAX-LAYER high, lt-ltb k (length tree / RECORD) h, sym (from text tree k s h), t) q
+        simplify-move tilde l t o q = rw (s.is, e, lt-ltb k (length tree / RECORD) b.there, sym b.is, t) q

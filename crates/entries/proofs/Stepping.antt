@@ -1,17 +1,17 @@
 -- What unrolling and seeking come to, case by case. Assumes nothing.
 use Prim.Native.Nat.{ℕ, ◌*◌, ◌≤◌, ◌<◌}
-use mathlib.Core.Path.{◌≡◌, refl, sym, ap, ◌∙◌}
+use mathlib.Core.Path.{◌≡◌, sym, ap, ◌∙◌}
 use mathlib.Core.Bool.{false}
 use mathlib.Core.List.{List, ◌++◌}
 use mathlib.Core.Option.{Option, some}
 use native.Mathlib.Omega.{arith}
 use borrow.Author.Tests.{le-leb}
 use lib.ListN.{length, drop, get_elem?}
-use Rattle.notation.specs.Refusals.{Outcome, refusal, result, NO-ROOM, NO-SUCH-PLACE}
+use Rattle.notation.specs.Refusals.{refusal, result, NO-ROOM, NO-SUCH-PLACE}
 use Rattle.notation.specs.Tree.{Leaf}
 use Rattle.notation.specs.Packed.{RECORD, leaf_head, leaf_record, unpack}
 use Rattle.notation.specs.Invert.{undo}
-use Rattle.notation.specs.Entries.{steps, records, unrolled, flatten_entry, count_steps, step_at, seek_step, refusal_number, MAX-STEPS}
+use Rattle.notation.specs.Entries.{steps, records, unrolled, flatten_entry, step_at, seek_step, MAX-STEPS}
 use Rattle.record.proofs.RoundTrip.{length-head_record}
 use Rattle.laws.proofs.ListEntries.{get-past, get-within}
 use Rattle.laws.specs.Unrolled.{flat}
@@ -21,29 +21,9 @@ use Rattle.expand.specs.Places.{step_in, found}
 use Rattle.expand.specs.Steps.{WroteSteps}
 use Rattle.expand.proofs.Steps.{length-records}
 use Rattle.checked.specs.Checked.{Counted}
-use Rattle.laws.proofs.Bools.{no-refusal}
 use Rattle.checked.proofs.Outcomes.{lend-refused, lend-short, lend-fits}
 
--- Where the count is refused, unrolling and seeking are; the answer is handed on as it is.
-module _ (text tree : List ℕ) (r : ℕ) (e : refusal r ≡ count_steps text tree) (buffer : List ℕ) where
-  pub refused-steps : steps text tree ≡ refusal r
-  refused-steps = go (steps text tree) refl
-    where
-      go : (l : Outcome (List Leaf)) → steps text tree ≡ l → steps text tree ≡ refusal r
-      go (refusal k) p =
-          let z : refusal k ≡ refusal r = rw p at (sym e) in
-          p ∙ ap refusal (ap refusal_number z)
-      go (result l) p =
-          let z : result (length l) ≡ refusal r = rw p at (sym e) in
-          no-refusal (sym z)
-
-  pub flatten-refused : record { answer = refusal r; buffer = buffer } ≡ flatten_entry text tree buffer
-  flatten-refused = lend-refused (unrolled text tree) buffer r (rw refused-steps)
-
-  pub seek-refused : (k : ℕ) → record { answer = refusal r; buffer = buffer } ≡ seek_step text tree k buffer
-  seek-refused k = lend-refused (step_at text tree k) buffer r (rw refused-steps)
-
--- Where it is not, the steps are those of the tree.
+-- Where the count is not refused, the steps are those of the tree.
 module _ (text tree : List ℕ) (n : ℕ) (c : Counted text tree n) (buffer : List ℕ) where
   pub these : steps text tree ≡ result (flat undo false (unpack tree))
   unfolding steps

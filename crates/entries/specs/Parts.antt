@@ -1,7 +1,8 @@
 -- Parts of the text, as an outcome.
-use Rattle.std.specs.Prelude.{ℕ, ◌≡◌, true, List, Option, Some, None, Result, Ok, Err}
+use Rattle.std.specs.Prelude.{ℕ, ◌*◌, ◌/◌, ◌<◌, ◌≤◌, ◌≡◌, true, length, drop, List, Option, Some, None, Result, Ok, Err, IfOk}
 use Rattle.notation.specs.Refusals.{Outcome, refusal, result}
 use Rattle.notation.specs.Tree as tree
+use Rattle.notation.specs.Packed.{RECORD}
 use Rattle.notation.specs.WellFormed.{inside}
 use Rattle.record.specs.Meaning.{span}
 use Rattle.record.specs.Range.{FitsSpan}
@@ -20,9 +21,13 @@ or_zero None = 0
 
 -- a part that is given stands inside the text, and its numbers have the width of their fields
 abbrev pub Inside : List ℕ → Result Span Refusal → Type 0
-Inside text (Ok p) = inside text (span p) ≡ true
-Inside text (Err r) = Unit {0}
+Inside text r = IfOk r (λ p. inside text (span p) ≡ true)
 
 abbrev pub Fits : Result Span Refusal → Type 0
-Fits (Ok p) = FitsSpan (span p)
-Fits (Err r) = Unit {0}
+Fits r = IfOk r (λ p. FitsSpan (span p))
+
+-- what begins with the record of a number, in a tree that has it
+pub record Begins (tree : List ℕ) (k : ℕ) (found : List ℕ) : Type 0 where
+  pub there : k < length tree / RECORD
+  pub is : found ≡ drop (RECORD * k) tree
+  pub long : RECORD ≤ length found

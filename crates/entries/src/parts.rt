@@ -1,7 +1,9 @@
 // What one record of a tree names: the layers that a move turns, and a family's part of the text.
-ghost use Rattle.std.specs.Prelude.{◌≡◌, true};
+ghost use Rattle.std.specs.Prelude.{◌≡◌, ◌/◌, ◌≤◌, true, length, MatchResult};
+ghost use Rattle.notation.specs.declared.refusals.Refusal.TheVariants.{NoSuchRecord};
+ghost use Rattle.notation.specs.Packed.{RECORD as record_size};
 ghost use Rattle.notation.specs.Entries as rule;
-ghost use Rattle.entries.specs.Parts.{part_outcome, or_zero, Inside, Fits};
+ghost use Rattle.entries.specs.Parts.{part_outcome, or_zero, Inside, Fits, Begins};
 
 use checked::check;
 use notation::limits;
@@ -11,6 +13,17 @@ use record::spanned::Span;
 use record::{Kind, RECORD, fields};
 
 const MAX_LAYER: u32 = limits::MAX_LAYER as u32;
+
+// The tree from its record of that number on, or refusal 12 where it has none.
+fn record_at(tree: &[u8], record: u64) -> Result<&[u8], Refusal>
+    ensures { MatchResult result (λ found. Begins tree.now «record» found.now)
+        (λ r. (r ≡ NoSuchRecord) × (length tree.now / record_size ≤ «record»)) }
+{
+    if (tree.len() / RECORD) as u64 <= record {
+        return Err(Refusal::NoSuchRecord);
+    }
+    Ok(&tree[RECORD * (record as usize)..])
+}
 
 // The layers that the move at a record turns, on an axis of `max_layer` layers, with a tilde those that its prefix
 // without it does not give: the number of ranges, each written as low and high, 16 bits big-endian. Refusals 1, 2, 6,
@@ -27,17 +40,10 @@ pub fn simplify(
         ≡ rule.simplify_bytes text.now tree.now «record» max_layer allow_negatives out.old }
 {
     check(text, tree)?;
-    if max_layer == 0 {
+    if !(1..=MAX_LAYER).contains(&max_layer) {
         return Err(Refusal::NoSuchLayerCount);
     }
-    if MAX_LAYER < max_layer {
-        return Err(Refusal::NoSuchLayerCount);
-    }
-    if (tree.len() / RECORD) as u64 <= record {
-        return Err(Refusal::NoSuchRecord);
-    }
-    let from = RECORD * (record as usize);
-    let found = &tree[from..];
+    let found = record_at(tree, record)?;
     if fields::kind(found) != Kind::Move {
         return Err(Refusal::NoSuchRecord);
     }
@@ -60,11 +66,7 @@ pub fn family_part(text: &[u8], tree: &[u8], record: u64) -> Result<Span, Refusa
     ensures fits { Fits result }
 {
     check(text, tree)?;
-    if (tree.len() / RECORD) as u64 <= record {
-        return Err(Refusal::NoSuchRecord);
-    }
-    let from = RECORD * (record as usize);
-    let found = &tree[from..];
+    let found = record_at(tree, record)?;
     match fields::kind(found) {
         Kind::Rotation | Kind::Move => Ok(family_of(found)),
         _ => Err(Refusal::NoSuchRecord),
@@ -76,11 +78,7 @@ pub fn family<'a>(text: &'a [u8], tree: &[u8], record: u64) -> &'a [u8]
     ensures { result.now ≡ rule.family text.now tree.now «record» }
 {
     match family_part(text, tree, record) {
-        Ok(p) => {
-            let from = p.offset as usize;
-            let to = from + (p.size as usize);
-            &text[from..to]
-        }
+        Ok(p) => &text[p.offset as usize..][..p.size as usize],
         Err(_) => &text[0..0],
     }
 }

@@ -12,11 +12,9 @@ pub fn display(text: &[u8], tree: &[u8], out: &mut [u8]) -> Result<u64, Refusal>
     check(text, tree)?;
     // Most buffers surely suffice; then one run prints.
     if display::fits(tree, out.len()) {
-        let written = display::display(text, tree, out);
-        return Ok(written as u64);
+        return Ok(display::display(text, tree, out) as u64);
     }
-    let mut nothing = [0u8; 0];
-    let size = display::display(text, tree, &mut nothing);
+    let size = display::display(text, tree, &mut []);
     if out.len() < size {
         return Err(Refusal::NoRoom);
     }

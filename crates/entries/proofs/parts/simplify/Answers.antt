@@ -1,12 +1,9 @@
 -- `parts::simplify` meets its contract: each way out is one case of the rule. Assumes nothing.
-use Prim.Native.Nat.{◌/◌, ◌<◌}
 use mathlib.Core.Path.{◌∙◌, ap, sym}
 use mathlib.Core.Bool.{Bool}
-use native.Mathlib.Omega.{arith}
-use lib.ListN.{length}
+use Rattle.std.proofs.Common.{rules}
 use Rattle.notation.specs.Refusals.{result}
 use Rattle.notation.specs.Tree.{Span, Layers}
-use Rattle.notation.specs.Packed.{RECORD}
 use Rattle.notation.specs.WellFormed.{layers_ok}
 use Rattle.record.specs.Meaning.{layers_at}
 use Rattle.checked.proofs.Outcomes.{handed_on}
@@ -14,14 +11,12 @@ use Rattle.record.specs.Kinds.{kind_number}
 use Rattle.record.specs.declared.kinds.Kind.TheVariants.{Move}
 use Rattle.record.proofs.SameKind.{same, differs}
 use Rattle.entries.proofs.Naming.{
-  found,
   accepted-record,
   no-prefix,
   some_prefix,
   layers-inside,
   simplify-unaccepted,
-  simplify-no-layers,
-  simplify-many-layers,
+  simplify-layers,
   simplify-none,
   simplify-no-move,
   simplify-move,
@@ -33,52 +28,39 @@ returns-in_err-check c =
     let a = c.args in
     rw (handed_on _ _ c.from_residual.ensures) (simplify-unaccepted a.text.now a.tree.now a.«record» a.max_layer a.allow_negatives a.out.now _ c.in_err-check.ensures.answer)
 
-pub returns-then-max_layer-eq0 : goal.returns-then-max_layer-eq0
-returns-then-max_layer-eq0 c =
+pub returns-then-not-contains : goal.returns-then-not-contains
+returns-then-not-contains c =
     let a = c.args in
-    let k = c.in_ok-check.ensures.found in
-    simplify-no-layers a.text.now a.tree.now a.«record» a.max_layer a.allow_negatives a.out.now k.accepted c.if-max_layer-eq0.true
+    simplify-layers a.text.now a.tree.now a.«record» a.max_layer a.allow_negatives a.out.now c.in_ok-check.ensures.found.accepted (search rules)
 
-pub returns-then-max_layer-gt-MAX_LAYER : goal.returns-then-max_layer-gt-MAX_LAYER
-returns-then-max_layer-gt-MAX_LAYER c =
+pub returns-in_err-found : goal.returns-in_err-found
+returns-in_err-found c =
     let a = c.args in
-    let k = c.in_ok-check.ensures.found in
-    simplify-many-layers a.text.now a.tree.now a.«record» a.max_layer a.allow_negatives a.out.now k.accepted c.if-max_layer-gt-MAX_LAYER.true
-
-pub returns-then-tree-record : goal.returns-then-tree-record
-returns-then-tree-record c =
-    let a = c.args in
-    let k = c.in_ok-check.ensures.found in
-    simplify-none a.text.now a.tree.now a.«record» a.max_layer a.allow_negatives a.out.now k.accepted c.if-max_layer-eq0.false c.if-max_layer-gt-MAX_LAYER.false (omega (arith, c.if-tree-record.true))
+    rw (handed_on _ _ c.from_residual-in_err-found.ensures, c.in_err-found.ensures.0)
+    (simplify-none a.text.now a.tree.now a.«record» a.max_layer a.allow_negatives a.out.now c.in_ok-check.ensures.found.accepted (search rules) c.in_err-found.ensures.1)
 
 pub returns-then-ne : goal.returns-then-ne
 returns-then-ne c =
     let a = c.args in
     let k = c.in_ok-check.ensures.found in
-    let less : a.«record» < length a.tree.now / RECORD = omega (arith, c.if-tree-record.false) in
-    simplify-no-move a.text.now a.tree.now a.«record» a.max_layer a.allow_negatives a.out.now k.accepted c.if-max_layer-eq0.false c.if-max_layer-gt-MAX_LAYER.false less
-    (no-prefix (found a.tree.now a.«record») (kind_number c.kind.result) c.kind.ensures (differs _ Move c.ne.ensures c.if-ne.true))
+    simplify-no-move a.text.now a.tree.now a.«record» a.max_layer a.allow_negatives a.out.now k.accepted (search rules) c.in_ok-found.ensures
+    (no-prefix c.in_ok-found.found.now (kind_number c.kind.result) c.kind.ensures (differs _ Move c.ne.ensures c.if-ne.true))
 
-pub simplify-requires : goal.simplify-requires
-simplify-requires c =
+pub simplify-requires-clause-layers_value : goal.simplify-requires-clause-layers_value
+simplify-requires-clause-layers_value c =
     let a = c.args in
     let k = c.in_ok-check.ensures.found in
-    let less : a.«record» < length a.tree.now / RECORD = omega (arith, c.if-tree-record.false) in
-    let ok = accepted-record a.text.now a.tree.now a.«record» k.accepted less in record {
-      layer = record { low = omega (arith, c.if-max_layer-eq0.false); high = c.if-max_layer-gt-MAX_LAYER.false };
-      text_len_bound = k.accepted.short;
-      layers_value = ap (λ (l : Layers Span). layers_ok a.text.now l) c.layers-layers.ensures
-          ∙ layers-inside (found a.tree.now a.«record») (kind_number c.kind.result) c.kind.ensures a.text.now (same _ Move c.ne.ensures c.if-ne.false) ok;
-    }
+    ap (λ (l : Layers Span). layers_ok a.text.now l) c.layers-layers.ensures
+    ∙ layers-inside c.in_ok-found.found.now (kind_number c.kind.result) c.kind.ensures a.text.now (same _ Move c.ne.ensures c.if-ne.false)
+    (accepted-record a.text.now a.tree.now a.«record» k.accepted c.in_ok-found.ensures)
 
 pub returns : goal.returns
 returns c =
     let a = c.args in
     let k = c.in_ok-check.ensures.found in
-    let less : a.«record» < length a.tree.now / RECORD = omega (arith, c.if-tree-record.false) in
-    simplify-move a.text.now a.tree.now a.«record» a.max_layer a.allow_negatives a.out.now k.accepted c.if-max_layer-eq0.false c.if-max_layer-gt-MAX_LAYER.false less
+    simplify-move a.text.now a.tree.now a.«record» a.max_layer a.allow_negatives a.out.now k.accepted (search rules) c.in_ok-found.ensures
     c.tilde-inverted.result _
-    (some_prefix (found a.tree.now a.«record») (kind_number c.kind.result) c.kind.ensures (same _ Move c.ne.ensures c.if-ne.false)
-    ∙ ap (λ (t : Bool). result (t, layers_at (found a.tree.now a.«record»))) (sym c.tilde-inverted.ensures)
+    (some_prefix c.in_ok-found.found.now (kind_number c.kind.result) c.kind.ensures (same _ Move c.ne.ensures c.if-ne.false)
+    ∙ ap (λ (t : Bool). result (t, layers_at c.in_ok-found.found.now)) (sym c.tilde-inverted.ensures)
     ∙ ap (λ (l : Layers Span). result (c.tilde-inverted.result, l)) (sym c.layers-layers.ensures))
     _ c.simplify.ensures

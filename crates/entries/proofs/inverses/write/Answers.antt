@@ -1,8 +1,0 @@
--- `inverses::write` meets its contract: one of the two. Assumes nothing.
-use Rattle.entries.proofs.inverses.write.Goals as goal
-
-pub returns-then-deep : goal.returns-then-deep
-returns-then-deep c = rw c.if-deep.true c.inv_deep.ensures
-
-pub returns : goal.returns
-returns c = rw c.if-deep.false c.inv.ensures
