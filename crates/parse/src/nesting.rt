@@ -7,15 +7,17 @@ use notation::limits::MAX_NESTING;
 // So many bytes are counted at once.
 const BLOCK: usize = 32;
 
-// Counts the bytes that are one of the two.
+// Counts the bytes that are one of the two. In a loop, which the compiler makes one comparison of 16 bytes at a time:
+// `filter` and `count` were slower, since it leaves them byte by byte.
 fn count(bytes: &[u8], round: u8, square: u8) -> usize
     requires { length bytes.now ≤ rule.MAX-TEXT }
     ensures { result ≡ count_by (λ b. eqb b round || eqb b square) bytes.now }
 {
-    bytes
-        .iter()
-        .filter(|b| **b == round || **b == square)
-        .count()
+    let mut n = 0;
+    for &b in bytes {
+        n += (b == round || b == square) as usize;
+    }
+    n
 }
 
 // Whether no starting part of the text has over 64 more of `(` `[` than of `)` `]`. Brackets are counted by blocks, in
