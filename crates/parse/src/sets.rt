@@ -185,8 +185,9 @@ fn braces<E: Element>(text: &[u8], at: usize, element: E) -> Option<usize>
 }
 
 // The same where a brace is known to stand. Apart, because most nodes have none: the test alone is small enough to stand
-// in its callers. After a comma only an element can follow. One loop for the first element and the others, so that
-// reading an element has one caller.
+// in its callers, where this would slow down the moves without a set. After a comma only an element can follow. One loop
+// for the first element and the others, so that reading an element has one caller.
+#[inline(never)]
 fn in_braces<E: Element>(text: &[u8], at: usize, element: E) -> Option<usize>
     requires { (at ≤ length text.now) × (byte_at text.now at ≡ 123) }
     ensures { means.end_reading text.now result
