@@ -12,11 +12,9 @@ use lib.Seq.{drop-drop}
 use Rattle.notation.specs.Chars.{white_space}
 use Rattle.notation.specs.Utf8.{run, byte_at}
 use Rattle.notation.specs.Grammar.{Reading, rejected, read, Reader, and_then, done, just, whitespace, padded, collect, more_of, separated_by, braces, constraint, constraint_set, layer_set_element, layer_set_elements}
-use Rattle.charsets.proofs.Runs.{run-dropped, end-length}
-use Rattle.parse.specs.Meaning.{forget, brace, more, ending, element_of}
-use Rattle.parse.specs.declared.parts.Element.TheVariants as element
+use Rattle.charsets.proofs.Runs.{run-dropped}
+use Rattle.parse.specs.Meaning.{forget, brace, more, ending, constraint_end, layer_end}
 use Rattle.parse.proofs.Bytes.{seen, other, just-is, just-not}
-use Rattle.parse.proofs.Past.{Takes, within}
 
 -- what follows an element, behind further ones
 module _ {A : Type 0} (item : Reader A) where
@@ -51,7 +49,7 @@ pub record Marked {A : Type 0} (text : List ℕ) (item : Reader A) (at mark : �
   pub inside : mark < length text
   pub bare : mark ≡ at → (from : ℕ) → from ≡ behind text mark → rejected ≡ item from (drop from text) → brace from (drop from text) ≡ whole
   pub lacking : (mark ≡ at → ⊥) → (from : ℕ) → from ≡ behind text mark → rejected ≡ item from (drop from text) → rejected ≡ whole
-  pub onward : (from : ℕ) → from ≡ behind text mark → (a : A) (next : ℕ) → read a next (drop next text) ≡ item from (drop from text) → Still text item mark next whole
+  pub onward : (from : ℕ) → from ≡ behind text mark → (a : A) (next : ℕ) → read a next (drop next text) ≡ item from (drop from text) → (from < next) × (next ≤ length text) → Still text item mark next whole
 
 module _ {A : Type 0} (item : Reader A) (text : List ℕ) (mark end comma : ℕ) (space : comma ≡ end + run white_space (drop end text)) where
   pub closes : {x whole : Reading (Unit {0})} → eqb (byte_at text comma) 44 ≡ false → x ≡ brace comma (drop comma text) → Still text item mark end whole → x ≡ whole
@@ -79,14 +77,11 @@ module _ {A : Type 0} (item : Reader A) (text : List ℕ) (mark end comma : ℕ)
           (sym w.same ∙ stop item w.fuel end (drop end text) (separated ∙ sym q)
           ∙ rw (drop-drop (run white_space (drop end text)) end text, ← space, just-not "}" text comma (other (byte_at text comma) 44 125 (λ z. omega arith) e)))
 
-      goes_on : {whole : Reading (Unit {0})} (a : A) (next : ℕ) → Takes 1 item → read a next (drop next text) ≡ item from (drop from text) → Still text item mark end whole → Still text item comma next whole
-      goes_on {whole = whole} a next t q w = go w.fuel w.enough w.same
+      goes_on : {whole : Reading (Unit {0})} (a : A) (next : ℕ) → read a next (drop next text) ≡ item from (drop from text) → (from < next) × (next ≤ length text) → Still text item mark end whole → Still text item comma next whole
+      goes_on {whole = whole} a next q bounds w = go w.fuel w.enough w.same
         where
           last_byte : comma < length text
           last_byte = seen text comma 44 (omega arith) e
-
-          bounds : (from + 1 ≤ next) × (next ≤ length text)
-          bounds = within text from t (omega (arith, space₂, end-length white_space text (comma + 1) (omega (arith, last_byte)))) q
 
           go : (fuel : ℕ) → length text - end ≤ fuel → ending item fuel end (drop end text) ≡ whole → Still text item comma next whole
           go zero l v = absurd (omega (arith, bounds.0, bounds.1, last_byte))
@@ -98,13 +93,13 @@ module _ {A : Type 0} (item : Reader A) (text : List ℕ) (mark end comma : ℕ)
             same = sym (on item k end (drop end text) a next (drop next text) (separated ∙ sym q)) ∙ v;
           }
 
-    pub marks : {at : ℕ} {whole : Reading (Unit {0})} → Takes 1 item → at ≤ mark → Still text item mark end whole → Marked text item at comma whole
-    marks t h w = record {
+    pub marks : {at : ℕ} {whole : Reading (Unit {0})} → at ≤ mark → Still text item mark end whole → Marked text item at comma whole
+    marks h w = record {
       later = omega (arith, w.past);
       inside = seen text comma 44 (omega arith) e;
       bare = λ z. absurd (omega (arith, w.past, z));
       lacking = λ _ from s q. no_item from s q w;
-      onward = λ from s a next q. goes_on from s a next t q w;
+      onward = λ from s a next q b. goes_on from s a next q b w;
     }
 
 -- A set from its brace on.
@@ -138,9 +133,8 @@ module _ {A : Type 0} (item : Reader A) (text : List ℕ) (at : ℕ) where
         go rejected = refl
         go (read l i t) = last (a ∷ l) (just "}" (i + run white_space t) (drop (run white_space t) t))
 
-    set-goes-on : (a : A) (next : ℕ) → Takes 1 item → read a next (drop next text) ≡ item start (drop start text) → Still text item at next (forget (braces item at (drop at text)))
-    set-goes-on a next t q =
-        let b = within text start t (omega (arith, space, end-length white_space text (at + 1) (omega (arith, seen text at 123 (omega arith) e)))) q in
+    set-goes-on : (a : A) (next : ℕ) → read a next (drop next text) ≡ item start (drop start text) → (start < next) × (next ≤ length text) → Still text item at next (forget (braces item at (drop at text)))
+    set-goes-on a next q b =
         record {
           past = omega (arith, b.0);
           inside = b.1;
@@ -149,15 +143,15 @@ module _ {A : Type 0} (item : Reader A) (text : List ℕ) (at : ℕ) where
           same = set-from a next q;
         }
 
-  pub opened : Takes 1 item → byte_at text at ≡ 123 → Marked text item at at (forget (braces item at (drop at text)))
-  opened t b =
+  pub opened : byte_at text at ≡ 123 → Marked text item at at (forget (braces item at (drop at text)))
+  opened b =
       let e : eqb (byte_at text at) 123 ≡ true = eq-eqb _ _ b in
       record {
         later = omega arith;
         inside = seen text at 123 (omega arith) e;
         bare = λ _ from s q. empty-set e from s q;
         lacking = λ z. absurd (z refl);
-        onward = λ from s a next q. set-goes-on e from s a next t q;
+        onward = λ from s a next q w. set-goes-on e from s a next q w;
       }
 
 -- Only the ends of the elements matter.
@@ -213,10 +207,10 @@ module _ {A : Type 0} (item : Reader A) where
               ∙ sym (followed (separated_by ◌∷◌ [] item (padded (just ",")) i w))
 
 -- The two kinds of sets.
-pub constraint-set-ends : (at : ℕ) (s : List ℕ) → forget (braces (element_of element.Constraint) at s) ≡ forget (constraint_set at s)
+pub constraint-set-ends : (at : ℕ) (s : List ℕ) → forget (braces constraint_end at s) ≡ forget (constraint_set at s)
 unfolding constraint_set
 constraint-set-ends at s = braces-ends constraint at s
 
-pub layer-set-ends : (hsc1 : Bool) (at : ℕ) (s : List ℕ) → forget (braces (element_of (element.Layer hsc1)) at s) ≡ forget (layer_set_elements hsc1 at s)
+pub layer-set-ends : (hsc1 : Bool) (at : ℕ) (s : List ℕ) → forget (braces (layer_end hsc1) at s) ≡ forget (layer_set_elements hsc1 at s)
 unfolding layer_set_elements
 layer-set-ends hsc1 at s = braces-ends (layer_set_element hsc1) at s

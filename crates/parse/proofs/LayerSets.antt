@@ -17,8 +17,7 @@ use Rattle.notation.specs.Grammar.{Reading, rejected, read, and_then, or_else, d
 use Rattle.notation.specs.declared.features.Features.{Features}
 use Rattle.charsets.proofs.Texts.{in-text}
 use Rattle.numbers.proofs.Bounds.{number, hyphen, sint_plain, not-negated}
-use Rattle.parse.specs.Meaning.{forget, element_of, layer_after_dots, layer_after_hyphen, unsigned_or_single, numbered_layers}
-use Rattle.parse.specs.declared.parts.Element.TheVariants.{Layer}
+use Rattle.parse.specs.Meaning.{forget, layer_end, layer_after_dots, layer_after_hyphen, unsigned_or_single, numbered_layers}
 use Rattle.parse.proofs.Bytes.{seen, just-not}
 use Rattle.parse.proofs.InBraces.{no-brace, layer-set-ends}
 use Rattle.parse.proofs.Readings.{never, assoc, steps, or-none, when-none, took, gone}
@@ -150,7 +149,7 @@ module _ (f : Features) (text : List ℕ) (at : ℕ) where
       go : (b : Bool) → f.layers.layer_sets ≡ b → (b && eqb (byte_at text at) 123) ≡ false → numbered_layers at (drop at text) ≡ layer_prefix_contents f at (drop at text)
       go true w q =
           no-set w
-          (no-brace (element_of (Layer f.layers.hsc1_layer_ranges)) text at q ∙ layer-set-ends f.layers.hsc1_layer_ranges at (drop at text))
+          (no-brace (layer_end f.layers.hsc1_layer_ranges) text at q ∙ layer-set-ends f.layers.hsc1_layer_ranges at (drop at text))
       go false w q = rw w
 
   -- a brace that opens no set is no layer either

@@ -48,13 +48,12 @@ use Rattle.notation.specs.declared.common.MegaminxScrambleMove.TheVariants.{Rpp,
 use Rattle.charsets.proofs.Texts.{first_byte}
 use Rattle.charsets.proofs.Signs.{other-prime}
 use Rattle.charsets.proofs.Bools.{contra, and_left, and_right, and-false}
-use Rattle.parse.specs.declared.parts.Element.TheVariants.{Constraint}
 use Rattle.std.specs.Prelude as code
 use Rattle.parsed.specs.declared.Parsed.{Parsed}
 use Rattle.parsed.specs.Reading.{taken, reading}
 use Rattle.numbers.proofs.Bounds.{number as bounded}
 use Rattle.parse.proofs.Past.{within, takes-uint}
-use Rattle.parse.specs.Meaning.{forget, element_of, number, prime_reading, repeated, leaf_read, scramble_read, pair_after, scramble_or_move, twice, scramble_at, scramble_kind}
+use Rattle.parse.specs.Meaning.{forget, constraint_end, number, prime_reading, repeated, leaf_read, scramble_read, pair_after, scramble_or_move, twice, scramble_at, scramble_kind}
 use Rattle.parse.proofs.Bytes.{other, just-is, just-not, word-not}
 use Rattle.parse.proofs.Readings.{took, gone, or-none}
 use Rattle.parse.proofs.InBraces.{no-brace, constraint-set-ends}
@@ -102,7 +101,7 @@ module _ (f : Features) (text : List ℕ) (at : ℕ) where
   unopened e = go f.transform_constraints refl e
     where
       go : (b : Bool) → f.transform_constraints ≡ b → (b && eqb (byte_at text at) 123) ≡ false → read none at (drop at text) ≡ constraints f at (drop at text)
-      go true w q = no-constraints w (no-brace (element_of Constraint) text at q ∙ constraint-set-ends at (drop at text))
+      go true w q = no-constraints w (no-brace constraint_end text at q ∙ constraint-set-ends at (drop at text))
       go false w q = rw w
 
 module _ (f : Features) (at : ℕ) (s : List ℕ) where

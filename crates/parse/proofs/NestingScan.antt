@@ -1,20 +1,22 @@
 -- The scan of brackets, byte by byte. Assumes nothing.
-use Prim.Native.Nat.{ℕ, ◌+◌, ◌-◌, ◌<◌, ◌≤◌}
+use Prim.Native.Nat.{ℕ, ◌+◌, ◌<◌, ◌≤◌}
 use mathlib.Core.Path.{◌≡◌, refl, sym, ap, ap₂, ◌∙◌}
-use mathlib.Core.Bool.{Bool, true, false, ◌||◌}
+use mathlib.Core.Bool.{Bool, true, false, ◌||◌, cond}
 use mathlib.Core.List.{List, [], ◌∷◌, ◌++◌}
 use mathlib.Core.Logic.{⊎_elim, inl, inr}
 use types.Run.{OneOf}
 use native.Mathlib.Omega.{arith}
 use native.Mathlib.Nat.{zero-add}
 use native.Mathlib.Numerals.{add-one}
-use borrow.Author.Tests.{le-leb, lt-leb, eq-eqb, ne_eqb}
+use borrow.Author.Tests.{le-leb, lt-leb, ne_eqb}
 use lib.Dec.{eqb}
-use lib.ListN.{length, get_or, take, drop, length-take, length-drop, take-append-drop, drop_of_length-le}
-use lib.Seq.{drop-cons, take_all}
+use lib.ListN.{length, get_or, take, drop, length-take, take-append-drop, drop_of_length-le}
+use lib.Seq.{drop-cons}
 use Rattle.notation.specs.Entries.{opens, closes, nesting_ok}
 use Rattle.notation.specs.Packed.{bit}
-use Rattle.parse.specs.Nesting.{among}
+use Rattle.std.specs.List.{count_by}
+use Rattle.std.proofs.lemmas.List.Recursion.{is_count_by}
+use Rattle.std.proofs.lemmas.List.Sums.{count_by-le-length}
 
 -- what each byte adds to the two counts
 pub record Counts (b o c : ℕ) : Type 0 where
@@ -37,37 +39,18 @@ bit_le : (t : Bool) → bit t ≤ 1
 bit_le true = omega arith
 bit_le false = omega arith
 
--- a byte that is one of two, or neither
-pub first_of : (b x y : ℕ) → b ≡ x → 1 ≡ bit (eqb b x || eqb b y)
-first_of b x y e = rw (eq-eqb b x e)
+-- how many bytes are one of two
+unfoldable among : ℕ → ℕ → List ℕ → ℕ
+among x y [] = 0
+among x y (b ∷ s) = bit (eqb b x || eqb b y) + among x y s
 
-pub second-of : (b x y : ℕ) → (b ≡ x → ⊥) → b ≡ y → 1 ≡ bit (eqb b x || eqb b y)
-second-of b x y h e = rw (ne_eqb b x h, eq-eqb b y e)
-
-pub neither-of : (b x y : ℕ) → (b ≡ x → ⊥) → (b ≡ y → ⊥) → 0 ≡ bit (eqb b x || eqb b y)
-neither-of b x y h k = rw (ne_eqb b x h, ne_eqb b y k)
-
--- What counting keeps.
-pub record BracketsCounted (x y : ℕ) (s : List ℕ) (n at : ℕ) : Type 0 where
-  pub inside : at ≤ length s
-  pub few : n ≤ at
-  pub same : n + among x y (drop at s) ≡ among x y s
-
-pub count-start : (x y : ℕ) (s : List ℕ) → BracketsCounted x y s 0 0
-count-start x y s = record { inside = omega arith; few = omega arith; same = zero-add (among x y s) }
-
-module _ (x y : ℕ) (s : List ℕ) (n at : ℕ) (c : BracketsCounted x y s n at) where
-  pub count-on : at < length s → (o : ℕ) → (o ≡ bit (eqb (get_or s at 0) x || eqb (get_or s at 0) y)) × (o ≤ 1) → BracketsCounted x y s (n + o) (at + 1)
-  unfolding among
-  count-on h o k =
-      let e : among x y (drop at s) ≡ bit (eqb (get_or s at 0) x || eqb (get_or s at 0) y) + among x y (drop (at + 1) s) = ap (among x y) (drop-cons s at 0 h) ∙ rw add-one in
-      record { inside = omega arith; few = omega (arith, c.few, k.1); same = omega (arith, c.same, e, k.0) }
-
-  pub count-end : length s ≤ at → (n ≡ among x y s) × (n ≤ length s)
-  unfolding among
-  count-end h =
-      let e : among x y (drop at s) ≡ 0 = ap (among x y) (drop_of_length-le s h) in
-      (omega (arith, c.same, e), omega (arith, c.few, c.inside))
+among-counted : (x y : ℕ) (s : List ℕ) → among x y s ≡ count_by (λ b. eqb b x || eqb b y) s
+unfolding among
+among-counted x y = is_count_by (among x y) (λ b. eqb b x || eqb b y) refl (λ b s. added (eqb b x || eqb b y) (among x y s))
+  where
+    added : (t : Bool) (n : ℕ) → bit t + n ≡ cond t (1 + n) n
+    added true n = refl
+    added false n = zero-add n
 
 -- Within a block that opens few brackets no part is nested too deep, so only the rest decides.
 past-block : (o c : ℕ) (block rest : List ℕ) → o + among 40 91 block ≤ c + 64 → nesting_ok o c (block ++ rest) ≡ nesting_ok (o + among 40 91 block) (c + among 41 93 block) rest
@@ -97,17 +80,21 @@ pub blocks_start : (text : List ℕ) → Blocks text text 0 0
 blocks_start text = record { few = (omega arith, omega arith); same = refl }
 
 module _ (text t : List ℕ) (opened closed : ℕ) (b : Blocks text t opened closed) where
-  pub blocks-on : 32 ≤ length t → (more less : ℕ) → (more ≡ among 40 91 (take 32 t)) × (more ≤ length (take 32 t)) → (less ≡ among 41 93 (take 32 t)) × (less ≤ length (take 32 t)) →
-      opened + more ≤ closed + 64 → Blocks text (take (length t - 32) (drop 32 t)) (opened + more) (closed + less)
-  blocks-on h more less p q k =
-      let l : length (drop 32 t) ≡ length t - 32 = length-drop 32 t in
-      let rest : take (length t - 32) (drop 32 t) ≡ drop 32 t = take_all (length t - 32) (drop 32 t) (omega (arith, l)) in
-      rw rest (record {
-        few = (omega (arith, b.few.0, p.1, l, block-length t), omega (arith, b.few.1, q.1, l, block-length t));
-        same = ap₂ (λ (a b : ℕ). nesting_ok (opened + a) (closed + b) (drop 32 t)) p.0 q.0
-            ∙ sym (past-block opened closed (take 32 t) (drop 32 t) (omega (arith, p.0, k)))
-            ∙ ap (nesting_ok opened closed) (take-append-drop 32 t) ∙ b.same;
-      })
+  pub blocks-on : (block rest : List ℕ) → (block ≡ take 32 t) × (rest ≡ drop 32 t) × (length rest + 32 ≡ length t) →
+      (more less : ℕ) → more ≡ count_by (λ b. eqb b 40 || eqb b 91) block → less ≡ count_by (λ b. eqb b 41 || eqb b 93) block →
+      opened + more ≤ closed + 64 → Blocks text rest (opened + more) (closed + less)
+  blocks-on block rest (front, back, long) more less p q k =
+      let short : length block ≤ 32 = rw front (block-length t) in
+      let opens-few = count_by-le-length (λ b. eqb b 40 || eqb b 91) block in
+      let closes-few = count_by-le-length (λ b. eqb b 41 || eqb b 93) block in
+      let p' : more ≡ among 40 91 block = p ∙ sym (among-counted 40 91 block) in
+      let q' : less ≡ among 41 93 block = q ∙ sym (among-counted 41 93 block) in
+      record {
+        few = (omega (arith, b.few.0, p, opens-few, short, long), omega (arith, b.few.1, q, closes-few, short, long));
+        same = ap₂ (λ (a b : ℕ). nesting_ok (opened + a) (closed + b) rest) p' q'
+            ∙ sym (past-block opened closed block rest (omega (arith, p', k)))
+            ∙ rw (front, back) (ap (nesting_ok opened closed) (take-append-drop 32 t) ∙ b.same);
+      }
 
   pub blocks_end : opened + length t ≤ closed + 64 → true ≡ nesting_ok 0 0 text
   blocks_end h = little opened closed t h ∙ b.same

@@ -1,5 +1,5 @@
 -- How much of the text each rule takes. Assumes nothing.
-use Prim.Native.Nat.{ℕ, ◌+◌, ◌-◌, ◌≤◌}
+use Prim.Native.Nat.{ℕ, ◌+◌, ◌-◌, ◌≤◌, ◌<◌}
 use Prim.Native.Char.{Char}
 use mathlib.Core.Path.{◌≡◌, refl, sym}
 use mathlib.Core.Bool.{Bool}
@@ -11,10 +11,9 @@ use Rattle.notation.specs.Chars.{is_prime}
 use Rattle.notation.specs.Grammar.{Reading, rejected, read, Reader, and_then, done, fail, just, word, sint, prime, multiplier, spanned, constraint, constraint_set, layer_set_element, layer_set_elements, layer_prefix_contents, constraints, rotation_node, tilde, move_node, group_node, binary_group_node, megaminx_scramble_move, sq1_move, node, node_by}
 use Rattle.notation.specs.declared.features.Features.{Features}
 use Rattle.notation.specs.declared.common.MegaminxScrambleMove.{MegaminxScrambleMove}
-use Rattle.parse.specs.Meaning.{forget, element_of, numbered_layers, node_fields, Within}
-use Rattle.parse.specs.declared.parts.Element.{Element}
-use Rattle.parse.specs.declared.parts.Element.TheVariants as element
-use Rattle.std.specs.Prelude.{Option, Some, None}
+use Rattle.parse.specs.Meaning.{forget, end_reading, constraint_end, numbered_layers, node_fields, Within}
+use Rattle.std.specs.Prelude.{Option, Some, None, IfSome}
+use Rattle.notation.specs.Layers.{LayerSetElement}
 use Rattle.record.specs.declared.encode.Fields.{Fields}
 use Rattle.record.specs.Meaning.{listed}
 use Rattle.parsed.specs.declared.Parsed.{Parsed}
@@ -70,9 +69,17 @@ takes-layer_set_element hsc1 =
     (takes-or (takes-when hsc1 (first (takes-uint 1 32767) (λ i. first (takes-just "-") (λ _. first (takes-uint 1 32767) (λ j. takes-done)))))
     (first (takes-sint 1 32767 32767) (λ i. takes-done)))
 
-pub takes-element : (k : Element) → Takes 1 (element_of k)
-takes-element element.Constraint = takes-forget takes-constraint
-takes-element (element.Layer hsc1) = takes-forget (takes-layer_set_element hsc1)
+-- an element of a set lies within the text, past its start
+pub constraint-within : (text : List ℕ) (at : ℕ) (r : Option ℕ) → at ≤ length text → end_reading text r ≡ constraint_end at (drop at text) → IfSome r (λ end. (at < end) × (end ≤ length text))
+constraint-within text at None h e = tt
+constraint-within text at (Some end) h e =
+    let b = within text at (takes-forget takes-constraint) h e in
+    (omega (arith, b.0), b.1)
+
+pub layer-within : {a : LayerSetElement} {e : ℕ} (hsc1 : Bool) (text : List ℕ) (at : ℕ) → at ≤ length text → read a e (drop e text) ≡ layer_set_element hsc1 at (drop at text) → (at < e) × (e ≤ length text)
+layer-within hsc1 text at h q =
+    let b = within text at (takes-layer_set_element hsc1) h q in
+    (omega (arith, b.0), b.1)
 
 pub takes-constraint_set : Takes 1 constraint_set
 unfolding constraint_set

@@ -1,4 +1,3 @@
 -- What the contracts of this crate cite beside the rules of `notation`.
 pub mod Meaning
-pub mod Nesting
 pub mod Nodes

@@ -43,8 +43,6 @@ use Rattle.record.specs.declared.encode.Fields.{Fields}
 use Rattle.parsed.specs.declared.Parsed.{Parsed}
 use Rattle.parse.specs.declared.parts.LayerSetElement.{LayerSetElement}
 use Rattle.parse.specs.declared.parts.LayerSetElement.TheVariants as layer_element
-use Rattle.parse.specs.declared.parts.Element.{Element}
-use Rattle.parse.specs.declared.parts.Element.TheVariants as element
 
 -- Answers that give only an end; of others, specs/Reading of `parsed` says what they mean.
 abbrev pub forget : {A : Type 0} → Reading A → Reading (Unit {0})
@@ -76,9 +74,11 @@ unsigned_or_single =
     or (do i ← signed_layer; done (single i))
 
 -- Sets in braces: where an element ends, and what follows one; `fuel` is more than enough.
-abbrev pub element_of : Element → Reader (Unit {0})
-element_of element.Constraint at s = forget (constraint at s)
-element_of (element.Layer hsc1) at s = forget (layer_set_element hsc1 at s)
+abbrev pub constraint_end : Reader (Unit {0})
+constraint_end at s = forget (constraint at s)
+
+abbrev pub layer_end : Bool → Reader (Unit {0})
+layer_end hsc1 at s = forget (layer_set_element hsc1 at s)
 
 abbrev pub brace : Reader (Unit {0})
 brace = just "}"

@@ -79,16 +79,10 @@ fn tilde(text: &[u8], at: usize, features: Features) -> Parsed<bool>
     requires { at ≤ length text.now }
     ensures { taken (λ b. b) text.now result ≡ rule.tilde features at (drop at text.now) }
 {
-    if features.layers.inverted_layers {
-        if has(text, at, b'~') {
-            return Parsed {
-                value: true,
-                next: at + 1,
-            };
-        }
+    if features.layers.inverted_layers && has(text, at, b'~') {
         return Parsed {
-            value: false,
-            next: at,
+            value: true,
+            next: at + 1,
         };
     }
     Parsed {
@@ -138,11 +132,8 @@ fn prime_end(text: &[u8], at: usize, features: Features) -> usize
     if has(text, at, b'\'') {
         return at + 1;
     }
-    if features.curly_primes {
-        if has_curly_prime(text, at) {
-            return at + 3;
-        }
-        return at;
+    if features.curly_primes && has_curly_prime(text, at) {
+        return at + 3;
     }
     at
 }
@@ -265,21 +256,16 @@ pub fn leaf(text: &[u8], at: usize, features: Features) -> Option<Parsed<Fields>
         (λ n. rule.done (means.node_fields n)) }
     ensures within { means.Within at (length text.now) result }
 {
-    if at < text.len() {
-        let byte = text[at];
-        if byte == b'.' {
-            return Some(Parsed {
-                value: pause_fields(),
-                next: at + 1,
-            });
-        }
-        if byte == b'@' {
-            return rotation(text, at, features);
-        }
-        if byte == b'(' || byte == b'/' {
-            return admitted_sq1_move(text, at, features);
-        }
-        return scramble_or_move(text, at, features);
+    if text.len() <= at {
+        return None;
     }
-    None
+    match text[at] {
+        b'.' => Some(Parsed {
+            value: pause_fields(),
+            next: at + 1,
+        }),
+        b'@' => rotation(text, at, features),
+        b'(' | b'/' => admitted_sq1_move(text, at, features),
+        _ => scramble_or_move(text, at, features),
+    }
 }

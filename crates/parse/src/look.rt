@@ -13,11 +13,7 @@ use record::spanned::Span;
 pub fn has(text: &[u8], at: usize, byte: u8) -> bool
     ensures { result ≡ eqb (byte_at text.now at) byte }
 {
-    if at < text.len() {
-        text[at] == byte
-    } else {
-        false
-    }
+    at < text.len() && text[at] == byte
 }
 
 // Whether these two do.
@@ -25,11 +21,7 @@ pub fn has_two(text: &[u8], at: usize, first: u8, second: u8) -> bool
     requires { at ≤ length text.now }
     ensures { result ≡ (eqb (byte_at text.now at) first && eqb (byte_at text.now (at + 1)) second) }
 {
-    if has(text, at, first) {
-        has(text, at + 1, second)
-    } else {
-        false
-    }
+    has(text, at, first) && has(text, at + 1, second)
 }
 
 // The part of the text from one offset to another.
@@ -53,9 +45,6 @@ pub fn family_span(from: usize, to: usize) -> Span
     if from == to {
         Span { offset: 0, size: 0 }
     } else {
-        Span {
-            offset: from as u32,
-            size: (to - from) as u32,
-        }
+        span_between(from, to)
     }
 }

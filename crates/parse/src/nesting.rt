@@ -1,37 +1,21 @@
 // Refusal 3: brackets counted before a text is read, so that a reader which follows them nests no deeper than the limit.
-ghost use Rattle.std.specs.Prelude.{◌≡◌, ◌||◌, ◌≤◌, eqb, length};
-ghost use Rattle.notation.specs.Packed.{bit};
+ghost use Rattle.std.specs.Prelude.{◌≡◌, ◌||◌, ◌≤◌, eqb, length, count_by};
 ghost use Rattle.notation.specs.Entries as rule;
-ghost use Rattle.parse.specs.Nesting as nesting;
 
 use notation::limits::MAX_NESTING;
 
 // So many bytes are counted at once.
 const BLOCK: usize = 32;
 
-// Counts one byte: 1 where it is one of the two.
-fn one_of(b: u8, round: u8, square: u8) -> usize
-    ensures { (result ≡ bit (eqb b round || eqb b square)) × (result ≤ 1) }
-{
-    if b == round {
-        return 1;
-    }
-    if b == square {
-        return 1;
-    }
-    0
-}
-
-// Counts the bytes that are one of the two.
+// Counts the bytes that are one of the two. In a loop, which the compiler makes one comparison of 16 bytes at a time:
+// `filter` and `count` were slower, since it leaves them byte by byte.
 fn count(bytes: &[u8], round: u8, square: u8) -> usize
     requires { length bytes.now ≤ rule.MAX-TEXT }
-    ensures { (result ≡ nesting.among round square bytes.now) × (result ≤ length bytes.now) }
+    ensures { result ≡ count_by (λ b. eqb b round || eqb b square) bytes.now }
 {
-    let mut n: usize = 0;
-    let mut at = 0;
-    while at < bytes.len() {
-        n += one_of(bytes[at], round, square);
-        at += 1;
+    let mut n = 0;
+    for &b in bytes {
+        n += (b == round || b == square) as usize;
     }
     n
 }
@@ -46,14 +30,14 @@ pub fn nesting_ok(text: &[u8]) -> bool
     let mut opened: usize = 0;
     let mut closed: usize = 0;
     let mut t = text;
-    while BLOCK <= t.len() {
-        let more = count(&t[0..BLOCK], b'(', b'[');
+    while let Some((block, rest)) = t.split_first_chunk::<BLOCK>() {
+        let more = count(block, b'(', b'[');
         if closed + MAX_NESTING < opened + more {
             return scan_ok(text);
         }
         opened += more;
-        closed += count(&t[0..BLOCK], b')', b']');
-        t = &t[BLOCK..];
+        closed += count(block, b')', b']');
+        t = rest;
     }
     if closed + MAX_NESTING < opened + t.len() {
         return scan_ok(text);
@@ -68,21 +52,17 @@ fn scan_ok(text: &[u8]) -> bool
 {
     let mut opened: usize = 0;
     let mut closed: usize = 0;
-    let mut at = 0;
-    while at < text.len() {
-        match text[at] {
+    for &b in text {
+        match b {
             b'(' | b'[' => {
                 opened += 1;
                 if closed + MAX_NESTING < opened {
                     return false;
                 }
             }
-            b')' | b']' => {
-                closed += 1;
-            }
+            b')' | b']' => closed += 1,
             _ => {}
         }
-        at += 1;
     }
     true
 }

@@ -51,25 +51,10 @@ fn binary_group_kind(text: &[u8], at: usize) -> Option<BinaryGroupKind>
     None
 }
 
-// Writes a group's record, with the number of its list's tally where the count will stand. The number is below 256; said
-// here, it spares three stores.
-fn put_group(tree: &mut [u8], slot: usize, f: Fields, tally: u64)
-    requires { slot ≤ MAX-TEXT }
-    ensures { tree.new
-        ≡ nodes.put (packed.RECORD * slot) (packed.lay_out packed.widths (set (listed f) COUNT (tally % 256))) tree.old }
-{
-    let at = RECORD * slot;
-    let end = at + RECORD;
-    if end <= tree.len() {
-        let mut g = f;
-        g.count = tally % 256;
-        put(&mut tree[at..end], g);
-    }
-}
-
-// Writes a leaf's record, as `put_group` does a group's. It is a function of its own since that has one caller, into
-// which the compiler puts it: a leaf's fields then never go through memory.
-fn put_leaf(tree: &mut [u8], slot: usize, f: Fields, tally: u64)
+// Writes a node's record, with the number of its list's tally where the count will stand. The number is below 256; said
+// here, it spares three stores. The function is put into its callers, so that a leaf's fields never go through memory.
+#[inline(always)]
+fn put_record(tree: &mut [u8], slot: usize, f: Fields, tally: u64)
     requires { slot ≤ MAX-TEXT }
     ensures { tree.new
         ≡ nodes.put (packed.RECORD * slot) (packed.lay_out packed.widths (set (listed f) COUNT (tally % 256))) tree.old }
@@ -97,7 +82,7 @@ fn leaf_node(
         tree.new result }
 {
     let leaf = leaf(text, at, features)?;
-    put_leaf(tree, slot, leaf.value, tally);
+    put_record(tree, slot, leaf.value, tally);
     Some(Listed {
         next: leaf.next,
         slot: slot + 1,
@@ -199,7 +184,7 @@ fn group(
     let list = node_list(text, open + 1, features, tree, slot + 1, tally + OF_FIRST);
     let end = close(text, list.next, features, b')')?;
     let first = (list.slot - (slot + 1)) as u32;
-    put_group(
+    put_record(
         tree,
         slot,
         group_fields(start.value, first, end.value, 0),
@@ -231,7 +216,7 @@ fn binary_group(
     let end = close(text, b.next, features, b']')?;
     let first = (a.slot - (slot + 1)) as u32;
     let second = (b.slot - a.slot) as u32;
-    put_group(
+    put_record(
         tree,
         slot,
         binary_group_fields(kind, first, second, end.value, 0),

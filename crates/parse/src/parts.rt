@@ -10,11 +10,3 @@ pub enum LayerSetElement {
     Single(u32),
     Range(u32, u32),
 }
-
-// What a set in braces holds.
-#[derive(Clone, Copy, Debug, PartialEq, Eq)]
-pub enum Element {
-    Constraint,
-    // With `i-j` or without.
-    Layer(bool),
-}

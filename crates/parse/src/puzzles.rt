@@ -15,20 +15,6 @@ use numbers::signed::{MAX, MIN};
 use parsed::Parsed;
 use record::encode::{Fields, megaminx_fields, pair_fields, slash_fields};
 
-// `&&` of two answers that are both known.
-fn both(a: bool, b: bool) -> bool
-    ensures { result ≡ (a && b) }
-{
-    if a { b } else { false }
-}
-
-// `||` of two such answers.
-fn either(a: bool, b: bool) -> bool
-    ensures { result ≡ (a || b) }
-{
-    if a { true } else { b }
-}
-
 // Whether a scramble move stands at `at`: R or D, then ++ or --. The tests are all made first and put together after, so
 // that the machine need not guess between them.
 pub fn is_scramble(text: &[u8], at: usize) -> bool
@@ -37,25 +23,20 @@ pub fn is_scramble(text: &[u8], at: usize) -> bool
 {
     let r = has(text, at, b'R');
     let d = has(text, at, b'D');
-    let plus = both(has(text, at + 1, b'+'), has(text, at + 2, b'+'));
-    let minus = both(has(text, at + 1, b'-'), has(text, at + 2, b'-'));
-    both(either(r, d), either(plus, minus))
+    let plus = has(text, at + 1, b'+') & has(text, at + 2, b'+');
+    let minus = has(text, at + 1, b'-') & has(text, at + 2, b'-');
+    (r | d) & (plus | minus)
 }
 
 // Which scramble move it is, by whether the letter is R and the sign +.
 fn scramble_kind(right: bool, plus: bool) -> MegaminxScrambleMove
     ensures { result ≡ means.scramble_kind right plus }
 {
-    if right {
-        if plus {
-            MegaminxScrambleMove::Rpp
-        } else {
-            MegaminxScrambleMove::Rmm
-        }
-    } else if plus {
-        MegaminxScrambleMove::Dpp
-    } else {
-        MegaminxScrambleMove::Dmm
+    match (right, plus) {
+        (true, true) => MegaminxScrambleMove::Rpp,
+        (true, false) => MegaminxScrambleMove::Rmm,
+        (false, true) => MegaminxScrambleMove::Dpp,
+        (false, false) => MegaminxScrambleMove::Dmm,
     }
 }
 

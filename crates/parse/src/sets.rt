@@ -1,13 +1,14 @@
 // Sets in braces, of layers and of constraints: the rules of the Rust's parse.rs for them.
-ghost use Rattle.std.specs.Prelude.{◌≡◌, ◌≤◌, length, drop};
+ghost use Rattle.std.specs.Prelude.{◌≡◌, ◌≤◌, ◌<◌, length, drop, IfSome};
 ghost use Rattle.notation.specs.Numbers.{from_bits};
 ghost use Rattle.notation.specs.Utf8.{byte_at};
 ghost use Rattle.notation.specs.Grammar as rule;
+ghost use Rattle.notation.specs.Grammar.{Reader};
 ghost use Rattle.parsed.specs.Reading.{taken, reading};
 ghost use Rattle.parse.specs.Meaning as means;
 
 use crate::look::{has, has_two};
-use crate::parts::{Element, LayerSetElement, MAX_LAYER};
+use crate::parts::{LayerSetElement, MAX_LAYER};
 use charsets::{family_end, whitespace_end};
 use numbers::decimal::{sint, uint};
 use parsed::Parsed;
@@ -121,14 +122,41 @@ pub fn layer_set_element(text: &[u8], at: usize, hsc1: bool) -> Option<Parsed<La
     Some(range(first, last))
 }
 
-// Where the element of a set ends.
-fn element_end(text: &[u8], at: usize, element: Element) -> Option<usize>
-    requires { at ≤ length text.now }
-    ensures { means.end_reading text.now result ≡ means.element_of element at (drop at text.now) }
-{
-    match element {
-        Element::Constraint => constraint(text, at),
-        Element::Layer(hsc1) => Some(layer_set_element(text, at, hsc1)?.next),
+// What a set in braces holds.
+trait Element: Copy {
+    // How an element is read, as the rules have it.
+    ghost reads: { Self → Reader (Unit {0}) };
+
+    // Where the element at `at` ends. None is empty.
+    fn end(self, text: &[u8], at: usize) -> Option<usize>
+        requires { at ≤ length text.now }
+        ensures means { means.end_reading text.now result ≡ reads self at (drop at text.now) }
+        ensures within { IfSome result (λ end. (at < end) × (end ≤ length text.now)) };
+}
+
+// An element of a constraint set.
+#[derive(Clone, Copy)]
+struct ConstraintElement;
+
+// An element of a layer set, with `i-j` or without.
+#[derive(Clone, Copy)]
+struct LayerElement {
+    hsc1: bool,
+}
+
+impl Element for ConstraintElement {
+    ghost reads = { λ _. means.constraint_end };
+
+    fn end(self, text: &[u8], at: usize) -> Option<usize> {
+        constraint(text, at)
+    }
+}
+
+impl Element for LayerElement {
+    ghost reads = { λ layer. means.layer_end layer.hsc1 };
+
+    fn end(self, text: &[u8], at: usize) -> Option<usize> {
+        Some(layer_set_element(text, at, self.hsc1)?.next)
     }
 }
 
@@ -145,10 +173,10 @@ fn closing(text: &[u8], at: usize) -> Option<usize>
 }
 
 // Reads a set in braces, with commas between its elements: where it ends.
-fn braces(text: &[u8], at: usize, element: Element) -> Option<usize>
+fn braces<E: Element>(text: &[u8], at: usize, element: E) -> Option<usize>
     requires { at ≤ length text.now }
     ensures { means.end_reading text.now result
-        ≡ means.forget (rule.braces (means.element_of element) at (drop at text.now)) }
+        ≡ means.forget (rule.braces (E.reads element) at (drop at text.now)) }
 {
     if has(text, at, b'{') {
         return in_braces(text, at, element);
@@ -157,18 +185,19 @@ fn braces(text: &[u8], at: usize, element: Element) -> Option<usize>
 }
 
 // The same where a brace is known to stand. Apart, because most nodes have none: the test alone is small enough to stand
-// in its callers. After a comma only an element can follow. One loop for the first element and the others, so that
-// `element_end` has one caller.
-fn in_braces(text: &[u8], at: usize, element: Element) -> Option<usize>
+// in its callers, where this would slow down the moves without a set. After a comma only an element can follow. One loop
+// for the first element and the others, so that reading an element has one caller.
+#[inline(never)]
+fn in_braces<E: Element>(text: &[u8], at: usize, element: E) -> Option<usize>
     requires { (at ≤ length text.now) × (byte_at text.now at ≡ 123) }
     ensures { means.end_reading text.now result
-        ≡ means.forget (rule.braces (means.element_of element) at (drop at text.now)) }
+        ≡ means.forget (rule.braces (E.reads element) at (drop at text.now)) }
 {
     // The brace or comma that stands before an element.
     let mut mark = at;
     loop {
         let from = whitespace_end(text, mark + 1);
-        let Some(next) = element_end(text, from, element) else {
+        let Some(next) = element.end(text, from) else {
             // Only a set without elements lacks one.
             if mark == at {
                 return closing(text, from);
@@ -189,7 +218,7 @@ pub fn constraint_set(text: &[u8], at: usize) -> Option<usize>
     requires { at ≤ length text.now }
     ensures { means.end_reading text.now result ≡ means.forget (rule.constraint_set at (drop at text.now)) }
 {
-    braces(text, at, Element::Constraint)
+    braces(text, at, ConstraintElement)
 }
 
 // Reads a layer set: where it ends.
@@ -198,5 +227,5 @@ pub fn layer_set(text: &[u8], at: usize, hsc1: bool) -> Option<usize>
     ensures { means.end_reading text.now result
         ≡ means.forget (rule.layer_set_elements hsc1 at (drop at text.now)) }
 {
-    braces(text, at, Element::Layer(hsc1))
+    braces(text, at, LayerElement { hsc1 })
 }

@@ -1,7 +1,6 @@
 -- `constraints` meets its contract. Assumes nothing.
 use mathlib.Core.Path.{sym, ap, ap₂, ◌∙◌}
 use mathlib.Core.Bool.{◌&&◌}
-use mathlib.Core.Logic.{⊎_elim}
 use mathlib.Core.Option.{some}
 use native.Mathlib.Omega.{arith}
 use lib.ListN.{drop}
@@ -11,6 +10,7 @@ use Rattle.parse.proofs.Past.{within}
 use Rattle.parse.proofs.Rules.{takes-forget, takes-constraint_set}
 use Rattle.parse.proofs.LeafReaders.{unopened, no-constraints, some-constraints}
 use Rattle.parse.proofs.leaves.constraints.Goals as goal
+use Rattle.parse.proofs.leaves.constraints.Goals.{else-features-via-then-features+else-has, else-features-via-else-features}
 
 pub returns-in_default : goal.returns-in_default
 returns-in_default c =
@@ -34,4 +34,4 @@ returns-then-has c =
 pub returns : goal.returns
 returns c =
     let a = c.args in
-    unopened a.features a.text.now a.at (⊎_elim (λ w. ap₂ ◌&&◌ w.if-features.true (sym w.has.ensures ∙ w.if-has.false)) (λ w. rw w.if-features.false) c.else-features.branch-raw)
+    unopened a.features a.text.now a.at (elim c.else-features.branch [ else-features-via-then-features+else-has w ↦ ap₂ ◌&&◌ w.if-features.true (sym w.has.ensures ∙ w.if-has.false) | else-features-via-else-features w ↦ rw w.if-features.false ])

@@ -1,7 +1,6 @@
 -- `layer_prefix_contents` meets its contract: a set where sets are admitted and one is read, or else numbers. Assumes nothing.
 use mathlib.Core.Path.{sym, ap, ap₂, ◌∙◌}
 use mathlib.Core.Bool.{◌&&◌}
-use mathlib.Core.Logic.{⊎_elim}
 use native.Mathlib.Omega.{arith}
 use lib.ListN.{drop}
 use Rattle.notation.specs.Tree.{Span, layer_set}
@@ -10,6 +9,7 @@ use Rattle.parse.proofs.Past.{within}
 use Rattle.parse.proofs.Rules.{takes-forget, takes-layer_set}
 use Rattle.parse.proofs.LayerSets.{unopened, opened-none, a-set}
 use Rattle.parse.proofs.leaves.layer_prefix_contents.Goals as goal
+use Rattle.parse.proofs.leaves.layer_prefix_contents.Goals.{else-features-via-then-features+else-has, else-features-via-else-features}
 
 pub returns-in_default : goal.returns-in_default
 returns-in_default c =
@@ -35,4 +35,4 @@ pub returns : goal.returns
 returns c =
     let a = c.args in
     c.numbered_layers.ensures
-    ∙ unopened a.features a.text.now a.at (⊎_elim (λ w. ap₂ ◌&&◌ w.if-features.true (sym w.has.ensures ∙ w.if-has.false)) (λ w. rw w.if-features.false) c.else-features.branch-raw)
+    ∙ unopened a.features a.text.now a.at (elim c.else-features.branch [ else-features-via-then-features+else-has w ↦ ap₂ ◌&&◌ w.if-features.true (sym w.has.ensures ∙ w.if-has.false) | else-features-via-else-features w ↦ rw w.if-features.false ])

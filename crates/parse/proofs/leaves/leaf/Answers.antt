@@ -1,57 +1,48 @@
 -- `leaf` meets its contract: the rules that do not start with the first byte reject. Assumes nothing.
 use Rattle.std.specs.Prelude.{Some, None}
-use mathlib.Core.Path.{sym, ap, ◌∙◌}
+use mathlib.Core.Path.{ap, ◌∙◌}
 use mathlib.Core.List.{List}
-use mathlib.Core.Logic.{⊎_elim}
+use mathlib.Core.Logic.{⊎_elim, inl, inr}
 use Prim.Native.Nat.{ℕ, ◌+◌}
-use borrow.Author.Tests.{eq-eqb}
 use lib.ListN.{drop}
-use Rattle.charsets.proofs.Texts.{in-text}
 use Rattle.notation.specs.Grammar.{read}
 use Rattle.parse.proofs.Rules.{leaf-within}
 use Rattle.parse.proofs.FirstBytes.{is-pause, is-rotation, is-parenthesis, is-slash, is-other, is-end}
 use Rattle.parse.proofs.leaves.leaf.Goals as goal
 
-pub returns-then-byte-eq46 : goal.returns-then-byte-eq46
-returns-then-byte-eq46 c =
+pub returns-then-text-at : goal.returns-then-text-at
+returns-then-text-at c =
+    let a = c.args in
+    let e = is-end a.features a.text.now a.at c.if-text-at.true in
+    record { means = e; within = leaf-within a.features a.text.now a.at None c.requires.0 e }
+
+pub returns-in-46 : goal.returns-in-46
+returns-in-46 c =
     let a = c.args in
     let last = a.at + 1 in
     let e =
     ap (λ (l : List ℕ). read l last (drop last a.text.now)) c.pause_fields.ensures
-    ∙ is-pause a.features a.text.now a.at c.if-at-text.true c.if-byte-eq46.true in
+    ∙ is-pause a.features a.text.now a.at c.if-text-at.false c.in-46.is in
     record { means = e; within = leaf-within a.features a.text.now a.at (Some (record { value = c.pause_fields.result; next = last })) c.requires.0 e }
 
-pub rotation-requires : goal.rotation-requires
-rotation-requires c =
-    let inside = c.if-at-text.true in
-    record { at_in_bounds = (inside, c.requires.1); at_sign = eq-eqb _ _ (sym (in-text c.args.text.now c.args.at inside) ∙ c.if-byte-eq64.true) }
-
-pub returns-then-byte-eq64 : goal.returns-then-byte-eq64
-returns-then-byte-eq64 c =
+pub returns-in-64 : goal.returns-in-64
+returns-in-64 c =
     let a = c.args in
-    let e = is-rotation a.features a.text.now a.at c.if-at-text.true c.if-byte-eq64.true c.rotation.ensures in
+    let e = is-rotation a.features a.text.now a.at c.if-text-at.false c.in-64.is c.rotation.ensures in
     record { means = e; within = leaf-within a.features a.text.now a.at c.rotation.result c.requires.0 e }
 
-pub returns-then-byte-eq40 : goal.returns-then-byte-eq40
-returns-then-byte-eq40 c =
+pub returns-in-40 : goal.returns-in-40
+returns-in-40 c =
     let a = c.args in
-    let inside = c.if-at-text.true in
     let q = c.admitted_sq1_move.ensures in
     let e =
-    ⊎_elim (λ w. is-parenthesis a.features a.text.now a.at inside w.if-byte-eq40.true q)
-    (λ w. is-slash a.features a.text.now a.at inside w.if-byte-eq47.true q) c.then-byte-eq40.branch-raw in
+    ⊎_elim (λ b. is-parenthesis a.features a.text.now a.at c.if-text-at.false b q)
+    (λ b. is-slash a.features a.text.now a.at c.if-text-at.false b q) c.in-40.is in
     record { means = e; within = leaf-within a.features a.text.now a.at c.admitted_sq1_move.result c.requires.0 e }
 
-pub returns-then-at-text : goal.returns-then-at-text
-returns-then-at-text c =
+pub returns-in_default : goal.returns-in_default
+returns-in_default c =
     let a = c.args in
-    let e =
-    is-other a.features a.text.now a.at c.if-at-text.true c.if-byte-eq46.false
-    c.if-byte-eq64.false c.if-byte-eq40.false c.if-byte-eq47.false c.scramble_or_move.ensures in
+    let other = c.in_default.in_default-own.rest in
+    let e = is-other a.features a.text.now a.at c.if-text-at.false other.0.0.1 other.0.1 (λ b. other.1 (inl b)) (λ b. other.1 (inr b)) c.scramble_or_move.ensures in
     record { means = e; within = leaf-within a.features a.text.now a.at c.scramble_or_move.result c.requires.0 e }
-
-pub returns : goal.returns
-returns c =
-    let a = c.args in
-    let e = is-end a.features a.text.now a.at c.if-at-text.false in
-    record { means = e; within = leaf-within a.features a.text.now a.at None c.requires.0 e }

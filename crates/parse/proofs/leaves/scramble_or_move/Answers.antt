@@ -1,9 +1,9 @@
 -- `scramble_or_move` meets its contract. Assumes nothing.
 use mathlib.Core.Path.{sym, ap₂, ◌∙◌}
 use mathlib.Core.Bool.{◌&&◌}
-use mathlib.Core.Logic.{⊎_elim}
 use Rattle.parse.proofs.LeafReaders.{a-scramble, no-scramble}
 use Rattle.parse.proofs.leaves.scramble_or_move.Goals as goal
+use Rattle.parse.proofs.leaves.scramble_or_move.Goals.{else-features-via-then-features+else-is_scramble, else-features-via-else-features}
 
 pub megaminx_scramble_move-requires : goal.megaminx_scramble_move-requires
 megaminx_scramble_move-requires c = (c.requires.0, sym c.is_scramble.ensures ∙ c.if-is_scramble.true)
@@ -16,5 +16,5 @@ returns-then-is_scramble c =
 pub returns-else-features : goal.returns-else-features
 returns-else-features c =
     let a = c.args in
-    no-scramble a.features a.text.now a.at (⊎_elim (λ w. ap₂ ◌&&◌ w.if-features.true (sym w.is_scramble.ensures ∙ w.if-is_scramble.false)) (λ w. rw w.if-features.false) c.else-features.branch-raw)
+    no-scramble a.features a.text.now a.at (elim c.else-features.branch [ else-features-via-then-features+else-is_scramble w ↦ ap₂ ◌&&◌ w.if-features.true (sym w.is_scramble.ensures ∙ w.if-is_scramble.false) | else-features-via-else-features w ↦ rw w.if-features.false ])
     c.move_.ensures

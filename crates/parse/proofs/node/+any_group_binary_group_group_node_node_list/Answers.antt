@@ -133,8 +133,8 @@ binary_group-overflow_cast-second t c =
     let two = c.node_list-b in
     omega (arith, two.ensures.slots, two.ensures.advances, two.ensures.inside, pre.0.short)
 
-pub binary_group-put_group-requires : goal.binary_group-put_group-requires
-binary_group-put_group-requires t c =
+pub binary_group-put_record-requires : goal.binary_group-put_record-requires
+binary_group-put_record-requires t c =
     let a = c.args in
     let pre = c.requires in
     omega (arith, pre.0.slots, pre.0.inside, pre.0.short)
@@ -148,7 +148,7 @@ binary_group-returns t c =
     let two = c.node_list-b in
     let signs = c.in_ok-kind.ensures in
     let fields = c.binary_group_fields in
-    rw c.put_group.ensures
+    rw c.put_record.ensures
     (closed-binary a.features a.text.now a.at a.slot a.tally a.tree.now opens _ _ _ one.ensures c.in_ok-kind.kind signs _ _ _ two.ensures
     c.in_ok-end.end.value c.in_ok-end.end.next (listed fields.result) fields.ensures c.in_ok-end.ensures)
 
@@ -212,8 +212,8 @@ group-overflow_cast-first t c =
     let list = c.node_list-list in
     omega (arith, list.ensures.slots, list.ensures.advances, list.ensures.inside, pre.0.short)
 
-pub group-put_group-requires : goal.group-put_group-requires
-group-put_group-requires t c =
+pub group-put_record-requires : goal.group-put_record-requires
+group-put_record-requires t c =
     let a = c.args in
     let pre = c.requires in
     omega (arith, pre.0.slots, pre.0.inside, pre.0.short)
@@ -227,7 +227,7 @@ group-returns t c =
     let later = (within a.text.now a.at takes-kind pre.0.inside start.ensures).0 in
     let list = c.node_list-list in
     let fields = c.group_fields in
-    rw c.put_group.ensures
+    rw c.put_record.ensures
     (closed-group a.features a.text.now a.at a.slot a.tally a.tree.now start.result.value start.result.next start.ensures opens (omega (arith, later)) _ _ _
     (list.ensures) c.in_ok-end.end.value c.in_ok-end.end.next (listed fields.result) fields.ensures c.in_ok-end.ensures)
 

@@ -7,5 +7,5 @@ pub returns : goal.returns
 returns c =
     let a = c.args in
     let read = c.in_ok-leaf in
-    rw c.put_leaf.ensures
+    rw c.put_record.ensures
     (leaf-read a.features a.text.now a.at a.slot a.tree.now a.tally (listed read.leaf.value) read.leaf.next read.ensures.means read.ensures.within.0 read.ensures.within.1)

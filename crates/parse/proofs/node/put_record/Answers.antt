@@ -1,4 +1,4 @@
--- `nodes::put_group` meets its contract. Assumes nothing.
+-- `node::put_record` meets its contract. Assumes nothing.
 use mathlib.Core.Path.{refl, ap, ◌∙◌}
 use mathlib.Core.List.{List}
 use Prim.Native.Nat.{ℕ, ◌+◌, ◌-◌, ◌*◌, ◌%◌}
@@ -10,7 +10,7 @@ use Rattle.record.proofs.Cut.{length-lay_out}
 use Rattle.record.specs.Meaning.{listed, COUNT}
 use Rattle.parse.proofs.Buffers.{put-part, put_full}
 use Rattle.notation.specs.Packed.{RECORD, widths, lay_out}
-use Rattle.parse.proofs.node.put_group.Goals as goal
+use Rattle.parse.proofs.node.put_record.Goals as goal
 
 pub returns-then-end-tree : goal.returns-then-end-tree
 returns-then-end-tree c =
