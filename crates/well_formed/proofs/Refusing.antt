@@ -60,15 +60,6 @@ either_way {f} {g} p q = fun_ext at
 pub or-as : (r a b : code.Option Refusal) (q : Option ℕ) → r ≡ option_or a b → number_of b ≡ q → number_of r ≡ first (number_of a) q
 or-as r a b q e p = ap number_of e ∙ or-first a b ∙ ap (first (number_of a)) p
 
--- what is found of a leaf that passes a test and does not overflow
-pub passes : (b : Bool) (r : code.Option Refusals) → r ≡ then_some b none-met → code.is_some r ≡ b
-passes true r e = ap code.is_some e
-passes false r e = ap code.is_some e
-
-pub passes-met : (over b : Bool) (r : code.Option Refusals) → r ≡ then_some b none-met → false ≡ over → code.IfSome r (λ met. refuses met ≡ leaf_refuses over)
-passes-met over true r e o = rw (e, ← o) (either_way refl refl)
-passes-met over false r e o = rw e tt
-
 -- contents turned round by a negative multiplier, or kept
 pub turned_round : (m : ℤ) (s : Refusals) → is_negative m ≡ true → refuses (record { forward = s.backward; backward = s.forward }) ≡ turned_by m (refuses s)
 turned_round (pos n) s g = absurd (let z : ◌≡◌ {A = Bool} false true = g in let y : ◌≡◌ {A = ℕ} 0 1 = cc in omega arith)
@@ -161,9 +152,6 @@ binary-refuses Commutator s t m = refl
 binary-refuses Conjugate s t m = refl
 
 -- A leaf, by the code's test of its record.
-pub no-pair : (bs : List ℕ) {k : ℕ} → k ≡ kind_at bs → ((k ≡ 9) → ⊥) → false ≡ overflows_at bs
-no-pair bs {k} e n = sym (ne_eqb k 9 n) ∙ over_none bs e n
-
 pub leaf-refuses : (bs : List ℕ) (x : Leaf) → leaf_head x ≡ head_at bs → leaf_refuses (overflows_at bs) ≡ of_node (leaf x)
 unfolding refusal_node
 leaf-refuses bs x e = ap leaf_refuses (overflow-test bs ∙ ap head_overflows (sym e))
@@ -187,9 +175,9 @@ nothing-met t = either_way refl (first-none (first_refusal true t))
 pub nothing_left : (met : Refusals) → after (refuses met) (λ d. none) ≡ refuses met
 nothing_left met = either_way (first-none (number_of met.forward)) refl
 
-pub met-more : (met one next : Refusals) (n : Node Leaf) (t : Tree) → refuses one ≡ of_node n → refuses next ≡ after (refuses met) (refuses one) →
+pub met-more : (met next : Refusals) (n : Node Leaf) (t : Tree) {one : Bool → Option ℕ} → one ≡ of_node n → refuses next ≡ after (refuses met) one →
     after (refuses next) (of_tree t) ≡ after (refuses met) (of_tree (cons n t))
 unfolding first_refusal
-met-more met one next n t p q =
+met-more met next n t p q =
     ap (λ (r : Bool → Option ℕ). after r (of_tree t)) (q ∙ ap (after (refuses met)) p)
     ∙ fun_ext (λ d. order-assoc d (refuses met d) (refusal_node d n) (first_refusal d t))

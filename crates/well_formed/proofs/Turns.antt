@@ -174,9 +174,9 @@ count-on bs n c n' p e s =
 
 go_on : (text : List ℕ) (d : ℕ) (list bs : List ℕ) (n : ℕ) (met : Refusals) → Left text d list bs n met → (ok : Bool) → ok ≡ first_ok text d bs → ok ≡ true →
     (end : ℕ) → end ≡ RECORD + RECORD * both (head_at bs) → end ≤ length bs → (c n' : ℕ) → c ≡ stored (first_node bs) → cap n' ≡ cap (n + c) →
-    n' + (length bs - end) ≤ CAP + length list → (one next : Refusals) → refuses one ≡ of_node (first_node bs) → refuses next ≡ after (refuses met) (refuses one) →
+    n' + (length bs - end) ≤ CAP + length list → {one : Bool → Option ℕ} (next : Refusals) → one ≡ of_node (first_node bs) → refuses next ≡ after (refuses met) one →
     Left text d list (take (length bs - end) (drop end bs)) n' next
-go_on text d list bs n met left ok o holds end z l c n' e s few one next m j =
+go_on text d list bs n met left ok o holds end z l c n' e s few next m j =
     let p : 0 < length bs = omega arith in
     let rest = length-drop end bs in
     let steps : cap (n' + count (unpack (drop end bs))) ≡ cap (n + count (unpack bs)) =
@@ -193,7 +193,7 @@ go_on text d list bs n met left ok o holds end z l c n' e s few one next m j =
           ∙ left.same;
       joined =
           ap (λ (k : ℕ). after (refuses next) (of_tree (unpack (drop k bs)))) z
-          ∙ met-more met one next (first_node bs) (unpack (rest_bytes (head_at bs) bs)) m j
+          ∙ met-more met next (first_node bs) (unpack (rest_bytes (head_at bs) bs)) m j
           ∙ ap (λ (t : Tree). after (refuses met) (of_tree t)) (sym (unpack-view bs p))
           ∙ left.joined;
     })
@@ -237,18 +237,18 @@ past-group text d list bs n met left end z l v x e k m n' next s j =
     let long : RECORD ≤ length bs = omega arith in
     go_on text d list bs n met left (first_ok text d bs) refl found.0 end
     (omega (arith, both-sum (head_at bs), first-written bs left.below long w, second-written bs left.below long w)) l
-    x.steps n' found.1 (omega arith) (omega (arith, left.within)) x.met next (subst (λ (y : code.Option Visited). MeetsNode y (first_node bs)) e m) j
+    x.steps n' found.1 (omega arith) (omega (arith, left.within)) next (subst (λ (y : code.Option Visited). MeetsNode y (first_node bs)) e m) j
 
 pub past-leaf : (text : List ℕ) (d : ℕ) (list bs : List ℕ) (n : ℕ) (met : Refusals) → Left text d list bs n met → (ok : Bool) → ok ≡ first_ok text d bs → ok ≡ true →
-    6 ≤ kind_at bs → RECORD ≤ length bs → (one next : Refusals) → refuses one ≡ leaf_refuses (overflows_at bs) →
-    refuses next ≡ after (refuses met) (refuses one) → Left text d list (take (length bs - RECORD) (drop RECORD bs)) (n + 1) next
+    6 ≤ kind_at bs → RECORD ≤ length bs → (next : Refusals) (over : Bool) → over ≡ overflows_at bs →
+    refuses next ≡ after (refuses met) (leaf_refuses over) → Left text d list (take (length bs - RECORD) (drop RECORD bs)) (n + 1) next
 unfolding count_node
-past-leaf text d list bs n met left ok o holds k l one next m j =
+past-leaf text d list bs n met left ok o holds k l next over m j =
     let x = (leaf-says bs (kind_at bs) refl k).0 in
     let leaf = (leaf-says bs (kind_at bs) refl k).1 in
     go_on text d list bs n met left ok o holds RECORD (ap (λ (h : Head). RECORD + RECORD * both h) leaf) l
     1 (n + 1) (ap (λ (h : Head). stored (node_of h (first_in bs) (second_in bs))) leaf) refl (omega (arith, left.few))
-    one next (m ∙ leaf-refuses bs x leaf ∙ ap (λ (h : Head). of_node (node_of h (first_in bs) (second_in bs))) leaf) j
+    next (ap leaf_refuses m ∙ leaf-refuses bs x leaf ∙ ap (λ (h : Head). of_node (node_of h (first_in bs) (second_in bs))) leaf) j
 
 -- A leaf has no lists.
 leaf-lists : (text : List ℕ) (d : ℕ) (r b : Bool) → r ≡ b → r ≡ (b && (formed text d [] && (formed text d [] && true)))

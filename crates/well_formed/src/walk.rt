@@ -14,7 +14,7 @@ ghost use Rattle.well_formed.specs.Formed.{well_formed_steps, formed_count, firs
 ghost use Rattle.well_formed.specs.Meaning.{step_count, Meets, MeetsNode};
 
 use crate::leaf::{move_ok, multiplier_ok, rotation_ok};
-use crate::refusals::{NONE, Refusals, join, of_group, of_leaf};
+use crate::refusals::{NONE, Refusals, join, join_leaf, of_group};
 use counts::{cap, sum};
 use notation::limits::MAX_NESTING;
 use record::decode::{layered_move, rotation};
@@ -65,9 +65,11 @@ fn visit_list(text: &[u8], list: &[u8], depth: usize) -> Option<Visited>
             met = join(met, group.met);
             t = &t[end..];
         } else {
-            let leaf = visit_leaf(text, t)?;
+            if !leaf_record_ok(text, t) {
+                return None;
+            }
             count += LEAF;
-            met = join(met, leaf);
+            met = join_leaf(met, overflows(t));
             t = &t[RECORD..];
         }
     }
@@ -155,24 +157,21 @@ fn second_ok(kind: Kind, second: u32) -> bool
     kind.is_binary() || second == 0
 }
 
-// What unrolling the first node meets, which is no group: none where it is not what packing writes or not in bounds. Packing
-// counts a leaf 1.
-fn visit_leaf(text: &[u8], t: &[u8]) -> Option<Refusals>
+// Whether the first record, that of a leaf, is what packing writes, and what it says is in bounds. Packing counts a leaf 1.
+fn leaf_record_ok(text: &[u8], t: &[u8]) -> bool
     requires in_bounds { RECORD ≤ length t.now }
     requires bound { 6 ≤ kind_at t.now }
-    ensures by_index { (depth : ℕ) → is_some result ≡ first_ok text.now depth t.now }
-    ensures overflow { IfSome result (λ met. refuses met ≡ leaf_refuses (overflows_at t.now)) }
+    ensures { (depth : ℕ) → result ≡ first_ok text.now depth t.now }
 {
     if !fields::counts_one(t) {
-        return None;
+        return false;
     }
     if !leaf_written(t) {
-        return None;
+        return false;
     }
     match fields::kind(t) {
-        Kind::Move => move_ok(text, layered_move(t)).then_some(NONE),
-        Kind::Rotation => rotation_ok(text, rotation(t)).then_some(NONE),
-        Kind::Pair => Some(of_leaf(overflows(t))),
-        _ => Some(NONE),
+        Kind::Move => move_ok(text, layered_move(t)),
+        Kind::Rotation => rotation_ok(text, rotation(t)),
+        _ => true,
     }
 }
