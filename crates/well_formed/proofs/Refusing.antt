@@ -60,6 +60,15 @@ either_way {f} {g} p q = fun_ext at
 pub or-as : (r a b : code.Option Refusal) (q : Option ℕ) → r ≡ option_or a b → number_of b ≡ q → number_of r ≡ first (number_of a) q
 or-as r a b q e p = ap number_of e ∙ or-first a b ∙ ap (first (number_of a)) p
 
+-- what is found of a leaf that passes a test and does not overflow
+pub passes : (b : Bool) (r : code.Option Bool) → r ≡ then_some b false → code.is_some r ≡ b
+passes true r e = ap code.is_some e
+passes false r e = ap code.is_some e
+
+pub passes-undone : (over b : Bool) (r : code.Option Bool) → r ≡ then_some b false → false ≡ over → code.IfSome r (λ x. x ≡ over)
+passes-undone over true r e o = rw e o
+passes-undone over false r e o = rw e tt
+
 -- contents turned round by a negative multiplier, or kept
 pub turned_round : (m : ℤ) (s : Refusals) → is_negative m ≡ true → refuses (record { forward = s.backward; backward = s.forward }) ≡ turned_by m (refuses s)
 turned_round (pos n) s g = absurd (let z : ◌≡◌ {A = Bool} false true = g in let y : ◌≡◌ {A = ℕ} 0 1 = cc in omega arith)
@@ -152,6 +161,9 @@ binary-refuses Commutator s t m = refl
 binary-refuses Conjugate s t m = refl
 
 -- A leaf, by the code's test of its record.
+pub no-pair : (bs : List ℕ) {k : ℕ} → k ≡ kind_at bs → ((k ≡ 9) → ⊥) → false ≡ overflows_at bs
+no-pair bs {k} e n = sym (ne_eqb k 9 n) ∙ over_none bs e n
+
 pub leaf-refuses : (bs : List ℕ) (x : Leaf) → leaf_head x ≡ head_at bs → leaf_refuses (overflows_at bs) ≡ of_node (leaf x)
 unfolding refusal_node
 leaf-refuses bs x e = ap leaf_refuses (overflow-test bs ∙ ap head_overflows (sym e))

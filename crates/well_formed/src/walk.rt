@@ -9,7 +9,6 @@ ghost use Rattle.notation.specs.WellFormed.{multiplier_ok};
 ghost use Rattle.record.specs.Meaning.{field, kind_at, FIRST, SECOND, NUMBER};
 ghost use Rattle.record.specs.Kinds.{kind_number};
 ghost use Rattle.record.specs.Undone.{overflows_at};
-ghost use Rattle.well_formed.specs.Refusing.{refuses, leaf_refuses};
 ghost use Rattle.well_formed.specs.Formed.{well_formed_steps, formed_count, first_node, first_ok, first_count};
 ghost use Rattle.well_formed.specs.Meaning.{step_count, Meets, MeetsNode};
 
@@ -65,11 +64,9 @@ fn visit_list(text: &[u8], list: &[u8], depth: usize) -> Option<Visited>
             met = join(met, group.met);
             t = &t[end..];
         } else {
-            if !leaf_record_ok(text, t) {
-                return None;
-            }
+            let overflows = visit_leaf(text, t)?;
             count += LEAF;
-            met = join_leaf(met, overflows(t));
+            met = join_leaf(met, overflows);
             t = &t[RECORD..];
         }
     }
@@ -157,21 +154,27 @@ fn second_ok(kind: Kind, second: u32) -> bool
     kind.is_binary() || second == 0
 }
 
-// Whether the first record, that of a leaf, is what packing writes, and what it says is in bounds. Packing counts a leaf 1.
-fn leaf_record_ok(text: &[u8], t: &[u8]) -> bool
+// Whether the first node, which is no group, overflows: none where it is not what packing writes or not in bounds. Packing
+// counts a leaf 1.
+fn visit_leaf(text: &[u8], t: &[u8]) -> Option<bool>
     requires in_bounds { RECORD ≤ length t.now }
     requires bound { 6 ≤ kind_at t.now }
-    ensures { (depth : ℕ) → result ≡ first_ok text.now depth t.now }
+    ensures by_index { (depth : ℕ) → is_some result ≡ first_ok text.now depth t.now }
+    ensures overflow { IfSome result (λ over. over ≡ overflows_at t.now) }
 {
     if !fields::counts_one(t) {
-        return false;
+        return None;
     }
     if !leaf_written(t) {
-        return false;
+        return None;
     }
-    match fields::kind(t) {
-        Kind::Move => move_ok(text, layered_move(t)),
-        Kind::Rotation => rotation_ok(text, rotation(t)),
-        _ => true,
+    // Compared one by one: after `leaf_written` the compiler then sees which leaves are neither, which a `match` hides from it.
+    let kind = fields::kind(t);
+    if kind == Kind::Move {
+        return move_ok(text, layered_move(t)).then_some(false);
     }
+    if kind == Kind::Rotation {
+        return rotation_ok(text, rotation(t)).then_some(false);
+    }
+    Some(overflows(t))
 }

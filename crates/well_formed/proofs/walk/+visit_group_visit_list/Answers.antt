@@ -189,8 +189,8 @@ visit_list-loop-t-preserved-then-is_group t c =
     c.visit_group.result _ c.in_ok-group.was c.visit_group.ensures.result_value c.visit_group.ensures.meets_node
     c.sum-count.result c.join-met.result c.sum-count.ensures c.join-met.ensures
 
-pub visit_list-leaf_record_ok-requires : goal.visit_list-leaf_record_ok-requires
-visit_list-leaf_record_ok-requires t c =
+pub visit_list-visit_leaf-requires : goal.visit_list-visit_leaf-requires
+visit_list-visit_leaf-requires t c =
     search (rules, no-group-high {kind = kind_at c.loop-t.t.now} c.is_group.ensures c.if-is_group.false)
 
 pub visit_list-loop-t-smaller : goal.visit_list-loop-t-smaller
@@ -200,18 +200,18 @@ visit_list-loop-t-smaller t c =
 pub visit_list-loop-t-preserved : goal.visit_list-loop-t-preserved
 visit_list-loop-t-preserved t c =
     let a = c.args in
-    past-leaf a.text.now a.depth a.list.now c.loop-t.t.now _ _ c.loop-t.invariant c.leaf_record_ok.result (c.leaf_record_ok.ensures a.depth) c.if-not-leaf_record_ok.false
+    past-leaf a.text.now a.depth a.list.now c.loop-t.t.now _ _ c.loop-t.invariant true (c.in_ok-overflows.ensures.by_index a.depth) refl
     (no-group-high c.is_group.ensures c.if-is_group.false) c.if-t-lt-RECORD.false
-    c.join_leaf-met.result c.overflows.result c.overflows.ensures c.join_leaf-met.ensures
+    c.join_leaf-met.result c.in_ok-overflows.overflows c.in_ok-overflows.ensures.overflow c.join_leaf-met.ensures
 
-pub visit_list-returns-then-not-leaf_record_ok : goal.visit_list-returns-then-not-leaf_record_ok
-visit_list-returns-then-not-leaf_record_ok t c =
+pub visit_list-returns-in_err-overflows : goal.visit_list-returns-in_err-overflows
+visit_list-returns-in_err-overflows t c =
     let a = c.args in
-    record {
+    rw c.from_residual-in_err-overflows.ensures (record {
       result_value = refused a.text.now a.depth a.list.now c.loop-t.t.now _ _ c.loop-t.invariant
-          (bad-node a.text.now a.depth c.loop-t.t.now c.loop-t.invariant.below c.loop-t-test.true c.leaf_record_ok.result (c.leaf_record_ok.ensures a.depth) c.if-not-leaf_record_ok.true);
+          (bad-node a.text.now a.depth c.loop-t.t.now c.loop-t.invariant.below c.loop-t-test.true false (c.in_err-overflows.ensures.by_index a.depth) refl);
       meets = tt;
-    }
+    })
 
 pub visit_list-returns-in_err-group : goal.visit_list-returns-in_err-group
 visit_list-returns-in_err-group t c =
