@@ -10,4 +10,4 @@ pub returns-in-Range : goal.returns-in-Range
 returns-in-Range c = rw c.in-Range.is c.range_ok-in-Range.ensures
 
 pub returns-in-Set : goal.returns-in-Set
-returns-in-Set c = rw c.in-Set.is c.set_ok.ensures
+returns-in-Set c = rw c.in-Set.is c.layer_set_ok.ensures
