@@ -92,6 +92,7 @@ fn layers_ok(text: &[u8], l: LayerPrefixContents) -> bool
 }
 
 // Whether what a rotation names is in bounds.
+#[tactic(auto, unfolding(notation::specs::WellFormed::leaf_ok))]
 pub fn rotation_ok(text: &[u8], x: Rotation) -> bool
     ensures { result ≡ rule.leaf_ok text.now (rotation_leaf x) }
 {
@@ -101,6 +102,7 @@ pub fn rotation_ok(text: &[u8], x: Rotation) -> bool
 }
 
 // Whether what a move names is in bounds.
+#[tactic(auto, unfolding(notation::specs::WellFormed::leaf_ok))]
 pub fn move_ok(text: &[u8], x: Move) -> bool
     ensures { result ≡ rule.leaf_ok text.now (move_leaf x) }
 {

@@ -118,10 +118,7 @@ fn visit_group(text: &[u8], t: &[u8], depth: usize) -> Option<Visited>
 fn compared(stored: u64, steps: u64, met: Refusals) -> Option<Visited>
     ensures { result ≡ pick (eqb stored steps) (Some (record { steps = steps; met = met })) None }
 {
-    if stored == steps {
-        return Some(Visited { steps, met });
-    }
-    None
+    (stored == steps).then_some(Visited { steps, met })
 }
 
 // Whether the first record, that of a group, is what packing writes of a group with that step count, and its multiplier
