@@ -30,8 +30,8 @@ multiplier-test b h = go (ltb b 2147483648) refl
     go false e = high (ltb-false b 2147483648 e) (eqb b 2147483648) refl
 
 -- a part that is read to its end
-pub to-end-test : (s : List ℕ) (n : ℕ) → leb (length s) n ≡ is_some (at_end (read (tt {0}) n (drop n s)))
-to-end-test s n = go (drop n s) refl
+pub to_end_test : (s : List ℕ) (n : ℕ) → leb (length s) n ≡ is_some (at_end (read (tt {0}) n (drop n s)))
+to_end_test s n = go (drop n s) refl
   where
     go : (r : List ℕ) → drop n s ≡ r → leb (length s) n ≡ is_some (at_end (read (tt {0}) n r))
     go [] e = le-leb (length s) n (omega (arith, ap length e, length-drop n s))
@@ -43,10 +43,10 @@ forget-end (read a at []) = refl
 forget-end (read a at (b ∷ s)) = refl
 
 -- a part s of the text that a reader reads to its end, or not
-pub part-test : {A : Type 0} (rule : Reader A) (text s : List ℕ) (offset size : ℕ) (r : Bool) (x : Reading (Unit {0})) → offset + size ≤ length text →
+pub part_test : {A : Type 0} (rule : Reader A) (text s : List ℕ) (offset size : ℕ) (r : Bool) (x : Reading (Unit {0})) → offset + size ≤ length text →
     s ≡ take (offset + size - offset) (drop offset text) → r ≡ is_some (at_end x) → x ≡ forget (rule 0 s) →
     r ≡ (leb (offset + size) (length text) && is_some (at_end (rule 0 (take size (drop offset text)))))
-part-test rule text s offset size r x h p e f =
+part_test rule text s offset size r x h p e f =
     let n : offset + size - offset ≡ size = omega arith in
     e
     ∙ ap (λ (y : Reading (Unit {0})). is_some (at_end y)) f

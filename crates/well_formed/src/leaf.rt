@@ -40,6 +40,7 @@ fn family_ok(text: &[u8], p: Span, least: usize) -> bool
 }
 
 // Whether what was read of a part is the whole of it.
+#[tactic(auto, using(crate::proofs::Tests::to_end_test))]
 fn to_end(part: &[u8], taken: Option<usize>) -> bool
     ensures { result ≡ rule.is_some (at_end (end_reading part.now taken)) }
 {
@@ -50,6 +51,7 @@ fn to_end(part: &[u8], taken: Option<usize>) -> bool
 }
 
 // Whether constraints, where there are any, are a set of constraints.
+#[tactic(auto, using(crate::proofs::Tests::part_test), unfolding(notation::specs::Meaning::constraints_in))]
 fn constraints_ok(text: &[u8], constraints: Option<Span>) -> bool
     ensures { result ≡ rule.constraints_ok text.now (span_option constraints) }
 {
@@ -70,6 +72,7 @@ fn range_ok(low: u16, high: u16) -> bool
 }
 
 // Whether a part of the text is a set of layers.
+#[tactic(auto, using(crate::proofs::Tests::part_test), unfolding(notation::specs::Meaning::layer_set_in))]
 fn layer_set_ok(text: &[u8], p: Span) -> bool
     ensures { result ≡ rule.layers_ok text.now (tree.layer_set (span p)) }
 {

@@ -31,6 +31,7 @@ pub struct Visited {
 }
 
 // How many steps a well-formed tree has, and what unrolling it meets.
+#[tactic(auto, unfolding(notation::specs::WellFormed::well_formed, crate::specs::Formed::formed))]
 pub fn visit(text: &[u8], tree: &[u8]) -> Option<Visited>
     ensures result_value { step_count result ≡ well_formed_steps text.now tree.now }
     ensures meets { Meets result (unpack tree.now) }

@@ -118,9 +118,6 @@ visit_group-of_group-requires-2 t c =
     let most' = second-capped lists c.in_ok-b.b.steps (ap answer c.in_ok-b.was) in
     (omega arith, omega arith)
 
-pub visit_group-of_group-requires-3 : goal.visit_group-of_group-requires-3
-visit_group-of_group-requires-3 t c = (two (goal.at.visit_group-of_group-requires-3 t c).After-visit_list-2).one.told.long
-
 pub visit_group-returns : goal.visit_group-returns
 unfolding two
 visit_group-returns t c =
@@ -144,10 +141,6 @@ visit_group-returns-then-not-group_record_ok t c =
           (group-refused a.text.now a.depth a.t.now (told (goal.at.visit_group-returns-then-not-group_record_ok t c).After-shared_slice_known-2-1) c.group_record_ok.result c.group_record_ok.ensures c.if-not-group_record_ok.true);
       meets_node = tt;
     }
-
-pub visit_list-loop-t-init : goal.visit_list-loop-t-init
-visit_list-loop-t-init t c =
-    at_first _ _ _ (slice-below _ c.type_inv.list)
 
 pub visit_list-returns-then-t-lt-RECORD : goal.visit_list-returns-then-t-lt-RECORD
 visit_list-returns-then-t-lt-RECORD t c =
@@ -177,10 +170,6 @@ visit_list-sum-count-requires t c =
     let a = c.args in
     sum_room c.loop-t.count (length c.loop-t.t.now) (length a.list.now) c.in_ok-group.group.steps c.loop-t.invariant.few c.well_formed.1.0.1 (group-capped a.text.now a.depth c.loop-t.t.now c.in_ok-group.was c.visit_group.ensures.result_value)
 
-pub visit_list-loop-t-smaller-then-is_group : goal.visit_list-loop-t-smaller-then-is_group
-visit_list-loop-t-smaller-then-is_group t c =
-    shorter c.loop-t.t.now _ (omega arith) c.if-t-end.false
-
 pub visit_list-loop-t-preserved-then-is_group : goal.visit_list-loop-t-preserved-then-is_group
 visit_list-loop-t-preserved-then-is_group t c =
     let a = c.args in
@@ -192,10 +181,6 @@ visit_list-loop-t-preserved-then-is_group t c =
 pub visit_list-visit_leaf-requires : goal.visit_list-visit_leaf-requires
 visit_list-visit_leaf-requires t c =
     search (rules, no-group-high {kind = kind_at c.loop-t.t.now} c.is_group.ensures c.if-is_group.false)
-
-pub visit_list-loop-t-smaller : goal.visit_list-loop-t-smaller
-visit_list-loop-t-smaller t c =
-    shorter c.loop-t.t.now RECORD (omega arith) c.if-t-lt-RECORD.false
 
 pub visit_list-loop-t-preserved : goal.visit_list-loop-t-preserved
 visit_list-loop-t-preserved t c =

@@ -42,10 +42,6 @@ returns-then-not-counts_one c =
       overflow = tt;
     }
 
-pub leaf_written-requires : goal.leaf_written-requires
-leaf_written-requires c =
-    record { in_bounds = c.requires.in_bounds; bound = c.requires.bound; counts_one = eqb-true _ 1 (sym c.counts_one.ensures ∙ c.if-not-counts_one.false) }
-
 pub returns-then-not-leaf_written : goal.returns-then-not-leaf_written
 returns-then-not-leaf_written c =
     record { by_index = leaf-refused (counted (goal.at.returns-then-not-leaf_written c).After-leaf_written) _ c.leaf_written.result c.leaf_written.ensures c.if-not-leaf_written.true; overflow = tt }
