@@ -31,7 +31,7 @@ use Rattle.std.specs.Prelude as code
 use Rattle.well_formed.specs.Refusing.{refuses, leaf_refuses, group_refuses}
 use Rattle.well_formed.specs.declared.refusals.Refusals.{Refusals}
 use Rattle.well_formed.proofs.Opening.{both-sum, unpack-view}
-use Rattle.well_formed.proofs.Refusing.{of_node, of_tree, after, none-met, either_way, leaf-refuses, nothing-met, nothing_left, met-more}
+use Rattle.well_formed.proofs.Refusing.{of_node, of_tree, after, none-met, either_way, leaf-refuses, nothing_left, met-more}
 use Rattle.well_formed.proofs.Heads.{GroupSays, group-says, leaf-says, asks_nothing, by-fields, compared, field-written, first-written, second-written, count-written}
 use Rattle.well_formed.proofs.Formed.{formed-fact, fact-formed, formed-nil, Parts, formed-parts, parts-formed}
 
@@ -139,11 +139,6 @@ pub record Left (text : List ℕ) (d : ℕ) (list bs : List ℕ) (n : ℕ) (met 
   pub same : count_from text d n bs ≡ formed_count text d list
   pub joined : after (refuses met) (of_tree (unpack bs)) ≡ of_tree (unpack list)
 
-pub at_first : (text : List ℕ) (d : ℕ) (list : List ℕ) → Below 256 list → Left text d list list 0 none-met
-at_first text d list b =
-    let z : 0 + count (unpack list) ≡ count (unpack list) = omega arith in
-    record { below = b; within = omega arith; few = omega arith; same = ap (λ (k : ℕ). pick (formed text d list) (some (cap k)) none) z; joined = nothing-met (unpack list) }
-
 pub no_more : (text : List ℕ) (d : ℕ) (list bs : List ℕ) (n : ℕ) (met : Refusals) → Left text d list bs n met → length bs ≤ 0 → (r : ℕ) → r ≡ cap n → some r ≡ formed_count text d list
 unfolding unpack_from count
 no_more text d list [] n met left h r e =
@@ -161,9 +156,6 @@ refused text d list bs n met left e = ap (λ (b : Bool). pick b (some (cap (n + 
 
 rest-is : (bs : List ℕ) (end : ℕ) → take (length bs - end) (drop end bs) ≡ drop end bs
 rest-is bs end = take_all (length bs - end) (drop end bs) (omega (arith, length-drop end bs))
-
-pub shorter : (bs : List ℕ) (end : ℕ) → 0 < end → end ≤ length bs → length (take (length bs - end) (drop end bs)) < length bs
-shorter bs end p l = omega (arith, ap length (rest-is bs end), length-drop end bs)
 
 -- the first node's steps, c of them as it stores them, are added to n and give n', capped or not; with those of the rest
 count-on : (bs : List ℕ) (n c n' : ℕ) → 0 < length bs → c ≡ stored (first_node bs) → cap n' ≡ cap (n + c) → cap (n' + count (unpack (rest_bytes (head_at bs) bs))) ≡ cap (n + count (unpack bs))
@@ -344,9 +336,6 @@ pub second-refused : {bs : List ℕ} {k n : ℕ} {q : Bool} → GroupRead bs k n
 second-refused {bs} {k} {n} {q} g f =
     ap (λ (b : Bool). b && multiplier bs) (refuted (same bs) λ w. second-is-not bs k n g.says q g.may f (g.count ∙ second-written bs g.below g.long w))
 
-pub multiplier-refused : (bs : List ℕ) (m : Bool) → m ≡ multiplier bs → m ≡ false → m ≡ (same bs && multiplier bs)
-multiplier-refused bs m e f = f ∙ and-false (same bs) (multiplier bs) (sym e ∙ f)
-
 -- A group and its lists.
 pub no-group : (text : List ℕ) (d : ℕ) (bs : List ℕ) → false ≡ first_ok text d bs → none ≡ first_count text d bs
 no-group text d bs e = ap (λ (b : Bool). pick b (some (stored (first_node bs))) none) e
@@ -371,11 +360,6 @@ pub group-told : (bs : List ℕ) → Below 256 bs → RECORD + RECORD * (field F
 group-told bs b l k =
     let says = group-says bs b (kind_at bs) refl k in
     record { below = b; long = omega arith; asks = says.asks; one = says.one; refuses = says.refuses; counts = says.counts }
-
-list-capped : (text : List ℕ) (d : ℕ) (bs : List ℕ) (n : ℕ) → some n ≡ formed_count text d bs → n ≤ CAP
-list-capped text d bs n e =
-    let z = (list-passed (formed text d bs) (cap (count (unpack bs))) n e).1 in
-    omega arith
 
 -- a group's lists and its count
 abbrev lists : List ℕ → ℕ → List ℕ → Bool
@@ -448,9 +432,6 @@ module _ {text : List ℕ} {d : ℕ} {bs : List ℕ} {n : ℕ} {a : Option ℕ} 
       (sym (list-refused (formed text (d - 1) (first_bytes (head_at bs) bs)) _ (sym fails ∙ first-told)))
       ∙ by-lists
 
-  pub first-capped : (k : ℕ) → a ≡ some k → k ≤ CAP
-  first-capped k e = list-capped text (d - 1) (first_bytes (head_at bs) bs) k (sym e ∙ first-told)
-
 -- The first list has k steps; the second, with n' records, was answered too.
 pub record SecondRead (text : List ℕ) (d : ℕ) (bs : List ℕ) (k : ℕ) (b : Option ℕ) : Type 0 where
   pub n : ℕ
@@ -508,9 +489,6 @@ module _ {text : List ℕ} {d : ℕ} {bs : List ℕ} {k : ℕ} {b : Option ℕ} 
       ap (λ (x : Bool). x && count_ok (head_at bs) (first_in bs) (second_in bs))
       (sym (list-refused (formed text (d - 1) (second_bytes (head_at bs) bs)) _ (sym fails ∙ second-told)))
       ∙ by-second
-
-  pub second-capped : (k' : ℕ) → b ≡ some k' → k' ≤ CAP
-  second-capped k' e = list-capped text (d - 1) (second_bytes (head_at bs) bs) k' (sym e ∙ second-told)
 
   -- the count as it is compared
   count-compared : (k' : ℕ) → b ≡ some k' → {kind number stored' whole : ℕ} → kind ≡ kind_at bs → number ≡ field NUMBER bs →
