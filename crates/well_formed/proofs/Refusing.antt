@@ -19,7 +19,6 @@ use Rattle.notation.specs.declared.common.GroupKind.{GroupKind}
 use Rattle.notation.specs.declared.common.GroupKind.TheVariants.{Simple, Macro, Simultaneous, Niss}
 use Rattle.notation.specs.declared.common.BinaryGroupKind.{BinaryGroupKind}
 use Rattle.notation.specs.declared.common.BinaryGroupKind.TheVariants.{Commutator, Conjugate}
-use Rattle.numbers.specs.Sign.{is_negative}
 use Rattle.record.specs.Undone.{overflows_at}
 use Rattle.record.specs.Meaning.{kind_at}
 use Rattle.record.proofs.Overflows.{over_none, head_overflows, overflow-test}
@@ -61,35 +60,21 @@ pub or-as : (r a b : code.Option Refusal) (q : Option ℕ) → r ≡ option_or a
 or-as r a b q e p = ap number_of e ∙ or-first a b ∙ ap (first (number_of a)) p
 
 -- what is found of a leaf that passes a test and does not overflow
-pub passes : (b : Bool) (r : code.Option Refusals) → r ≡ then_some b none-met → code.is_some r ≡ b
+pub passes : (b : Bool) (r : code.Option Bool) → r ≡ then_some b false → code.is_some r ≡ b
 passes true r e = ap code.is_some e
 passes false r e = ap code.is_some e
 
-pub passes-met : (over b : Bool) (r : code.Option Refusals) → r ≡ then_some b none-met → false ≡ over → code.IfSome r (λ met. refuses met ≡ leaf_refuses over)
-passes-met over true r e o = rw (e, ← o) (either_way refl refl)
-passes-met over false r e o = rw e tt
+pub passes-undone : (over b : Bool) (r : code.Option Bool) → r ≡ then_some b false → false ≡ over → code.IfSome r (λ x. x ≡ over)
+passes-undone over true r e o = rw e o
+passes-undone over false r e o = rw e tt
 
--- contents turned round by a negative multiplier, or kept
-pub turned_round : (m : ℤ) (s : Refusals) → is_negative m ≡ true → refuses (record { forward = s.backward; backward = s.forward }) ≡ turned_by m (refuses s)
-turned_round (pos n) s g = absurd (let z : ◌≡◌ {A = Bool} false true = g in let y : ◌≡◌ {A = ℕ} 0 1 = cc in omega arith)
-turned_round (negsuc n) s g = either_way refl refl
-
-pub turned-not : (m : ℤ) (s : Refusals) → is_negative m ≡ false → refuses s ≡ turned_by m (refuses s)
-turned-not (pos n) s g = refl
-turned-not (negsuc n) s g = absurd (let y : ◌≡◌ {A = ℕ} 0 1 = cc in omega arith)
-
+-- nothing met, in each direction
 none-met-is : (d : Bool) → refuses none-met d ≡ none
 none-met-is true = refl
 none-met-is false = refl
 
-pub met-none : (s : Refusals) → s.forward ≡ code.None → s.backward ≡ code.None → refuses s ≡ (λ (d : Bool). none)
-met-none s e h = either_way (ap number_of e) (ap number_of h)
-
 -- A group, by the number of its kind: the ways of `of_group`, with a and b for its lists.
 module _ (k : ℕ) (a b : Bool → Option ℕ) where
-  pub niss-refuses : (m : ℤ) → k ≡ 3 → refuses (record { forward = code.Some Niss; backward = code.Some Niss }) ≡ group_refuses k m a b
-  niss-refuses m e = either_way (rw e) (rw e)
-
   module _ (other : (k ≡ 3) → ⊥) where
     pub never-reached : (m : ℕ) → m ≡ 0 → refuses none-met ≡ group_refuses k (from_bits 32 m) a b
     never-reached m z = either_way (rw (ne_eqb k 3 other, z)) (rw (ne_eqb k 3 other, z))
@@ -144,9 +129,6 @@ commutator-refuses k a b e = rw e
 pub conjugate-refuses : (k : ℕ) (a b : Bool → Option ℕ) → k ≡ 5 → (λ d. refusal_binary Conjugate d a b) ≡ contents_refuse k a b
 conjugate-refuses k a b e = rw e
 
-pub one-list-refuses : (k : ℕ) (a b : Bool → Option ℕ) → ((k ≡ 4) → ⊥) → ((k ≡ 5) → ⊥) → a ≡ contents_refuse k a b
-one-list-refuses k a b p q = fun_ext (λ d. rw (ne_eqb k 4 p, ne_eqb k 5 q))
-
 -- What the rule says of a block is what the number of its kind says.
 pub group-refuses : (g : GroupKind) (t : Tree) (m : ℤ) (b : Bool → Option ℕ) → of_node (block (group g t) m) ≡ group_refuses (group_number g) m (of_tree t) b
 unfolding refusal_node refusal_body
@@ -181,15 +163,12 @@ order-assoc : (d : Bool) (p q r : Option ℕ) → first_in_order d (first_in_ord
 order-assoc false p q r = first-assoc p q r
 order-assoc true p q r = sym (first-assoc r q p)
 
-pub nothing-met : (t : Tree) → after (refuses none-met) (of_tree t) ≡ of_tree t
-nothing-met t = either_way refl (first-none (first_refusal true t))
-
 pub nothing_left : (met : Refusals) → after (refuses met) (λ d. none) ≡ refuses met
 nothing_left met = either_way (first-none (number_of met.forward)) refl
 
-pub met-more : (met one next : Refusals) (n : Node Leaf) (t : Tree) → refuses one ≡ of_node n → refuses next ≡ after (refuses met) (refuses one) →
+pub met-more : (met next : Refusals) (n : Node Leaf) (t : Tree) {one : Bool → Option ℕ} → one ≡ of_node n → refuses next ≡ after (refuses met) one →
     after (refuses next) (of_tree t) ≡ after (refuses met) (of_tree (cons n t))
 unfolding first_refusal
-met-more met one next n t p q =
+met-more met next n t p q =
     ap (λ (r : Bool → Option ℕ). after r (of_tree t)) (q ∙ ap (after (refuses met)) p)
     ∙ fun_ext (λ d. order-assoc d (refuses met d) (refusal_node d n) (first_refusal d t))

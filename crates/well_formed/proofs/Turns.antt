@@ -31,7 +31,7 @@ use Rattle.std.specs.Prelude as code
 use Rattle.well_formed.specs.Refusing.{refuses, leaf_refuses, group_refuses}
 use Rattle.well_formed.specs.declared.refusals.Refusals.{Refusals}
 use Rattle.well_formed.proofs.Opening.{both-sum, unpack-view}
-use Rattle.well_formed.proofs.Refusing.{of_node, of_tree, after, none-met, either_way, leaf-refuses, nothing-met, nothing_left, met-more}
+use Rattle.well_formed.proofs.Refusing.{of_node, of_tree, after, none-met, either_way, leaf-refuses, nothing_left, met-more}
 use Rattle.well_formed.proofs.Heads.{GroupSays, group-says, leaf-says, asks_nothing, by-fields, compared, field-written, first-written, second-written, count-written}
 use Rattle.well_formed.proofs.Formed.{formed-fact, fact-formed, formed-nil, Parts, formed-parts, parts-formed}
 
@@ -139,11 +139,6 @@ pub record Left (text : List ℕ) (d : ℕ) (list bs : List ℕ) (n : ℕ) (met 
   pub same : count_from text d n bs ≡ formed_count text d list
   pub joined : after (refuses met) (of_tree (unpack bs)) ≡ of_tree (unpack list)
 
-pub at_first : (text : List ℕ) (d : ℕ) (list : List ℕ) → Below 256 list → Left text d list list 0 none-met
-at_first text d list b =
-    let z : 0 + count (unpack list) ≡ count (unpack list) = omega arith in
-    record { below = b; within = omega arith; few = omega arith; same = ap (λ (k : ℕ). pick (formed text d list) (some (cap k)) none) z; joined = nothing-met (unpack list) }
-
 pub no_more : (text : List ℕ) (d : ℕ) (list bs : List ℕ) (n : ℕ) (met : Refusals) → Left text d list bs n met → length bs ≤ 0 → (r : ℕ) → r ≡ cap n → some r ≡ formed_count text d list
 unfolding unpack_from count
 no_more text d list [] n met left h r e =
@@ -162,9 +157,6 @@ refused text d list bs n met left e = ap (λ (b : Bool). pick b (some (cap (n + 
 rest-is : (bs : List ℕ) (end : ℕ) → take (length bs - end) (drop end bs) ≡ drop end bs
 rest-is bs end = take_all (length bs - end) (drop end bs) (omega (arith, length-drop end bs))
 
-pub shorter : (bs : List ℕ) (end : ℕ) → 0 < end → end ≤ length bs → length (take (length bs - end) (drop end bs)) < length bs
-shorter bs end p l = omega (arith, ap length (rest-is bs end), length-drop end bs)
-
 -- the first node's steps, c of them as it stores them, are added to n and give n', capped or not; with those of the rest
 count-on : (bs : List ℕ) (n c n' : ℕ) → 0 < length bs → c ≡ stored (first_node bs) → cap n' ≡ cap (n + c) → cap (n' + count (unpack (rest_bytes (head_at bs) bs))) ≡ cap (n + count (unpack bs))
 unfolding count
@@ -174,9 +166,9 @@ count-on bs n c n' p e s =
 
 go_on : (text : List ℕ) (d : ℕ) (list bs : List ℕ) (n : ℕ) (met : Refusals) → Left text d list bs n met → (ok : Bool) → ok ≡ first_ok text d bs → ok ≡ true →
     (end : ℕ) → end ≡ RECORD + RECORD * both (head_at bs) → end ≤ length bs → (c n' : ℕ) → c ≡ stored (first_node bs) → cap n' ≡ cap (n + c) →
-    n' + (length bs - end) ≤ CAP + length list → (one next : Refusals) → refuses one ≡ of_node (first_node bs) → refuses next ≡ after (refuses met) (refuses one) →
+    n' + (length bs - end) ≤ CAP + length list → {one : Bool → Option ℕ} (next : Refusals) → one ≡ of_node (first_node bs) → refuses next ≡ after (refuses met) one →
     Left text d list (take (length bs - end) (drop end bs)) n' next
-go_on text d list bs n met left ok o holds end z l c n' e s few one next m j =
+go_on text d list bs n met left ok o holds end z l c n' e s few next m j =
     let p : 0 < length bs = omega arith in
     let rest = length-drop end bs in
     let steps : cap (n' + count (unpack (drop end bs))) ≡ cap (n + count (unpack bs)) =
@@ -193,7 +185,7 @@ go_on text d list bs n met left ok o holds end z l c n' e s few one next m j =
           ∙ left.same;
       joined =
           ap (λ (k : ℕ). after (refuses next) (of_tree (unpack (drop k bs)))) z
-          ∙ met-more met one next (first_node bs) (unpack (rest_bytes (head_at bs) bs)) m j
+          ∙ met-more met next (first_node bs) (unpack (rest_bytes (head_at bs) bs)) m j
           ∙ ap (λ (t : Tree). after (refuses met) (of_tree t)) (sym (unpack-view bs p))
           ∙ left.joined;
     })
@@ -237,18 +229,18 @@ past-group text d list bs n met left end z l v x e k m n' next s j =
     let long : RECORD ≤ length bs = omega arith in
     go_on text d list bs n met left (first_ok text d bs) refl found.0 end
     (omega (arith, both-sum (head_at bs), first-written bs left.below long w, second-written bs left.below long w)) l
-    x.steps n' found.1 (omega arith) (omega (arith, left.within)) x.met next (subst (λ (y : code.Option Visited). MeetsNode y (first_node bs)) e m) j
+    x.steps n' found.1 (omega arith) (omega (arith, left.within)) next (subst (λ (y : code.Option Visited). MeetsNode y (first_node bs)) e m) j
 
 pub past-leaf : (text : List ℕ) (d : ℕ) (list bs : List ℕ) (n : ℕ) (met : Refusals) → Left text d list bs n met → (ok : Bool) → ok ≡ first_ok text d bs → ok ≡ true →
-    6 ≤ kind_at bs → RECORD ≤ length bs → (one next : Refusals) → refuses one ≡ leaf_refuses (overflows_at bs) →
-    refuses next ≡ after (refuses met) (refuses one) → Left text d list (take (length bs - RECORD) (drop RECORD bs)) (n + 1) next
+    6 ≤ kind_at bs → RECORD ≤ length bs → (next : Refusals) (over : Bool) → over ≡ overflows_at bs →
+    refuses next ≡ after (refuses met) (leaf_refuses over) → Left text d list (take (length bs - RECORD) (drop RECORD bs)) (n + 1) next
 unfolding count_node
-past-leaf text d list bs n met left ok o holds k l one next m j =
+past-leaf text d list bs n met left ok o holds k l next over m j =
     let x = (leaf-says bs (kind_at bs) refl k).0 in
     let leaf = (leaf-says bs (kind_at bs) refl k).1 in
     go_on text d list bs n met left ok o holds RECORD (ap (λ (h : Head). RECORD + RECORD * both h) leaf) l
     1 (n + 1) (ap (λ (h : Head). stored (node_of h (first_in bs) (second_in bs))) leaf) refl (omega (arith, left.few))
-    one next (m ∙ leaf-refuses bs x leaf ∙ ap (λ (h : Head). of_node (node_of h (first_in bs) (second_in bs))) leaf) j
+    next (ap leaf_refuses m ∙ leaf-refuses bs x leaf ∙ ap (λ (h : Head). of_node (node_of h (first_in bs) (second_in bs))) leaf) j
 
 -- A leaf has no lists.
 leaf-lists : (text : List ℕ) (d : ℕ) (r b : Bool) → r ≡ b → r ≡ (b && (formed text d [] && (formed text d [] && true)))
@@ -344,9 +336,6 @@ pub second-refused : {bs : List ℕ} {k n : ℕ} {q : Bool} → GroupRead bs k n
 second-refused {bs} {k} {n} {q} g f =
     ap (λ (b : Bool). b && multiplier bs) (refuted (same bs) λ w. second-is-not bs k n g.says q g.may f (g.count ∙ second-written bs g.below g.long w))
 
-pub multiplier-refused : (bs : List ℕ) (m : Bool) → m ≡ multiplier bs → m ≡ false → m ≡ (same bs && multiplier bs)
-multiplier-refused bs m e f = f ∙ and-false (same bs) (multiplier bs) (sym e ∙ f)
-
 -- A group and its lists.
 pub no-group : (text : List ℕ) (d : ℕ) (bs : List ℕ) → false ≡ first_ok text d bs → none ≡ first_count text d bs
 no-group text d bs e = ap (λ (b : Bool). pick b (some (stored (first_node bs))) none) e
@@ -371,11 +360,6 @@ pub group-told : (bs : List ℕ) → Below 256 bs → RECORD + RECORD * (field F
 group-told bs b l k =
     let says = group-says bs b (kind_at bs) refl k in
     record { below = b; long = omega arith; asks = says.asks; one = says.one; refuses = says.refuses; counts = says.counts }
-
-list-capped : (text : List ℕ) (d : ℕ) (bs : List ℕ) (n : ℕ) → some n ≡ formed_count text d bs → n ≤ CAP
-list-capped text d bs n e =
-    let z = (list-passed (formed text d bs) (cap (count (unpack bs))) n e).1 in
-    omega arith
 
 -- a group's lists and its count
 abbrev lists : List ℕ → ℕ → List ℕ → Bool
@@ -448,9 +432,6 @@ module _ {text : List ℕ} {d : ℕ} {bs : List ℕ} {n : ℕ} {a : Option ℕ} 
       (sym (list-refused (formed text (d - 1) (first_bytes (head_at bs) bs)) _ (sym fails ∙ first-told)))
       ∙ by-lists
 
-  pub first-capped : (k : ℕ) → a ≡ some k → k ≤ CAP
-  first-capped k e = list-capped text (d - 1) (first_bytes (head_at bs) bs) k (sym e ∙ first-told)
-
 -- The first list has k steps; the second, with n' records, was answered too.
 pub record SecondRead (text : List ℕ) (d : ℕ) (bs : List ℕ) (k : ℕ) (b : Option ℕ) : Type 0 where
   pub n : ℕ
@@ -508,9 +489,6 @@ module _ {text : List ℕ} {d : ℕ} {bs : List ℕ} {k : ℕ} {b : Option ℕ} 
       ap (λ (x : Bool). x && count_ok (head_at bs) (first_in bs) (second_in bs))
       (sym (list-refused (formed text (d - 1) (second_bytes (head_at bs) bs)) _ (sym fails ∙ second-told)))
       ∙ by-second
-
-  pub second-capped : (k' : ℕ) → b ≡ some k' → k' ≤ CAP
-  second-capped k' e = list-capped text (d - 1) (second_bytes (head_at bs) bs) k' (sym e ∙ second-told)
 
   -- the count as it is compared
   count-compared : (k' : ℕ) → b ≡ some k' → {kind number stored' whole : ℕ} → kind ≡ kind_at bs → number ≡ field NUMBER bs →

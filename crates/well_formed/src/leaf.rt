@@ -1,13 +1,11 @@
 // Nodes that are no group: the parts of the text that they name, and their numbers.
-ghost use Rattle.std.specs.Prelude.{◌≡◌, true, []};
-ghost use Rattle.std.proofs.Math.Option.{some};
-ghost use Rattle.notation.specs.Basics.{pick};
-ghost use Rattle.notation.specs.Grammar as grammar;
+ghost use Rattle.std.specs.Prelude.{◌≡◌, ◌+◌, []};
+ghost use Rattle.std.specs.Slice.{IsGetRangeResult};
 ghost use Rattle.notation.specs.Grammar.{at_end};
 ghost use Rattle.notation.specs.Numbers.{from_bits};
 ghost use Rattle.notation.specs.Tree as tree;
 ghost use Rattle.notation.specs.WellFormed as rule;
-ghost use Rattle.parse.specs.Meaning.{end_reading, forget};
+ghost use Rattle.parse.specs.Meaning.{end_reading};
 ghost use Rattle.record.specs.Meaning.{span, span_option, layers, rotation_leaf, move_leaf};
 
 use charsets::family_end;
@@ -23,23 +21,26 @@ pub fn multiplier_ok(bits: u32) -> bool
     bits != MIN
 }
 
+// The part of the text, if it stands inside.
+fn part(text: &[u8], p: Span) -> Option<&[u8]>
+    ensures { IsGetRangeResult text.now p.offset (p.offset + p.size) result }
+{
+    let from = p.offset as usize;
+    text.get(from..from + p.size as usize)
+}
+
 // Whether at least so many bytes stand there, all of them family characters. A character that the part cuts off is none.
 fn family_ok(text: &[u8], p: Span, least: usize) -> bool
     ensures { result ≡ rule.family_ok text.now least (span p) }
 {
-    let from = p.offset as usize;
-    let size = p.size as usize;
-    let to = from + size;
-    if text.len() < to {
-        return false;
+    match part(text, p) {
+        Some(name) => least <= name.len() && family_end(name, 0) == name.len(),
+        None => false,
     }
-    if size < least {
-        return false;
-    }
-    family_end(&text[from..to], 0) == size
 }
 
 // Whether what was read of a part is the whole of it.
+#[tactic(auto, using(crate::proofs::Tests::to_end_test))]
 fn to_end(part: &[u8], taken: Option<usize>) -> bool
     ensures { result ≡ rule.is_some (at_end (end_reading part.now taken)) }
 {
@@ -49,40 +50,16 @@ fn to_end(part: &[u8], taken: Option<usize>) -> bool
     }
 }
 
-// Where the set of layers, or else of constraints, ends that the part begins with.
-fn set_end(part: &[u8], layers: bool) -> Option<usize>
-    ensures { end_reading part.now result
-        ≡ pick layers (forget (grammar.layer_set_elements true 0 part.now))
-        (forget (grammar.constraint_set 0 part.now)) }
-{
-    if layers {
-        layer_set(part, 0, true)
-    } else {
-        constraint_set(part, 0)
-    }
-}
-
-// Whether the part stands inside the text and is such a set.
-fn set_ok(text: &[u8], p: Span, layers: bool) -> bool
-    ensures { result
-        ≡ pick layers (rule.layers_ok text.now (tree.layer_set (span p)))
-        (rule.constraints_ok text.now (some (span p))) }
-{
-    let from = p.offset as usize;
-    let to = from + p.size as usize;
-    if text.len() < to {
-        return false;
-    }
-    let part = &text[from..to];
-    to_end(part, set_end(part, layers))
-}
-
-// Whether constraints, where there are any, are such a set.
+// Whether constraints, where there are any, are a set of constraints.
+#[tactic(auto, using(crate::proofs::Tests::part_test), unfolding(notation::specs::Meaning::constraints_in))]
 fn constraints_ok(text: &[u8], constraints: Option<Span>) -> bool
     ensures { result ≡ rule.constraints_ok text.now (span_option constraints) }
 {
     match constraints {
-        Some(p) => set_ok(text, p, false),
+        Some(p) => match part(text, p) {
+            Some(set) => to_end(set, constraint_set(set, 0)),
+            None => false,
+        },
         None => true,
     }
 }
@@ -94,6 +71,17 @@ fn range_ok(low: u16, high: u16) -> bool
     1 <= low && low <= high && high <= MAX_LAYER
 }
 
+// Whether a part of the text is a set of layers.
+#[tactic(auto, using(crate::proofs::Tests::part_test), unfolding(notation::specs::Meaning::layer_set_in))]
+fn layer_set_ok(text: &[u8], p: Span) -> bool
+    ensures { result ≡ rule.layers_ok text.now (tree.layer_set (span p)) }
+{
+    match part(text, p) {
+        Some(set) => to_end(set, layer_set(set, 0, true)),
+        None => false,
+    }
+}
+
 // Whether the layers of a move are in bounds.
 fn layers_ok(text: &[u8], l: LayerPrefixContents) -> bool
     ensures { result ≡ rule.layers_ok text.now (layers l) }
@@ -102,11 +90,12 @@ fn layers_ok(text: &[u8], l: LayerPrefixContents) -> bool
         LayerPrefixContents::None => true,
         LayerPrefixContents::Single(i) => range_ok(i, i),
         LayerPrefixContents::Range(i, j) => range_ok(i, j),
-        LayerPrefixContents::Set(p) => set_ok(text, p, true),
+        LayerPrefixContents::Set(p) => layer_set_ok(text, p),
     }
 }
 
 // Whether what a rotation names is in bounds.
+#[tactic(auto, unfolding(notation::specs::WellFormed::leaf_ok))]
 pub fn rotation_ok(text: &[u8], x: Rotation) -> bool
     ensures { result ≡ rule.leaf_ok text.now (rotation_leaf x) }
 {
@@ -116,6 +105,7 @@ pub fn rotation_ok(text: &[u8], x: Rotation) -> bool
 }
 
 // Whether what a move names is in bounds.
+#[tactic(auto, unfolding(notation::specs::WellFormed::leaf_ok))]
 pub fn move_ok(text: &[u8], x: Move) -> bool
     ensures { result ≡ rule.leaf_ok text.now (move_leaf x) }
 {

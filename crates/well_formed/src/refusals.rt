@@ -26,20 +26,6 @@ pub const NONE: Refusals = Refusals {
     backward: None,
 };
 
-// The refusals of a leaf: only one that overflows causes any, and only where it is to be undone.
-pub fn of_leaf(overflows: bool) -> Refusals
-    ensures { refuses result ≡ leaf_refuses overflows }
-{
-    Refusals {
-        forward: None,
-        backward: if overflows {
-            Some(Refusal::Overflow)
-        } else {
-            None
-        },
-    }
-}
-
 // The refusals of one list after another: backward, the second comes first.
 pub fn join(a: Refusals, b: Refusals) -> Refusals
     ensures { refuses result ≡ (λ (d : Bool). unrolling.first_in_order d (refuses a d) (refuses b d)) }
@@ -47,6 +33,21 @@ pub fn join(a: Refusals, b: Refusals) -> Refusals
     Refusals {
         forward: a.forward.or(b.forward),
         backward: b.backward.or(a.backward),
+    }
+}
+
+// The refusals of a list and then a leaf: only a leaf that overflows causes any, and only where it is to be undone.
+pub fn join_leaf(a: Refusals, overflows: bool) -> Refusals
+    ensures { refuses result
+        ≡ (λ (d : Bool). unrolling.first_in_order d (refuses a d) (leaf_refuses overflows d)) }
+{
+    Refusals {
+        forward: a.forward,
+        backward: if overflows {
+            Some(Refusal::Overflow)
+        } else {
+            a.backward
+        },
     }
 }
 

@@ -9,12 +9,11 @@ ghost use Rattle.notation.specs.WellFormed.{multiplier_ok};
 ghost use Rattle.record.specs.Meaning.{field, kind_at, FIRST, SECOND, NUMBER};
 ghost use Rattle.record.specs.Kinds.{kind_number};
 ghost use Rattle.record.specs.Undone.{overflows_at};
-ghost use Rattle.well_formed.specs.Refusing.{refuses, leaf_refuses};
 ghost use Rattle.well_formed.specs.Formed.{well_formed_steps, formed_count, first_node, first_ok, first_count};
 ghost use Rattle.well_formed.specs.Meaning.{step_count, Meets, MeetsNode};
 
 use crate::leaf::{move_ok, multiplier_ok, rotation_ok};
-use crate::refusals::{NONE, Refusals, join, of_group, of_leaf};
+use crate::refusals::{NONE, Refusals, join, join_leaf, of_group};
 use counts::{cap, sum};
 use notation::limits::MAX_NESTING;
 use record::decode::{layered_move, rotation};
@@ -32,6 +31,7 @@ pub struct Visited {
 }
 
 // How many steps a well-formed tree has, and what unrolling it meets.
+#[tactic(auto, unfolding(notation::specs::WellFormed::well_formed, crate::specs::Formed::formed))]
 pub fn visit(text: &[u8], tree: &[u8]) -> Option<Visited>
     ensures result_value { step_count result ≡ well_formed_steps text.now tree.now }
     ensures meets { Meets result (unpack tree.now) }
@@ -65,9 +65,9 @@ fn visit_list(text: &[u8], list: &[u8], depth: usize) -> Option<Visited>
             met = join(met, group.met);
             t = &t[end..];
         } else {
-            let leaf = visit_leaf(text, t)?;
+            let overflows = visit_leaf(text, t)?;
             count += LEAF;
-            met = join(met, leaf);
+            met = join_leaf(met, overflows);
             t = &t[RECORD..];
         }
     }
@@ -119,10 +119,7 @@ fn visit_group(text: &[u8], t: &[u8], depth: usize) -> Option<Visited>
 fn compared(stored: u64, steps: u64, met: Refusals) -> Option<Visited>
     ensures { result ≡ pick (eqb stored steps) (Some (record { steps = steps; met = met })) None }
 {
-    if stored == steps {
-        return Some(Visited { steps, met });
-    }
-    None
+    (stored == steps).then_some(Visited { steps, met })
 }
 
 // Whether the first record, that of a group, is what packing writes of a group with that step count, and its multiplier
@@ -155,13 +152,13 @@ fn second_ok(kind: Kind, second: u32) -> bool
     kind.is_binary() || second == 0
 }
 
-// What unrolling the first node meets, which is no group: none where it is not what packing writes or not in bounds. Packing
+// Whether the first node, which is no group, overflows: none where it is not what packing writes or not in bounds. Packing
 // counts a leaf 1.
-fn visit_leaf(text: &[u8], t: &[u8]) -> Option<Refusals>
+fn visit_leaf(text: &[u8], t: &[u8]) -> Option<bool>
     requires in_bounds { RECORD ≤ length t.now }
     requires bound { 6 ≤ kind_at t.now }
     ensures by_index { (depth : ℕ) → is_some result ≡ first_ok text.now depth t.now }
-    ensures overflow { IfSome result (λ met. refuses met ≡ leaf_refuses (overflows_at t.now)) }
+    ensures overflow { IfSome result (λ over. over ≡ overflows_at t.now) }
 {
     if !fields::counts_one(t) {
         return None;
@@ -169,10 +166,13 @@ fn visit_leaf(text: &[u8], t: &[u8]) -> Option<Refusals>
     if !leaf_written(t) {
         return None;
     }
-    match fields::kind(t) {
-        Kind::Move => move_ok(text, layered_move(t)).then_some(NONE),
-        Kind::Rotation => rotation_ok(text, rotation(t)).then_some(NONE),
-        Kind::Pair => Some(of_leaf(overflows(t))),
-        _ => Some(NONE),
+    // Compared one by one: after `leaf_written` the compiler then sees which leaves are neither, which a `match` hides from it.
+    let kind = fields::kind(t);
+    if kind == Kind::Move {
+        return move_ok(text, layered_move(t)).then_some(false);
     }
+    if kind == Kind::Rotation {
+        return rotation_ok(text, rotation(t)).then_some(false);
+    }
+    Some(overflows(t))
 }

@@ -4,15 +4,13 @@ use mathlib.Core.Path.{refl, sym, ap, subst, ◌∙◌}
 use mathlib.Core.Bool.{true, false}
 use mathlib.Core.Option.{some}
 use native.Mathlib.Omega.{arith}
-use borrow.Author.Rules.{rules}
 use lib.ListN.{length}
-use Rattle.notation.specs.Packed.{RECORD}
 use Rattle.well_formed.specs.Meaning.{step_count as answer}
 use Rattle.well_formed.proofs.Refusing.{none-met}
 use Rattle.numbers.proofs.BigEndian.{slice-below}
-use Rattle.well_formed.proofs.Turns.{GroupTold, group-told, counted, too_short, too_long, bad-node, no_more, all-met, refused, at_first, shorter, past-group, past-leaf, group-not, group-capped, sum_room, no-group, no-level, group-refused, group-meets, FirstRead, first-refused, first-capped, first-met, none-second, SecondRead, no_second, second-list-refused, second-capped, second-met, group-found}
+use Rattle.well_formed.proofs.Turns.{GroupTold, group-told, counted, too_short, too_long, bad-node, no_more, all-met, refused, past-group, past-leaf, group-not, group-capped, sum_room, no-group, no-level, group-refused, group-meets, FirstRead, first-refused, first-met, none-second, SecondRead, no_second, second-list-refused, second-met, group-found}
 use Rattle.record.specs.Meaning.{kind_at}
-use Rattle.record.proofs.KindTests.{group-low, no-group-high, single}
+use Rattle.record.proofs.KindTests.{no-group-high, single}
 use Rattle.well_formed.proofs.walk.+visit_group_visit_list.Goals as goal
 use Rattle.well_formed.proofs.walk.+visit_group_visit_list.Goals.{visit_group-After-shared_slice_known-2-1, visit_group-After-visit_list, visit_group-After-visit_list-2, visit_group-In_ok-a}
 
@@ -93,11 +91,6 @@ visit_group-returns-then-depth-eq0 t c =
     let a = c.args in
     record { result_value = no-group a.text.now a.depth a.t.now (no-level a.text.now a.depth a.t.now (told (goal.at.visit_group-returns-then-depth-eq0 t c).After-shared_slice_known-2-1) c.if-depth-eq0.true); meets_node = tt }
 
-pub visit_group-of_group-requires : goal.visit_group-of_group-requires
-visit_group-of_group-requires t c =
-    let most = first-capped (one-is (goal.at.visit_group-of_group-requires t c).In_ok-a) _ refl in
-    (omega arith, omega arith)
-
 pub visit_group-returns-then-not-is_binary : goal.visit_group-returns-then-not-is_binary
 visit_group-returns-then-not-is_binary t c =
     let a = c.args in
@@ -110,16 +103,6 @@ visit_group-returns-then-not-is_binary t c =
     (group-meets a.text.now a.depth a.t.now one.told c.of_group-then-not-is_binary.result in-a none-met c.kind-kind.ensures refl met (none-second one low) c.of_group-then-not-is_binary.ensures)
     c.compared.ensures in
     record { result_value = found.0; meets_node = found.1 }
-
-pub visit_group-of_group-requires-2 : goal.visit_group-of_group-requires-2
-visit_group-of_group-requires-2 t c =
-    let lists = two (goal.at.visit_group-of_group-requires-2 t c).After-visit_list-2 in
-    let most = first-capped lists.one _ refl in
-    let most' = second-capped lists c.in_ok-b.b.steps (ap answer c.in_ok-b.was) in
-    (omega arith, omega arith)
-
-pub visit_group-of_group-requires-3 : goal.visit_group-of_group-requires-3
-visit_group-of_group-requires-3 t c = (two (goal.at.visit_group-of_group-requires-3 t c).After-visit_list-2).one.told.long
 
 pub visit_group-returns : goal.visit_group-returns
 unfolding two
@@ -145,10 +128,6 @@ visit_group-returns-then-not-group_record_ok t c =
       meets_node = tt;
     }
 
-pub visit_list-loop-t-init : goal.visit_list-loop-t-init
-visit_list-loop-t-init t c =
-    at_first _ _ _ (slice-below _ c.type_inv.list)
-
 pub visit_list-returns-then-t-lt-RECORD : goal.visit_list-returns-then-t-lt-RECORD
 visit_list-returns-then-t-lt-RECORD t c =
     let a = c.args in
@@ -168,18 +147,10 @@ visit_list-returns-then-t-end t c =
       meets = tt;
     }
 
-pub visit_list-visit_group-requires : goal.visit_list-visit_group-requires
-visit_list-visit_group-requires t c =
-    search (rules, group-low {kind = kind_at c.loop-t.t.now} c.is_group.ensures c.if-is_group.true)
-
 pub visit_list-sum-count-requires : goal.visit_list-sum-count-requires
 visit_list-sum-count-requires t c =
     let a = c.args in
     sum_room c.loop-t.count (length c.loop-t.t.now) (length a.list.now) c.in_ok-group.group.steps c.loop-t.invariant.few c.well_formed.1.0.1 (group-capped a.text.now a.depth c.loop-t.t.now c.in_ok-group.was c.visit_group.ensures.result_value)
-
-pub visit_list-loop-t-smaller-then-is_group : goal.visit_list-loop-t-smaller-then-is_group
-visit_list-loop-t-smaller-then-is_group t c =
-    shorter c.loop-t.t.now _ (omega arith) c.if-t-end.false
 
 pub visit_list-loop-t-preserved-then-is_group : goal.visit_list-loop-t-preserved-then-is_group
 visit_list-loop-t-preserved-then-is_group t c =
@@ -189,27 +160,19 @@ visit_list-loop-t-preserved-then-is_group t c =
     c.visit_group.result _ c.in_ok-group.was c.visit_group.ensures.result_value c.visit_group.ensures.meets_node
     c.sum-count.result c.join-met.result c.sum-count.ensures c.join-met.ensures
 
-pub visit_list-visit_leaf-requires : goal.visit_list-visit_leaf-requires
-visit_list-visit_leaf-requires t c =
-    search (rules, no-group-high {kind = kind_at c.loop-t.t.now} c.is_group.ensures c.if-is_group.false)
-
-pub visit_list-loop-t-smaller : goal.visit_list-loop-t-smaller
-visit_list-loop-t-smaller t c =
-    shorter c.loop-t.t.now RECORD (omega arith) c.if-t-lt-RECORD.false
-
 pub visit_list-loop-t-preserved : goal.visit_list-loop-t-preserved
 visit_list-loop-t-preserved t c =
     let a = c.args in
-    past-leaf a.text.now a.depth a.list.now c.loop-t.t.now _ _ c.loop-t.invariant true (c.in_ok-leaf.ensures.by_index a.depth) refl
+    past-leaf a.text.now a.depth a.list.now c.loop-t.t.now _ _ c.loop-t.invariant true (c.in_ok-overflows.ensures.by_index a.depth) refl
     (no-group-high c.is_group.ensures c.if-is_group.false) c.if-t-lt-RECORD.false
-    c.in_ok-leaf.leaf c.join-met-else-is_group.result c.in_ok-leaf.ensures.overflow c.join-met-else-is_group.ensures
+    c.join_leaf-met.result c.in_ok-overflows.overflows c.in_ok-overflows.ensures.overflow c.join_leaf-met.ensures
 
-pub visit_list-returns-in_err-leaf : goal.visit_list-returns-in_err-leaf
-visit_list-returns-in_err-leaf t c =
+pub visit_list-returns-in_err-overflows : goal.visit_list-returns-in_err-overflows
+visit_list-returns-in_err-overflows t c =
     let a = c.args in
-    rw c.from_residual-in_err-leaf.ensures (record {
+    rw c.from_residual-in_err-overflows.ensures (record {
       result_value = refused a.text.now a.depth a.list.now c.loop-t.t.now _ _ c.loop-t.invariant
-          (bad-node a.text.now a.depth c.loop-t.t.now c.loop-t.invariant.below c.loop-t-test.true false (c.in_err-leaf.ensures.by_index a.depth) refl);
+          (bad-node a.text.now a.depth c.loop-t.t.now c.loop-t.invariant.below c.loop-t-test.true false (c.in_err-overflows.ensures.by_index a.depth) refl);
       meets = tt;
     })
 

@@ -4,7 +4,7 @@ use Prim.Native.Nat.{ℕ, ◌<◌}
 use Rattle.record.specs.Kinds.{kind_number}
 use Rattle.numbers.proofs.BigEndian.{slice-below}
 use Rattle.well_formed.proofs.Heads.{group-says}
-use Rattle.well_formed.proofs.Turns.{GroupRead, group-written, multiplier-read, multiplier-refused, second-refused}
+use Rattle.well_formed.proofs.Turns.{GroupRead, group-written, multiplier-read, second-refused}
 use Rattle.well_formed.proofs.walk.group_record_ok.Goals as goal
 use Rattle.well_formed.proofs.walk.group_record_ok.Goals.{After-second_ok}
 
@@ -26,11 +26,6 @@ returns-then-multiplier_ok c =
     group-written (told (goal.at.returns-then-multiplier_ok c).After-second_ok) c.if-not-second_ok.false
     c.multiplier_ok.result (multiplier-read bs c.number-number.result c.multiplier_ok.result c.number-number.ensures c.multiplier_ok.ensures) c.if-multiplier_ok.true
     c.same_fields.result c.first.ensures c.number-number.ensures c.count.ensures c.without_parts.ensures c.fields_at.ensures c.same_fields.ensures
-
-pub returns-else-multiplier_ok : goal.returns-else-multiplier_ok
-returns-else-multiplier_ok c =
-    let bs = c.args.t.now in
-    multiplier-refused bs c.multiplier_ok.result (multiplier-read bs c.number-number.result c.multiplier_ok.result c.number-number.ensures c.multiplier_ok.ensures) c.if-multiplier_ok.false
 
 pub returns-then-not-second_ok : goal.returns-then-not-second_ok
 returns-then-not-second_ok c = second-refused (told (goal.at.returns-then-not-second_ok c).After-second_ok) c.if-not-second_ok.true
