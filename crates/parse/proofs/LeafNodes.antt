@@ -84,10 +84,6 @@ leaf-of rejected fs next t l e = let z : ◌≡◌ {A = ℕ} 0 1 = cc in absurd 
 leaf-of (read (leaf x) a u) fs next t l e = (x, cc, cc)
 leaf-of (read (block b m) a u) fs next t (one l) e = absurd l
 
-no-leaf-of : (r : Reading (Node Leaf)) → rejected ≡ and_then r (λ n. done (node_fields n)) → r ≡ rejected
-no-leaf-of rejected e = refl
-no-leaf-of (read n a u) e = let z : ◌≡◌ {A = ℕ} 0 1 = cc in absurd (omega arith)
-
 -- What `leaf_node` returns.
 module _ (f : Features) (text : List ℕ) (at slot : ℕ) (old : List ℕ) where
   pub leaf-read : (tally : ℕ) (fs : List ℕ) (next : ℕ) → read fs next (drop next text) ≡ and_then (node f fail at (drop at text)) (λ n. done (node_fields n)) →
