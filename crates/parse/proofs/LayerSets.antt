@@ -6,14 +6,14 @@ use mathlib.Core.List.{List}
 use native.Mathlib.Omega.{arith}
 use borrow.Author.Tests.{eqb-true}
 use lib.Dec.{eqb}
-use lib.IntN.{ℤ, pos, neg_ℤ}
+use lib.IntN.{ℤ, pos}
 use lib.ListN.{length, drop}
 use lib.Seq.{drop-cons}
 use Rattle.notation.specs.Numbers.{from_bits, digit_run}
 use Rattle.notation.specs.Utf8.{byte_at}
 use Rattle.notation.specs.Layers.{LayerSetElement, single, range}
 use Rattle.notation.specs.Tree.{Layers, Span, span, layer_set, layer_range, single_layer, no_layers}
-use Rattle.notation.specs.Grammar.{Reading, rejected, read, and_then, or_else, done, just, word, uint, sint, layer, signed_layer, layer_set_element, layer_set_elements, layer_prefix_contents}
+use Rattle.notation.specs.Grammar.{Reading, rejected, read, and_then, or_else, done, just, word, uint, layer, signed_layer, layer_set_element, layer_set_elements, layer_prefix_contents}
 use Rattle.notation.specs.declared.features.Features.{Features}
 use Rattle.charsets.proofs.Texts.{in-text}
 use Rattle.numbers.proofs.Bounds.{number, hyphen, sint_plain, not-negated}
@@ -21,15 +21,6 @@ use Rattle.parse.specs.Meaning.{forget, layer_end, layer_after_dots, layer_after
 use Rattle.parse.proofs.Bytes.{seen, just-not}
 use Rattle.parse.proofs.InBraces.{no-brace, layer-set-ends}
 use Rattle.parse.proofs.Readings.{never, assoc, steps, or-none, took, gone}
-
--- a number that is rejected with a sign is rejected without one
-pub unsigned-none : (low high high-negative at : ℕ) (s : List ℕ) → rejected ≡ sint low high high-negative at s → uint low high at s ≡ rejected
-unsigned-none low high high-negative at s e = go (and_then (just "-" at s) (λ _ at s. and_then (uint low high-negative at s) (λ n. done (neg_ℤ (pos n))))) (uint low high at s) refl e
-  where
-    go : (r : Reading ℤ) (u : Reading ℕ) → uint low high at s ≡ u → rejected ≡ or_else r (λ at s. and_then (uint low high at s) (λ n. done (pos n))) at s → uint low high at s ≡ rejected
-    go rejected rejected w q = w
-    go rejected (read n i t) w q = never (rw w at q)
-    go (read z i t) u w q = never q
 
 -- a `-` after a layer and one more layer
 pub after-hyphen : (at : ℕ) (s : List ℕ) (v e : ℕ) (t : List ℕ) → read v e t ≡ layer_after_hyphen at s → v ≤ 32767
