@@ -6,30 +6,21 @@ use mathlib.Core.List.{List}
 use native.Mathlib.Omega.{arith}
 use borrow.Author.Tests.{eqb-true}
 use lib.Dec.{eqb}
-use lib.IntN.{ℤ, pos, neg_ℤ}
+use lib.IntN.{ℤ, pos}
 use lib.ListN.{length, drop}
 use lib.Seq.{drop-cons}
 use Rattle.notation.specs.Numbers.{from_bits, digit_run}
 use Rattle.notation.specs.Utf8.{byte_at}
 use Rattle.notation.specs.Layers.{LayerSetElement, single, range}
 use Rattle.notation.specs.Tree.{Layers, Span, span, layer_set, layer_range, single_layer, no_layers}
-use Rattle.notation.specs.Grammar.{Reading, rejected, read, and_then, or_else, done, just, word, uint, sint, layer, signed_layer, layer_set_element, layer_set_elements, layer_prefix_contents}
+use Rattle.notation.specs.Grammar.{Reading, rejected, read, and_then, or_else, done, just, word, uint, layer, signed_layer, layer_set_element, layer_set_elements, layer_prefix_contents}
 use Rattle.notation.specs.declared.features.Features.{Features}
 use Rattle.charsets.proofs.Texts.{in-text}
 use Rattle.numbers.proofs.Bounds.{number, hyphen, sint_plain, not-negated}
 use Rattle.parse.specs.Meaning.{forget, layer_end, layer_after_dots, layer_after_hyphen, unsigned_or_single, numbered_layers}
 use Rattle.parse.proofs.Bytes.{seen, just-not}
 use Rattle.parse.proofs.InBraces.{no-brace, layer-set-ends}
-use Rattle.parse.proofs.Readings.{never, assoc, steps, or-none, when-none, took, gone}
-
--- a number that is rejected with a sign is rejected without one
-pub unsigned-none : (low high high-negative at : ℕ) (s : List ℕ) → rejected ≡ sint low high high-negative at s → uint low high at s ≡ rejected
-unsigned-none low high high-negative at s e = go (and_then (just "-" at s) (λ _ at s. and_then (uint low high-negative at s) (λ n. done (neg_ℤ (pos n))))) (uint low high at s) refl e
-  where
-    go : (r : Reading ℤ) (u : Reading ℕ) → uint low high at s ≡ u → rejected ≡ or_else r (λ at s. and_then (uint low high at s) (λ n. done (pos n))) at s → uint low high at s ≡ rejected
-    go rejected rejected w q = w
-    go rejected (read n i t) w q = never (rw w at q)
-    go (read z i t) u w q = never q
+use Rattle.parse.proofs.Readings.{never, assoc, steps, or-none, took, gone}
 
 -- a `-` after a layer and one more layer
 pub after-hyphen : (at : ℕ) (s : List ℕ) (v e : ℕ) (t : List ℕ) → read v e t ≡ layer_after_hyphen at s → v ≤ 32767
@@ -102,15 +93,6 @@ module _ (text : List ℕ) (at bits end : ℕ) (first : read (from_bits 32 bits)
   pub no-range : rejected ≡ layer_after_dots end (drop end text) → read (single (from_bits 32 bits)) end (drop end text) ≡ layer_set_element false at (drop at text)
   no-range q = sym (or-none _ _ at (drop at text) (none q) ∙ alone rejected refl)
 
-pub no-element : (hsc1 : Bool) (at : ℕ) (s : List ℕ) → rejected ≡ signed_layer at s → rejected ≡ layer_set_element hsc1 at s
-no-element hsc1 at s e =
-    sym
-    (or-none _ _ at s (ap (λ (z : Reading ℤ). and_then z (λ i at s. and_then (word ".." at s) (λ _ at s. and_then (signed_layer at s) (λ j. done (range i j))))) (sym e))
-    ∙ or-none _ _ at s
-    (when-none hsc1 (λ at s. and_then (layer at s) (λ i at s. and_then (just "-" at s) (λ _ at s. and_then (layer at s) (λ j. done (range (pos i) (pos j)))))) at s
-    (ap (λ (r : Reading ℕ). and_then r (λ i at s. and_then (just "-" at s) (λ _ at s. and_then (layer at s) (λ j. done (range (pos i) (pos j)))))) (unsigned-none 1 32767 32767 at s e)))
-    ∙ ap (λ (z : Reading ℤ). and_then z (λ i. done (single i))) (sym e))
-
 -- Layers before a family, without a set.
 module _ (at : ℕ) (s : List ℕ) where
   pub no-layers : rejected ≡ layer at s → read no_layers at s ≡ numbered_layers at s
@@ -122,18 +104,6 @@ module _ (at : ℕ) (s : List ℕ) where
 
     pub two-layers : (j next : ℕ) (t : List ℕ) → read j next t ≡ layer_after_hyphen end rest → read (layer_range (min i j) (max i j)) next t ≡ numbered_layers at s
     two-layers j next t q = simp (sym e, assoc {C = Layers Span} (just "-" end rest) (λ _. layer) (λ j. done (layer_range (min i j) (max i j))), sym q)
-
-    pub upward : (j next : ℕ) (t : List ℕ) → i < j → read j next t ≡ layer_after_hyphen end rest → read (layer_range i j) next t ≡ numbered_layers at s
-    upward j next t h q =
-        let low : min i j ≡ i = omega arith in
-        let high : max i j ≡ j = omega arith in
-        rw (low, high) at (two-layers j next t q)
-
-    pub downward : (j next : ℕ) (t : List ℕ) → j ≤ i → read j next t ≡ layer_after_hyphen end rest → read (layer_range j i) next t ≡ numbered_layers at s
-    downward j next t h q =
-        let low : min i j ≡ j = omega arith in
-        let high : max i j ≡ i = omega arith in
-        rw (low, high) at (two-layers j next t q)
 
 -- and with one
 module _ (f : Features) (text : List ℕ) (at : ℕ) where

@@ -13,8 +13,8 @@ use Rattle.notation.specs.Grammar.{Reading, rejected, read, Reader, done, fail, 
 use Rattle.notation.specs.declared.features.Features.{Features}
 use Rattle.tally.specs.Tallies.{tally_node}
 use Rattle.parse.specs.Meaning.{node_fields}
-use Rattle.parse.specs.Nodes.{put, NodeRead, NoNode}
-use Rattle.parse.proofs.Buffers.{kept-all, put-wrote}
+use Rattle.parse.specs.Nodes.{put, NodeRead}
+use Rattle.parse.proofs.Buffers.{put-wrote}
 
 abbrev IsLeaf : Node Leaf → Type 0
 IsLeaf (leaf x) = Unit {0}
@@ -84,15 +84,8 @@ leaf-of rejected fs next t l e = let z : ◌≡◌ {A = ℕ} 0 1 = cc in absurd 
 leaf-of (read (leaf x) a u) fs next t l e = (x, cc, cc)
 leaf-of (read (block b m) a u) fs next t (one l) e = absurd l
 
-no-leaf-of : (r : Reading (Node Leaf)) → rejected ≡ and_then r (λ n. done (node_fields n)) → r ≡ rejected
-no-leaf-of rejected e = refl
-no-leaf-of (read n a u) e = let z : ◌≡◌ {A = ℕ} 0 1 = cc in absurd (omega arith)
-
 -- What `leaf_node` returns.
 module _ (f : Features) (text : List ℕ) (at slot : ℕ) (old : List ℕ) where
-  pub leaf-rejected : rejected ≡ and_then (node f fail at (drop at text)) (λ n. done (node_fields n)) → NoNode (λ _. node f fail) text at slot old old
-  leaf-rejected e = record { rejects = λ k h. no-leaf-of (node f fail at (drop at text)) e; kept = kept-all (RECORD * slot) old }
-
   pub leaf-read : (tally : ℕ) (fs : List ℕ) (next : ℕ) → read fs next (drop next text) ≡ and_then (node f fail at (drop at text)) (λ n. done (node_fields n)) →
       at < next → next ≤ length text →
       NodeRead (λ _. node f fail) text at slot tally old (put (RECORD * slot) (lay_out widths (set fs COUNT (tally % 256))) old) next (slot + 1)

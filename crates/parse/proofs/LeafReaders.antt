@@ -273,9 +273,6 @@ module _ (text : List ℕ) (at : ℕ) where
 
 -- A rule with white space around it.
 module _ {A : Type 0} (p : Reader A) (text : List ℕ) (at from : ℕ) (space : from ≡ at + run white_space (drop at text)) where
-  pub padded-none : rejected ≡ p from (drop from text) → rejected ≡ padded p at (drop at text)
-  padded-none q = rw (drop-drop (run white_space (drop at text)) at text, ← space, ← q)
-
   pub padded-some : (a : A) (end last : ℕ) → read a end (drop end text) ≡ p from (drop from text) → last ≡ end + run white_space (drop end text) →
       read a last (drop last text) ≡ padded p at (drop at text)
   padded-some a end last q e =
@@ -286,9 +283,6 @@ abbrev comma : ℤ → Reader (List ℕ)
 comma u at s = and_then (just "," at s) (λ _ at s. and_then (padded i32 at s) (λ d at s. and_then (just ")" at s) (λ _. done (leaf_fields (tree.pair u d)))))
 
 module _ (text : List ℕ) (at : ℕ) where
-  pub no-u : rejected ≡ padded i32 at (drop at text) → rejected ≡ pair_after at (drop at text)
-  no-u e = ap (λ (r : Reading ℤ). and_then r comma) e
-
   module _ (u : ℤ) (next : ℕ) (e : read u next (drop next text) ≡ padded i32 at (drop at text)) where
     after-u : {x : Reading (List ℕ)} → x ≡ comma u next (drop next text) → x ≡ pair_after at (drop at text)
     after-u q = q ∙ ap (λ (r : Reading ℤ). and_then r comma) e

@@ -76,9 +76,6 @@ pub record Blocks (text t : List ℕ) (opened closed : ℕ) : Type 0 where
   pub few : (opened + length t ≤ length text) × (closed + length t ≤ length text)
   pub same : nesting_ok opened closed t ≡ nesting_ok 0 0 text
 
-pub blocks_start : (text : List ℕ) → Blocks text text 0 0
-blocks_start text = record { few = (omega arith, omega arith); same = refl }
-
 module _ (text t : List ℕ) (opened closed : ℕ) (b : Blocks text t opened closed) where
   pub blocks-on : (block rest : List ℕ) → (block ≡ take 32 t) × (rest ≡ drop 32 t) × (length rest + 32 ≡ length t) →
       (more less : ℕ) → more ≡ count_by (λ b. eqb b 40 || eqb b 91) block → less ≡ count_by (λ b. eqb b 41 || eqb b 93) block →
@@ -110,9 +107,6 @@ pub record Scanned (text : List ℕ) (opened closed at : ℕ) : Type 0 where
   pub few : (opened ≤ at) × (closed ≤ at)
   pub allowed : opened ≤ closed + 64
   pub same : nesting_ok opened closed (drop at text) ≡ nesting_ok 0 0 text
-
-pub scan-start : (text : List ℕ) → Scanned text 0 0 0
-scan-start text = record { inside = omega arith; few = (omega arith, omega arith); allowed = omega arith; same = refl }
 
 module _ (text : List ℕ) (opened closed at : ℕ) (s : Scanned text opened closed at) where
   pub scan-end : length text ≤ at → true ≡ nesting_ok 0 0 text
