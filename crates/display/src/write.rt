@@ -85,7 +85,7 @@ impl<'a> Printer<'a> {
     }
 
     // Puts a number whose digits are found from the last one on. To call itself for the digits before the last one takes
-    // twice as many instructions.
+    // more instructions.
     fn put_long_number(self, n: u32) -> Printer<'a>
         ensures { Wrote self.entry result (show n) }
     {

@@ -1,8 +1,8 @@
 -- Every rule of document 01, in its order, and of the requests of document 02 that have landed. Nothing else in the repository
 -- has to be believed, but what a value of a crate's own type stands for where a public contract names one:
 -- hypuz_notation/specs/Agreement (the answers of `agree`), entries/specs/Parts (`family_part`), layer/specs/Meaning (`range`, of
--- `ranges::simplify`), reader/specs/Cursor with parse/specs/Meaning and record/specs/Meaning (`Reader` and `first_leaf`),
--- listing/specs/Listing (`list_whole`). The programs `lister` and `vectors` rest on five axioms of the kit, what std assumes of
+-- `ranges::simplify`), reader/specs/Cursor with parsed/specs/Reading, parse/specs/Meaning and record/specs/Meaning (`Reader` and
+-- `first_leaf`), listing/specs/Listing (`list_whole`). The programs `lister` and `vectors` rest on five axioms of the kit, what std assumes of
 -- libc's `read`, `write` and `lseek` and of the two functions that name an error, and nothing is proved of what they read and
 -- write: the lister hands its input to `list_whole` and writes what that gives.
 pub mod Basics
