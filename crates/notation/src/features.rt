@@ -93,7 +93,7 @@ pub fn maximal() -> Features
     Features::MAXIMAL
 }
 
-// The features that the low eight bits name; higher bits are ignored.
+// The features that the low eight bits name; higher bits are ignored, so that every number that C hands over names features.
 pub fn from_bits(bits: u32) -> Features
     ensures { result ≡ rule.of_bits bits }
 {

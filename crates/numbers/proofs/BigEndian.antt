@@ -8,7 +8,7 @@ use lib.ListN.{length-take}
 use Rattle.std.specs.Int.{byte_at, bytes_high_first}
 use lib.Seq.{sets}
 use Rattle.notation.specs.Numbers.{positional, digits, from_big_endian, big_endian}
-use Rattle.numbers.proofs.Positional.{Below, below-nil, below-take, below-drop, length_digits, digits-below, digits_append, digits-positional, positional-lt, positional-from, positional-append, positional-digits}
+use Rattle.numbers.proofs.Positional.{Below, below-nil, below-take, below-drop, length_digits, digits-below, digits_append, digits-split, digits-positional, positional-lt, positional-from, positional-append, positional-digits}
 
 -- the bytes of a slice
 pub slice-below : (bs : List ℕ) → ((i : ℕ) → Fits w8 (get_or bs i 0)) → Below 256 bs
@@ -97,6 +97,15 @@ pub last-part : (s : List ℕ) (at u w : ℕ) → Below 256 s → at + (u + w) �
 last-part s at u w b h =
     ap (λ (n : ℕ). n % 256 ^ w) (two-parts s at u w h)
     ∙ digits_mod (from_big_endian (take u (drop at s))) (part-lt s (at + u) w b (omega arith))
+
+-- and writing one
+pub store-parts : (l : List ℕ) (at u w n : ℕ) → sets (sets l at (big_endian u (n / 256 ^ w))) (at + u) (big_endian w (n % 256 ^ w)) ≡ sets l at (big_endian (u + w) n)
+store-parts l at u w n =
+    let high : List ℕ = big_endian u (n / 256 ^ w) in
+    let low : List ℕ = big_endian w (n % 256 ^ w) in
+    ap (λ (k : ℕ). sets (sets l at high) (at + k) low) (sym (length-big_endian u (n / 256 ^ w)))
+    ∙ sets-append l at high low
+    ∙ ap (sets l at) (sym (digits_append 256 u (n / 256 ^ w) [] low) ∙ digits-split 256 u w n [] (lit< tt))
 
 -- A field is written from the library's eight bytes of the number, which are its last eight digits in base 256.
 byte-shifted : (k n : ℕ) → byte_at (suc k) n ≡ byte_at k (n / 256)

@@ -1,7 +1,7 @@
 -- Digits in a base b: writing w digits and reading them back, either way round. Big-endian fields are the case b = 256.
-use Rattle.std.proofs.Common.{◌≡◌, ℕ, zero, suc, ◌+◌, ◌*◌, ◌/◌, ◌%◌, ◌^◌, ◌<◌, List, [], ◌∷◌, ◌++◌, length, get_or, take, drop, sym, refl, ap, ◌∙◌, ap₂, mod-lt, div-lt_iff_lt-mul, pow-suc, div-add-mod', zero-add, div-one, arith, get_or-drop}
-use native.Mathlib.Nat.{pow-zero, pow-succ', div-div-eq-div-mul}
-use lib.Arith.{digits_div, digits_mod, digits_lt}
+use Rattle.std.proofs.Common.{◌≡◌, ℕ, zero, suc, ◌+◌, ◌*◌, ◌/◌, ◌%◌, ◌^◌, ◌<◌, List, [], ◌∷◌, ◌++◌, length, get_or, take, drop, sym, refl, ap, ◌∙◌, ap₂, add-zero, add-suc, mod-lt, div-lt_iff_lt-mul, pow-suc, div-add-mod', zero-add, div-one, arith, get_or-drop}
+use native.Mathlib.Nat.{pow-zero, pow-succ', div-div-eq-div-mul, one-le-pow}
+use lib.Arith.{digits_div, digits_mod, digits_lt, mod-mul}
 use Rattle.notation.specs.Numbers.{positional, digits}
 
 -- every digit is below the base; past the end stands 0, which is too
@@ -77,6 +77,23 @@ pub positional-append : (b n : ℕ) (xs ys : List ℕ) → positional b n (xs ++
 unfolding positional
 positional-append b n [] ys = refl
 positional-append b n (x ∷ xs) ys = positional-append b (n * b + x) xs ys
+
+digits-mod-pow : (b w n : ℕ) (rest : List ℕ) → 0 < b → digits b w (n % b ^ w) rest ≡ digits b w n rest
+unfolding digits
+digits-mod-pow b zero n rest h = refl
+digits-mod-pow b (suc w) n rest h =
+    let parts : n % b ^ suc w ≡ n / b % b ^ w * b + n % b = ap (λ (p : ℕ). n % p) (pow-suc b w) ∙ mod-mul n (one-le-pow w b h) h in
+    let high : n % b ^ suc w / b ≡ n / b % b ^ w = rw (parts, digits_div (n / b % b ^ w) (mod-lt n h)) in
+    let low : n % b ^ suc w % b ≡ n % b = rw (parts, digits_mod (n / b % b ^ w) (mod-lt n h)) in
+    rw (high, low) (digits-mod-pow b w (n / b) ((n % b) ∷ rest) h)
+
+pub digits-split : (b u w n : ℕ) (rest : List ℕ) → 0 < b → digits b u (n / b ^ w) (digits b w (n % b ^ w) rest) ≡ digits b (u + w) n rest
+unfolding digits
+digits-split b u w n rest h = rw (digits-mod-pow b w n rest h) (go w n rest)
+  where
+    go : (w n : ℕ) (rest : List ℕ) → digits b u (n / b ^ w) (digits b w n rest) ≡ digits b (u + w) n rest
+    go zero n rest = rw (pow-zero, div-one, add-zero)
+    go (suc w) n rest = rw (pow-succ', ← div-div-eq-div-mul, add-suc) (go w (n / b) ((n % b) ∷ rest))
 
 -- reading back what was written
 pub positional-digits : (b w m n : ℕ) (rest : List ℕ) → 0 < b → n < b ^ w → positional b m (digits b w n rest) ≡ positional b (m * b ^ w + n) rest

@@ -24,7 +24,7 @@ fn some_range(low: u16, high: u16) -> Option<LayerRange>
     })
 }
 
-// Writes a range, if there is one, over the bytes from `at` on. Where the next one goes.
+// Writes a range, if there is one, over the bytes from `at` on. Answers where the next one goes.
 fn write_some(out: &mut [u8], at: usize, range: Option<LayerRange>) -> usize
     requires { at + 4 * length (table.listed range) ≤ length out.old }
     ensures out_after { out.new ≡ table.written out.old at (table.listed range) }
