@@ -17,7 +17,7 @@ use parse::layer_set_element;
 use parse::parts::LayerSetElement;
 
 impl<'a> Printer<'a> {
-    // Puts an element of a layer set. Out of its callers it would hand on the printer through memory.
+    // Puts an element of a layer set. Left out of its callers, it would pass the printer through memory.
     #[inline(always)]
     fn put_element(self, e: LayerSetElement) -> Printer<'a>
         ensures { Wrote self.entry result (print.put_element (means.layer_set_element_of e)) }
@@ -49,7 +49,7 @@ impl<'a> Printer<'a> {
         }
     }
 
-    // Puts a set, with its braces. It stays out of its caller, which puts leaves without sets in fewer instructions so.
+    // Puts a set, with its braces. It stays out of its caller, so that leaves without a set take fewer instructions.
     #[inline(never)]
     pub(crate) fn put_layer_set(self, part: &[u8]) -> Printer<'a>
         requires { is_some (layer_set_in part.now) ≡ true }

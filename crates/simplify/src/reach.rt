@@ -33,14 +33,14 @@ pub fn turn_over(reach: &mut [u16])
     }
 }
 
-// How many entries stand before the first at which a range begins.
+// How many entries stand before the first at which a range begins; none where none begins.
 fn before_start(reach: &[u16]) -> Option<usize>
     ensures { result ≡ position (λ far. not (far == 0)) reach.now }
 {
     reach.iter().position(|far| *far != 0)
 }
 
-// The first layer from `at` on where a range begins.
+// The first layer from `at` on where a range begins; none where none begins.
 fn next_start(reach: &[u16], at: usize) -> Option<usize>
     ensures { table.NextStart reach.now at result }
 {
