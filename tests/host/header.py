@@ -43,7 +43,7 @@ def rows():
         yield text, {"w": wca, "m": maximal}
 
 
-def variants(path, pattern):
+def numbered(path, pattern):
     """Gives the numbers that a match of the code has for the variants of an enum, by their names in capitals."""
     source = open(os.path.join(ROOT, "crates", path), encoding="utf-8").read()
     found = (m.groupdict() for m in re.finditer(pattern, source))
@@ -62,8 +62,8 @@ def enumerators(prefix):
 
 def names(program):
     """Compares names and numbers."""
-    expect(enumerators("HYPUZ_REFUSED_"), variants("notation/src/refusals.rt", r"Refusal::(?P<name>\w+) => (?P<number>\d+),"), "refusals by name")
-    expect(enumerators("HYPUZ_KIND_"), variants("record/src/kinds.rt", r"(?P<number>\d+) => Kind::(?P<name>\w+),"), "kinds by name")
+    expect(enumerators("HYPUZ_REFUSED_"), numbered("notation/src/refusals.rt", r"Refusal::(?P<name>\w+) => (?P<number>\d+),"), "refusals by name")
+    expect(enumerators("HYPUZ_KIND_"), numbered("record/src/kinds.rt", r"(?P<number>\d+) => Kind::(?P<name>\w+),"), "kinds by name")
     flags = {name.lower(): int(value) for name, value in re.findall(r"^#define HYPUZ_(\w+) (\d+)u +/\*", HEADER, re.M)}
     expect(flags, {name: 1 << i for i, name in enumerate(n.FLAGS)}, "features by name")
     lines = subprocess.run([program, "names"], stdout=subprocess.PIPE, check=True, text=True).stdout.splitlines()
