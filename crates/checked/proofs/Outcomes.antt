@@ -1,7 +1,7 @@
 -- What every entry comes to, case by case: a text or a tree that is refused, a buffer too short, a result. Assumes nothing.
 use Prim.Native.Nat.{ℕ, ◌≤◌, ◌<◌}
 use mathlib.Core.Path.{◌≡◌, refl, sym, ap, ◌∙◌}
-use mathlib.Core.Bool.{true, false}
+use mathlib.Core.Bool.{Bool, true, false}
 use mathlib.Core.List.{List, ◌++◌}
 use borrow.Author.Tests.{le-leb, lt-leb}
 use lib.ListN.{length, drop}
@@ -18,8 +18,10 @@ use Rattle.notation.specs.declared.refusals.Refusal.TheVariants.{TooLong, NotUtf
 use Rattle.laws.proofs.Bools.{no-refusal}
 use Rattle.laws.proofs.Unpacking.{well-formed-tree}
 use Rattle.laws.proofs.Accepting.{checked-tree}
+use Rattle.laws.specs.Unrolled.{first_refusal}
 use Rattle.well_formed.specs.declared.walk.Visited.{Visited}
 use Rattle.well_formed.specs.Meaning.{step_count, Meets}
+use Rattle.well_formed.specs.Refusing.{refuses as refuses_of}
 use Rattle.well_formed.proofs.Turns.{list-passed, list-refused}
 use Rattle.well_formed.specs.Formed.{well_formed_steps}
 use Rattle.std.specs.Prelude as code
@@ -42,6 +44,16 @@ module _ (text tree : List ℕ) where
   unfolding checked
   is-checked h u w = rw (le-leb (length text) MAX-TEXT h, u, w)
 
+  pub is-accepted : length text ≤ MAX-TEXT → utf8 text ≡ true → well_formed text tree ≡ true → (v : Visited) → v.steps ≡ cap (count (unpack tree)) →
+      refuses_of v.met ≡ (λ (d : Bool). first_refusal d (unpack tree)) → Checks text tree (code.Ok v)
+  is-accepted h u w v e m =
+      let is = is-checked h u w in
+      let a = well-formed-tree text tree w in
+      record {
+        answer = rw (is, e);
+        found = record { accepted = record { short = h; packed = a.packed; ok = a.ok; is = is }; meets = m };
+      }
+
   -- by what a visit found
   pub visited : length text ≤ MAX-TEXT → utf8 text ≡ true → (v : code.Option Visited) → step_count v ≡ well_formed_steps text tree → Meets v (unpack tree) →
       Checks text tree (code.ok_or v NotWellFormed)
@@ -50,12 +62,7 @@ module _ (text tree : List ℕ) where
       refuses NotWellFormed (rw (le-leb (length text) MAX-TEXT h, u, list-refused _ _ e))
   visited h u (code.Some v) e m =
       let k = list-passed _ _ _ e in
-      let is = is-checked h u k.0 in
-      let a = well-formed-tree text tree k.0 in
-      record {
-        answer = rw (is, k.1);
-        found = record { accepted = record { short = h; packed = a.packed; ok = a.ok; is = is }; meets = m };
-      }
+      is-accepted h u k.0 v k.1 m
 
   -- a tree that the rule accepts is accepted
   pub checked-accepted : (t : Tree) → checked text tree ≡ result t → Accepted text tree

@@ -25,7 +25,13 @@ pub fn check(text: &[u8], tree: &[u8]) -> Result<Visited, Refusal>
     if !is_utf8(text) {
         return Err(Refusal::NotUtf8);
     }
-    visit(text, tree).ok_or(Refusal::NotWellFormed)
+    let Some(found) = visit(text, tree) else {
+        return Err(Refusal::NotWellFormed);
+    };
+    Ok(Visited {
+        steps: found.steps,
+        met: found.met,
+    })
 }
 
 // How many steps a tree unrolls into, by what `check` answered of it: after 1, 2 and 6 come 7 or 8 and then 9. Entries that

@@ -43,7 +43,9 @@ pub fn simplify(
     if !(1..=MAX_LAYER).contains(&max_layer) {
         return Err(Refusal::NoSuchLayerCount);
     }
-    let found = record_at(tree, record)?;
+    let Ok(found) = record_at(tree, record) else {
+        return Err(Refusal::NoSuchRecord);
+    };
     if fields::kind(found) != Kind::Move {
         return Err(Refusal::NoSuchRecord);
     }
@@ -66,11 +68,14 @@ pub fn family_part(text: &[u8], tree: &[u8], record: u64) -> Result<Span, Refusa
     ensures fits { Fits result }
 {
     check(text, tree)?;
-    let found = record_at(tree, record)?;
-    match fields::kind(found) {
-        Kind::Rotation | Kind::Move => Ok(family_of(found)),
-        _ => Err(Refusal::NoSuchRecord),
+    let Ok(found) = record_at(tree, record) else {
+        return Err(Refusal::NoSuchRecord);
+    };
+    let kind = fields::kind(found);
+    if kind != Kind::Rotation && kind != Kind::Move {
+        return Err(Refusal::NoSuchRecord);
     }
+    Ok(family_of(found))
 }
 
 // The family itself: the very part of the caller's text, and an empty one where there is none.

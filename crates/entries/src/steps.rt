@@ -20,7 +20,10 @@ pub fn count_steps(text: &[u8], tree: &[u8]) -> Result<u64, Refusal>
 pub fn flatten(text: &[u8], tree: &[u8], out: &mut [u8]) -> Result<u64, Refusal>
     ensures { rule.lent result out.new ≡ rule.flatten_entry text.now tree.now out.old }
 {
-    let steps = count_steps(text, tree)?;
+    let counted = count_steps(text, tree);
+    let Ok(steps) = counted else {
+        return counted;
+    };
     let size = RECORD * (steps as usize);
     if out.len() < size {
         return Err(Refusal::NoRoom);
@@ -34,7 +37,10 @@ pub fn seek_step(text: &[u8], tree: &[u8], place: u64, step: &mut [u8]) -> Resul
     ensures { rule.lent result step.new
         ≡ rule.seek_step text.now tree.now place step.old }
 {
-    let steps = count_steps(text, tree)?;
+    let counted = count_steps(text, tree);
+    let Ok(steps) = counted else {
+        return counted;
+    };
     if steps <= place {
         return Err(Refusal::NoSuchPlace);
     }

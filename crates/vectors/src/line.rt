@@ -8,7 +8,10 @@ use std::marker::Model;
 pub const LINE: usize = 1100;
 
 // Decimal digits of the largest number.
-pub const DIGITS: usize = 20;
+pub const DECIMAL: usize = 20;
+
+// Its hexadecimal digits.
+pub const HEXADECIMAL: usize = 16;
 
 // The bytes that were put so far. Room for more is asked of the caller.
 #[derive(Drop)]
@@ -68,37 +71,37 @@ impl Line {
 
     // Puts a number in decimal.
     pub fn put_decimal(&mut self, n: u64)
-        requires { length self.old + DIGITS ≤ LINE }
-        ensures { length self.new ≤ length self.old + DIGITS }
+        requires { length self.old + DECIMAL ≤ LINE }
+        ensures { length self.new ≤ length self.old + DECIMAL }
     {
-        self.put_digits(n, 10, 1);
+        self.put_digits::<DECIMAL>(n, 10, 1);
     }
 
     // Puts a number in six hexadecimal digits, or in as many as it takes.
     pub fn put_hex(&mut self, n: u64)
-        requires { length self.old + DIGITS ≤ LINE }
-        ensures { length self.new ≤ length self.old + DIGITS }
+        requires { length self.old + HEXADECIMAL ≤ LINE }
+        ensures { length self.new ≤ length self.old + HEXADECIMAL }
     {
-        self.put_digits(n, 16, 6);
+        self.put_digits::<HEXADECIMAL>(n, 16, 6);
     }
 
-    // Puts the digits of a number without the zeros in front, but for those among the last `least` digits.
+    // Puts the last N digits of a number without the zeros in front, but for those among the last `least` digits.
     // By hand, since `write!` is no plainer: `write_str` may not ask for room, so each caller would have to take an error
     // apart that never comes.
-    fn put_digits(&mut self, n: u64, base: u64, least: usize)
-        requires room { length self.old + DIGITS ≤ LINE }
+    fn put_digits<const N: usize>(&mut self, n: u64, base: u64, least: usize)
+        requires room { length self.old + N ≤ LINE }
         requires positive { 0 < base }
         requires hexadecimal { base ≤ 16 }
-        requires within { least ≤ DIGITS }
-        ensures { length self.new ≤ length self.old + DIGITS }
+        requires within { least ≤ N }
+        ensures { length self.new ≤ length self.old + N }
     {
-        let mut digits = [0u8; DIGITS];
+        let mut digits = [0u8; N];
         let mut rest = n;
         for digit in digits.iter_mut().rev() {
             *digit = glyph((rest % base) as u8);
             rest /= base;
         }
-        let spare = DIGITS - least;
+        let spare = N - least;
         let zeros = digits[..spare]
             .iter()
             .position(|digit| *digit != b'0')

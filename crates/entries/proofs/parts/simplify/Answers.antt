@@ -33,34 +33,33 @@ returns-then-not-contains c =
     let a = c.args in
     simplify-layers a.text.now a.tree.now a.«record» a.max_layer a.allow_negatives a.out.now c.in_ok-check.ensures.found.accepted (search rules)
 
-pub returns-in_err-found : goal.returns-in_err-found
-returns-in_err-found c =
+pub returns-in_default : goal.returns-in_default
+returns-in_default c =
     let a = c.args in
-    rw (handed_on _ _ c.from_residual-in_err-found.ensures, c.in_err-found.ensures.0)
-    (simplify-none a.text.now a.tree.now a.«record» a.max_layer a.allow_negatives a.out.now c.in_ok-check.ensures.found.accepted (search rules) c.in_err-found.ensures.1)
+    simplify-none a.text.now a.tree.now a.«record» a.max_layer a.allow_negatives a.out.now c.in_ok-check.ensures.found.accepted (search rules) c.in_default.ensures.1
 
 pub returns-then-ne : goal.returns-then-ne
 returns-then-ne c =
     let a = c.args in
     let k = c.in_ok-check.ensures.found in
-    simplify-no-move a.text.now a.tree.now a.«record» a.max_layer a.allow_negatives a.out.now k.accepted (search rules) c.in_ok-found.ensures
-    (no-prefix c.in_ok-found.found.now (kind_number c.kind.result) c.kind.ensures (differs _ Move c.ne.ensures c.if-ne.true))
+    simplify-no-move a.text.now a.tree.now a.«record» a.max_layer a.allow_negatives a.out.now k.accepted (search rules) c.in-Ok.ensures
+    (no-prefix c.in-Ok.found.now (kind_number c.kind.result) c.kind.ensures (differs _ Move c.ne.ensures c.if-ne.true))
 
 pub simplify-requires-clause-layers_value : goal.simplify-requires-clause-layers_value
 simplify-requires-clause-layers_value c =
     let a = c.args in
     let k = c.in_ok-check.ensures.found in
     ap (λ (l : Layers Span). layers_ok a.text.now l) c.layers-layers.ensures
-    ∙ layers-inside c.in_ok-found.found.now (kind_number c.kind.result) c.kind.ensures a.text.now (same _ Move c.ne.ensures c.if-ne.false)
-    (accepted-record a.text.now a.tree.now a.«record» k.accepted c.in_ok-found.ensures)
+    ∙ layers-inside c.in-Ok.found.now (kind_number c.kind.result) c.kind.ensures a.text.now (same _ Move c.ne.ensures c.if-ne.false)
+    (accepted-record a.text.now a.tree.now a.«record» k.accepted c.in-Ok.ensures)
 
 pub returns : goal.returns
 returns c =
     let a = c.args in
     let k = c.in_ok-check.ensures.found in
-    simplify-move a.text.now a.tree.now a.«record» a.max_layer a.allow_negatives a.out.now k.accepted (search rules) c.in_ok-found.ensures
+    simplify-move a.text.now a.tree.now a.«record» a.max_layer a.allow_negatives a.out.now k.accepted (search rules) c.in-Ok.ensures
     c.tilde-inverted.result _
-    (some_prefix c.in_ok-found.found.now (kind_number c.kind.result) c.kind.ensures (same _ Move c.ne.ensures c.if-ne.false)
-    ∙ ap (λ (t : Bool). result (t, layers_at c.in_ok-found.found.now)) (sym c.tilde-inverted.ensures)
+    (some_prefix c.in-Ok.found.now (kind_number c.kind.result) c.kind.ensures (same _ Move c.ne.ensures c.if-ne.false)
+    ∙ ap (λ (t : Bool). result (t, layers_at c.in-Ok.found.now)) (sym c.tilde-inverted.ensures)
     ∙ ap (λ (l : Layers Span). result (c.tilde-inverted.result, l)) (sym c.layers-layers.ensures))
     _ c.simplify.ensures
