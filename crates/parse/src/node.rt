@@ -81,7 +81,9 @@ fn leaf_node(
     ensures { nodes.NodeAnswered (λ _. rule.node features rule.fail) text.now at slot tally tree.old
         tree.new result }
 {
-    let leaf = leaf(text, at, features)?;
+    let Some(leaf) = leaf(text, at, features) else {
+        return None;
+    };
     put_record(tree, slot, leaf.value, tally);
     Some(Listed {
         next: leaf.next,
@@ -182,7 +184,9 @@ fn group(
         return None;
     }
     let list = node_list(text, open + 1, features, tree, slot + 1, tally + OF_FIRST);
-    let end = close(text, list.next, features, b')')?;
+    let Some(end) = close(text, list.next, features, b')') else {
+        return None;
+    };
     let first = (list.slot - (slot + 1)) as u32;
     put_record(
         tree,
@@ -211,9 +215,13 @@ fn binary_group(
         text.now at slot tally tree.old tree.new result }
 {
     let a = node_list(text, at + 1, features, tree, slot + 1, tally + OF_FIRST);
-    let kind = binary_group_kind(text, a.next)?;
+    let Some(kind) = binary_group_kind(text, a.next) else {
+        return None;
+    };
     let b = node_list(text, a.next + 1, features, tree, a.slot, tally + OF_SECOND);
-    let end = close(text, b.next, features, b']')?;
+    let Some(end) = close(text, b.next, features, b']') else {
+        return None;
+    };
     let first = (a.slot - (slot + 1)) as u32;
     let second = (b.slot - a.slot) as u32;
     put_record(

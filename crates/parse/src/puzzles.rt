@@ -59,7 +59,9 @@ fn padded_number(text: &[u8], at: usize) -> Option<Parsed<u32>>
     ensures { reading (from_bits 32) text.now result ≡ rule.padded rule.i32 at (drop at text.now) }
 {
     let from = whitespace_end(text, at);
-    let number = sint(text, from, 0, MAX, MIN)?;
+    let Some(number) = sint(text, from, 0, MAX, MIN) else {
+        return None;
+    };
     Some(Parsed {
         value: number.value,
         next: whitespace_end(text, number.next),
@@ -71,9 +73,13 @@ fn pair(text: &[u8], at: usize) -> Option<Parsed<Fields>>
     requires { at ≤ length text.now }
     ensures { reading listed text.now result ≡ means.pair_after at (drop at text.now) }
 {
-    let u = padded_number(text, at)?;
+    let Some(u) = padded_number(text, at) else {
+        return None;
+    };
     if has(text, u.next, b',') {
-        let d = padded_number(text, u.next + 1)?;
+        let Some(d) = padded_number(text, u.next + 1) else {
+            return None;
+        };
         if has(text, d.next, b')') {
             return Some(Parsed {
                 value: pair_fields(u.value, d.value),

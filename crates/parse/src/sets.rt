@@ -112,7 +112,9 @@ pub fn layer_set_element(text: &[u8], at: usize, hsc1: bool) -> Option<Parsed<La
     requires { at ≤ length text.now }
     ensures { reading means.layer_set_element_of text.now result ≡ rule.layer_set_element hsc1 at (drop at text.now) }
 {
-    let first = sint(text, at, 1, MAX_LAYER, MAX_LAYER)?;
+    let Some(first) = sint(text, at, 1, MAX_LAYER, MAX_LAYER) else {
+        return None;
+    };
     let Some(last) = layer_after_dots(text, first.next) else {
         if hsc1 {
             return unsigned_layer_range(text, at, first);
@@ -156,7 +158,10 @@ impl Element for LayerElement {
     ghost reads = { λ layer. means.layer_end layer.hsc1 };
 
     fn end(self, text: &[u8], at: usize) -> Option<usize> {
-        Some(layer_set_element(text, at, self.hsc1)?.next)
+        let Some(element) = layer_set_element(text, at, self.hsc1) else {
+            return None;
+        };
+        Some(element.next)
     }
 }
 

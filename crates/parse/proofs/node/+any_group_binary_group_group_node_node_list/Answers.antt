@@ -74,7 +74,7 @@ binary_group-overflow_add-a t c =
     let pre = c.requires in
     let one = c.node_list-a in
     let opens = stands-first a.text.now a.at 91 pre.1 pre.2 in
-    let signs = c.in_ok-kind.ensures in
+    let signs = rw c.in-Some.is at c.binary_group_kind.ensures in
     let sign = signed a.text.now one.result.next _ one.ensures.inside signs in
     omega (arith, sign, pre.0.short)
 
@@ -89,7 +89,7 @@ binary_group-node_list-b-requires t c =
     let pre = c.requires in
     let one = c.node_list-a in
     let opens = stands-first a.text.now a.at 91 pre.1 pre.2 in
-    let signs = c.in_ok-kind.ensures in
+    let signs = rw c.in-Some.is at c.binary_group_kind.ensures in
     let sign = signed a.text.now one.result.next _ one.ensures.inside signs in (
       omega (arith, c.decreases, sign, one.ensures.advances, pre.1),
       record {
@@ -146,11 +146,11 @@ binary_group-returns t c =
     let one = c.node_list-a in
     let opens = stands-first a.text.now a.at 91 pre.1 pre.2 in
     let two = c.node_list-b in
-    let signs = c.in_ok-kind.ensures in
+    let signs = rw c.in-Some.is at c.binary_group_kind.ensures in
     let fields = c.binary_group_fields in
     rw c.put_record.ensures
-    (closed-binary a.features a.text.now a.at a.slot a.tally a.tree.now opens _ _ _ one.ensures c.in_ok-kind.kind signs _ _ _ two.ensures
-    c.in_ok-end.end.value c.in_ok-end.end.next (listed fields.result) fields.ensures c.in_ok-end.ensures)
+    (closed-binary a.features a.text.now a.at a.slot a.tally a.tree.now opens _ _ _ one.ensures c.in-Some.kind signs _ _ _ two.ensures
+    c.in-Some-close.end.value c.in-Some-close.end.next (listed fields.result) fields.ensures (rw c.in-Some-close.is at c.close.ensures))
 
 pub binary_group-shape_of-tree : goal.binary_group-shape_of-tree
 binary_group-shape_of-tree t c = (binary_group-returns t c).wrote.kept.long
@@ -229,7 +229,7 @@ group-returns t c =
     let fields = c.group_fields in
     rw c.put_record.ensures
     (closed-group a.features a.text.now a.at a.slot a.tally a.tree.now start.result.value start.result.next start.ensures opens (omega (arith, later)) _ _ _
-    (list.ensures) c.in_ok-end.end.value c.in_ok-end.end.next (listed fields.result) fields.ensures c.in_ok-end.ensures)
+    (list.ensures) c.in-Some.end.value c.in-Some.end.next (listed fields.result) fields.ensures (rw c.in-Some.is at c.close.ensures))
 
 pub group-returns-then-not-has : goal.group-returns-then-not-has
 group-returns-then-not-has t c =
@@ -311,37 +311,36 @@ node_list-loop-read-preserved t c =
     let read = rw c.in-Some.is at c.node.ensures in
     going_on a.features a.text.now a.at a.slot a.tally a.tree.now loop.next loop.end loop.tree _ loop.invariant c.in-Some.read.next c.in-Some.read.slot read c.whitespace_end-next-in-loop-read.result c.whitespace_end-next-in-loop-read.ensures c.if-next-read.false
 
-pub binary_group-returns-in_err-kind : goal.binary_group-returns-in_err-kind
-binary_group-returns-in_err-kind t c =
+pub binary_group-returns-in_default : goal.binary_group-returns-in_default
+binary_group-returns-in_default t c =
     let a = c.args in
     let pre = c.requires in
     let one = c.node_list-a in
     let opens = stands-first a.text.now a.at 91 pre.1 pre.2 in
-    rw c.from_residual.ensures
-    (unsigned-group a.features a.text.now a.at a.slot a.tally a.tree.now opens _ _ _ one.ensures c.in_err-kind.ensures)
+    unsigned-group a.features a.text.now a.at a.slot a.tally a.tree.now opens _ _ _ one.ensures
+    (rw c.in_default.is at c.binary_group_kind.ensures)
 
-pub binary_group-returns-in_err-end : goal.binary_group-returns-in_err-end
-binary_group-returns-in_err-end t c =
+pub binary_group-returns-in_default-close : goal.binary_group-returns-in_default-close
+binary_group-returns-in_default-close t c =
     let a = c.args in
     let pre = c.requires in
     let one = c.node_list-a in
     let opens = stands-first a.text.now a.at 91 pre.1 pre.2 in
     let two = c.node_list-b in
-    rw c.from_residual-in_err-end.ensures
-    (open-binary a.features a.text.now a.at a.slot a.tally a.tree.now opens _ _ _ one.ensures c.in_ok-kind.kind c.in_ok-kind.ensures _ _ _ two.ensures
-    c.in_err-end.ensures)
+    let signs = rw c.in-Some.is at c.binary_group_kind.ensures in
+    open-binary a.features a.text.now a.at a.slot a.tally a.tree.now opens _ _ _ one.ensures c.in-Some.kind signs _ _ _ two.ensures
+    (rw c.in_default-close.is at c.close.ensures)
 
-pub group-returns-in_err-end : goal.group-returns-in_err-end
-group-returns-in_err-end t c =
+pub group-returns-in_default : goal.group-returns-in_default
+group-returns-in_default t c =
     let a = c.args in
     let pre = c.requires in
     let start = c.group_kind-start in
     let opens = sym c.has.ensures ∙ c.if-not-has.false in
     let later = (within a.text.now a.at takes-kind pre.0.inside start.ensures).0 in
     let list = c.node_list-list in
-    rw c.from_residual.ensures
-    (open-group a.features a.text.now a.at a.slot a.tally a.tree.now start.result.value start.result.next start.ensures opens (omega (arith, later)) _ _ _
-    (list.ensures) c.in_err-end.ensures)
+    open-group a.features a.text.now a.at a.slot a.tally a.tree.now start.result.value start.result.next start.ensures opens (omega (arith, later)) _ _ _
+    (list.ensures) (rw c.in_default.is at c.close.ensures)
 
 pub node-returns : goal.node-returns
 node-returns t c =

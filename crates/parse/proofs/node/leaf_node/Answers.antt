@@ -6,6 +6,6 @@ use Rattle.parse.proofs.node.leaf_node.Goals as goal
 pub returns : goal.returns
 returns c =
     let a = c.args in
-    let read = c.in_ok-leaf in
+    let ends = rw c.in-Some.is at c.leaf.ensures.within in
     rw c.put_record.ensures
-    (leaf-read a.features a.text.now a.at a.slot a.tree.now a.tally (listed read.leaf.value) read.leaf.next read.ensures.means read.ensures.within.0 read.ensures.within.1)
+    (leaf-read a.features a.text.now a.at a.slot a.tree.now a.tally (listed c.in-Some.leaf.value) c.in-Some.leaf.next (rw c.in-Some.is at c.leaf.ensures.means) ends.0 ends.1)

@@ -12,7 +12,7 @@ pub sint-requires : goal.sint-requires
 sint-requires c = (omega (arith, c.whitespace_end-from.ensures, end-length white_space c.args.text.now c.args.at c.requires), omega arith, omega arith)
 
 pub whitespace_end-requires : goal.whitespace_end-requires
-whitespace_end-requires c = (within c.args.text.now c.whitespace_end-from.result (takes-sint 0 2147483647 2147483648) (omega (arith, c.whitespace_end-from.ensures, end-length white_space c.args.text.now c.args.at c.requires)) c.in_ok-number.ensures).1
+whitespace_end-requires c = (within c.args.text.now c.whitespace_end-from.result (takes-sint 0 2147483647 2147483648) (omega (arith, c.whitespace_end-from.ensures, end-length white_space c.args.text.now c.args.at c.requires)) (rw c.in-Some.is at c.sint.ensures)).1
 
 pub returns : goal.returns
-returns c = padded-some i32 c.args.text.now c.args.at c.whitespace_end-from.result c.whitespace_end-from.ensures _ c.in_ok-number.number.next c.whitespace_end.result c.in_ok-number.ensures c.whitespace_end.ensures
+returns c = padded-some i32 c.args.text.now c.args.at c.whitespace_end-from.result c.whitespace_end-from.ensures _ c.in-Some.number.next c.whitespace_end.result (rw c.in-Some.is at c.sint.ensures) c.whitespace_end.ensures
