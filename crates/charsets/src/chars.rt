@@ -50,7 +50,7 @@ pub fn is_ascii_family_char(c: u32) -> bool
     requires { c ≤ 127 }
     ensures { result ≡ is_family_char c }
 {
-    matches!(c, 0x61..=0x7a | 0x41..=0x5a | 0x5f)
+    is_latin_letter(c) || c == 0x5f
 }
 
 // Whether a family name may hold the character: one that has a class, and is no prime.
@@ -75,7 +75,7 @@ pub fn is_prime(c: u32) -> bool
 pub fn is_latin_letter(c: u32) -> bool
     ensures { result ≡ is_latin_letter c }
 {
-    matches!(c, 0x61..=0x7a | 0x41..=0x5a)
+    (0x61..=0x7a).contains(&c) || (0x41..=0x5a).contains(&c)
 }
 
 // Whether the ASCII character is white space. Most characters lie above the space, which one test tells.

@@ -260,18 +260,26 @@ pub fn is_utf8(s: &[u8]) -> bool
     true
 }
 
-// Where the run of wanted characters that begins at `at` ends. The offset goes on by a character, whose widths differ.
+// Where the run of wanted characters that begins at `at` ends. The offset goes on by a character, whose widths differ. It goes
+// on by one where the character is ASCII, and not by a width that is worked out from it, which the next read would wait for.
 fn run_end<W: Wanted>(s: &[u8], at: usize) -> usize
     requires { at ≤ length s.now }
     ensures { result ≡ at + run W.rule (drop at s.now) }
 {
     let mut end = at;
     while end < s.len() {
-        let width = width::<W>(s, end);
-        if width == 0 {
+        let a = byte_at(s, end);
+        if 0x7f < a {
+            let width = wide_width::<W>(s, end);
+            if width == 0 {
+                return end;
+            }
+            end += width;
+        } else if W::is_ascii_wanted(a) {
+            end += 1;
+        } else {
             return end;
         }
-        end += width;
     }
     end
 }
