@@ -7,7 +7,6 @@
 ghost use Rattle.std.specs.Prelude.{◌≡◌, ◌+◌, ◌^◌, ◌≤◌, ◌<◌};
 ghost use Rattle.notation.specs.Numbers.{from_bits};
 ghost use Rattle.notation.specs.Counts as rule;
-ghost use Rattle.record.specs.Kinds.{kind_number};
 ghost use Rattle.counts.specs.Groups.{contents as contents_of, group_count};
 
 use numbers::signed::magnitude;
@@ -25,11 +24,11 @@ pub fn sum(a: u64, b: u64) -> u64
 }
 
 // The count of a group by those of its lists; a group that is not binary has one list. A NISS group counts 0.
-pub fn of_group(kind: Kind, multiplier: u32, a: u64, b: u64) -> u64
+pub fn of_group(kind: u8, multiplier: u32, a: u64, b: u64) -> u64
     requires { (a ≤ rule.CAP) × (b ≤ rule.CAP) }
-    ensures { result ≡ group_count (kind_number kind) (from_bits 32 multiplier) a b }
+    ensures { result ≡ group_count kind (from_bits 32 multiplier) a b }
 {
-    if kind == Kind::Niss {
+    if kind == Kind::Niss.number() {
         return 0;
     }
     cap(magnitude(multiplier) as u64 * contents(kind, a, b))
@@ -37,23 +36,25 @@ pub fn of_group(kind: Kind, multiplier: u32, a: u64, b: u64) -> u64
 
 // The count of a group's contents played once. Kinds follow each other in no order that the machine could guess, so they
 // choose numbers and not ways.
-fn contents(kind: Kind, a: u64, b: u64) -> u64
+fn contents(kind: u8, a: u64, b: u64) -> u64
     requires { (a ≤ rule.CAP) × (b ≤ rule.CAP) }
-    ensures { result ≡ rule.cap (contents_of (kind_number kind) a b) }
+    ensures { result ≡ rule.cap (contents_of kind a b) }
 {
     let (first, second) = times(kind);
     cap(first * a + second * b)
 }
 
 // How often each list is played: both twice in A B A' B', the first twice in A B A'.
-fn times(kind: Kind) -> (u64, u64)
-    ensures first { (result.0 ≡ contents_of (kind_number kind) 1 0) × (result.0 ≤ 2) }
-    ensures second { (result.1 ≡ contents_of (kind_number kind) 0 1) × (result.1 ≤ 2) }
+fn times(kind: u8) -> (u64, u64)
+    ensures first { (result.0 ≡ contents_of kind 1 0) × (result.0 ≤ 2) }
+    ensures second { (result.1 ≡ contents_of kind 0 1) × (result.1 ≤ 2) }
 {
-    match kind {
-        Kind::Commutator => (2, 2),
-        Kind::Conjugate => (2, 1),
-        _ => (1, 0),
+    if kind == Kind::Commutator.number() {
+        (2, 2)
+    } else if kind == Kind::Conjugate.number() {
+        (2, 1)
+    } else {
+        (1, 0)
     }
 }
 

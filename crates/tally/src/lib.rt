@@ -71,7 +71,7 @@ fn group_count(t: &[u8], tally: usize, sums: &mut [u64; TALLIES]) -> u64
     let first = tally + OF_FIRST as usize;
     let second = tally + OF_SECOND as usize;
     let count = of_group(
-        fields::kind(t),
+        fields::kind(t).number(),
         fields::number(t),
         sums[first],
         sums[second],

@@ -4,7 +4,6 @@ ghost use Rattle.std.proofs.Math.Option.{none};
 ghost use Rattle.notation.specs.Numbers.{from_bits};
 ghost use Rattle.notation.specs.Packed.{RECORD};
 ghost use Rattle.notation.specs.Unroll.{turned as turned_by};
-ghost use Rattle.record.specs.Kinds.{kind_number};
 ghost use Rattle.record.specs.Meaning.{field, NUMBER};
 ghost use Rattle.laws.specs.Unrolled as unrolling;
 ghost use Rattle.well_formed.specs.Refusing.{refuses, leaf_refuses, contents_refuse, group_refuses};
@@ -53,12 +52,11 @@ pub fn join_leaf(a: Refusals, overflows: bool) -> Refusals
 
 // The refusals of a group of this kind, given its record, by those of its lists; a group that is not binary has one list. A
 // NISS group is refused even at multiplier 0; what is repeated 0 times is never reached.
-pub fn of_group(kind: Kind, group: &[u8], a: Refusals, b: Refusals) -> Refusals
+pub fn of_group(kind: u8, group: &[u8], a: Refusals, b: Refusals) -> Refusals
     requires { RECORD ≤ length group.now }
-    ensures { refuses result
-        ≡ group_refuses (kind_number kind) (from_bits 32 (field NUMBER group.now)) (refuses a) (refuses b) }
+    ensures { refuses result ≡ group_refuses kind (from_bits 32 (field NUMBER group.now)) (refuses a) (refuses b) }
 {
-    if kind == Kind::Niss {
+    if kind == Kind::Niss.number() {
         return Refusals {
             forward: Some(Refusal::Niss),
             backward: Some(Refusal::Niss),
@@ -83,19 +81,21 @@ fn both_none(a: Refusals, b: Refusals) -> bool
 }
 
 // The refusals of a group's contents, played once and forward or once and inverted.
-fn contents(kind: Kind, a: Refusals, b: Refusals) -> Refusals
-    ensures { refuses result ≡ contents_refuse (kind_number kind) (refuses a) (refuses b) }
+fn contents(kind: u8, a: Refusals, b: Refusals) -> Refusals
+    ensures { refuses result ≡ contents_refuse kind (refuses a) (refuses b) }
 {
-    match kind {
-        Kind::Commutator => Refusals {
+    if kind == Kind::Commutator.number() {
+        Refusals {
             forward: a.forward.or(b.forward.or(a.backward.or(b.backward))),
             backward: b.forward.or(a.forward.or(b.backward.or(a.backward))),
-        },
-        Kind::Conjugate => Refusals {
+        }
+    } else if kind == Kind::Conjugate.number() {
+        Refusals {
             forward: a.forward.or(b.forward.or(a.backward)),
             backward: a.forward.or(b.backward.or(a.backward)),
-        },
-        _ => a,
+        }
+    } else {
+        a
     }
 }
 

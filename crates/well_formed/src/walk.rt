@@ -101,8 +101,8 @@ fn visit_group(text: &[u8], t: &[u8], depth: usize) -> Option<Visited>
     if !kind.is_binary() {
         return compared(
             fields::count(t),
-            counts::of_group(kind, number, a.steps, 0),
-            of_group(kind, t, a.met, NONE),
+            counts::of_group(kind.number(), number, a.steps, 0),
+            of_group(kind.number(), t, a.met, NONE),
         );
     }
     let second = fields::second(t);
@@ -110,8 +110,8 @@ fn visit_group(text: &[u8], t: &[u8], depth: usize) -> Option<Visited>
     let b = visit_list(text, &t[middle..end], depth - 1)?;
     compared(
         fields::count(t),
-        counts::of_group(kind, number, a.steps, b.steps),
-        of_group(kind, t, a.met, b.met),
+        counts::of_group(kind.number(), number, a.steps, b.steps),
+        of_group(kind.number(), t, a.met, b.met),
     )
 }
 

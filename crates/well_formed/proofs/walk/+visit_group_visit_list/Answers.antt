@@ -98,9 +98,9 @@ visit_group-returns-then-not-is_binary t c =
     let low : kind_at a.t.now < 4 = rw (← c.kind-kind.ensures) (single (omega (arith, c.requires.t_bound)) c.kind-kind.ensures c.is_binary.ensures c.if-not-is_binary.true) in
     let in-a = c.in_ok-a.a.met in
     let met = first-met one (c.visit_list.result) c.in_ok-a.a c.in_ok-a.was (c.visit_list.ensures.meets) in
-    let found = group-found (no_second one low) 0 refl c.kind-kind.ensures c.number-number.ensures c.count.ensures c.of_group.ensures
+    let found = group-found (no_second one low) 0 refl (c.number.ensures.value ∙ c.kind-kind.ensures) c.number-number.ensures c.count.ensures c.of_group.ensures
     c.compared.result c.of_group-then-not-is_binary.result
-    (group-meets a.text.now a.depth a.t.now one.told c.of_group-then-not-is_binary.result in-a none-met c.kind-kind.ensures refl met (none-second one low) c.of_group-then-not-is_binary.ensures)
+    (group-meets a.text.now a.depth a.t.now one.told c.of_group-then-not-is_binary.result in-a none-met (c.number-then-not-is_binary.ensures.value ∙ c.kind-kind.ensures) refl met (none-second one low) c.of_group-then-not-is_binary.ensures)
     c.compared.ensures in
     record { result_value = found.0; meets_node = found.1 }
 
@@ -113,9 +113,9 @@ visit_group-returns t c =
     let in_b = c.in_ok-b.b.met in
     let met = first-met both.one (c.visit_list.result) c.in_ok-a.a c.in_ok-a.was (c.visit_list.ensures.meets) in
     let met' = second-met both c.visit_list-2.result c.in_ok-b.b c.in_ok-b.was c.visit_list-2.ensures.meets in
-    let found = group-found both c.in_ok-b.b.steps (ap answer c.in_ok-b.was) c.kind-kind.ensures c.number-number.ensures c.count-2.ensures c.of_group-2.ensures
+    let found = group-found both c.in_ok-b.b.steps (ap answer c.in_ok-b.was) (c.number-2.ensures.value ∙ c.kind-kind.ensures) c.number-number.ensures c.count-2.ensures c.of_group-2.ensures
     c.compared-2.result c.of_group-3.result
-    (group-meets a.text.now a.depth a.t.now both.one.told c.of_group-3.result in-a in_b c.kind-kind.ensures refl met met' c.of_group-3.ensures)
+    (group-meets a.text.now a.depth a.t.now both.one.told c.of_group-3.result in-a in_b (c.number-3.ensures.value ∙ c.kind-kind.ensures) refl met met' c.of_group-3.ensures)
     c.compared-2.ensures in
     record { result_value = found.0; meets_node = found.1 }
 
