@@ -27,7 +27,17 @@ impl<'a> Printer<'a> {
         ensures bytes { result.out.now ≡ out.old }
         ensures place { result.at ≡ 0 }
     {
-        Printer { out, at: 0 }
+        Printer::at(out, 0)
+    }
+
+    // Prints into `out` from the place `at` on.
+    pub fn at(out: &'a mut [u8], at: usize) -> Printer<'a>
+        requires { at ≤ most }
+        ensures same_reference { result.out.ghost_name ≡ out.entry.ghost_name }
+        ensures bytes { result.out.now ≡ out.old }
+        ensures place { result.at ≡ at }
+    {
+        Printer { out, at }
     }
 
     // The next place, which is how long the text is so far.

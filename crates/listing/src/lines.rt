@@ -3,8 +3,7 @@ ghost use Rattle.std.specs.Prelude.{◌≡◌, false, [], ℕ, ◌≤◌, ◌<�
 ghost use Rattle.std.proofs.Math.Option.{some};
 ghost use Rattle.std.proofs.Math.ListN.{get_elem?};
 ghost use Rattle.notation.specs.Numbers.{show};
-ghost use Rattle.notation.specs.Refusals.{refusal as refused};
-ghost use Rattle.notation.specs.Lending.{number};
+ghost use Rattle.notation.specs.Refusals.{refusal};
 ghost use Rattle.notation.specs.Tree.{Leaf};
 ghost use Rattle.notation.specs.Packed.{unpack};
 ghost use Rattle.notation.specs.Meaning.{step_of};
@@ -21,7 +20,6 @@ ghost use Rattle.listing.specs.Listing.{MAX-TREE as max_tree};
 use checked::check;
 use display::Printer;
 use expand::seek::seek;
-use notation::refusals::Refusal;
 use record::RECORD;
 
 // Bytes of a text that is listed, and of its tree, which has at most a record for each of them.
@@ -30,13 +28,13 @@ pub const MAX_INPUT: usize = 3072;
 pub const MAX_TREE: usize = RECORD * MAX_INPUT;
 
 // Puts a line whose field is a refusal.
-pub fn refused_line<'a>(printer: Printer<'a>, label: &[u8], refusal: Refusal) -> Printer<'a>
-    ensures { Wrote printer.entry result (rule.line label.now (rule.field (refused (number refusal)))) }
+pub fn refused_line<'a>(printer: Printer<'a>, label: &[u8], number: u8) -> Printer<'a>
+    ensures { Wrote printer.entry result (rule.line label.now (rule.field (refusal number))) }
 {
     printer
         .put_bytes(label)
         .put_bytes(b" refused ")
-        .put_number(refusal.number() as u32)
+        .put_number(number as u32)
         .put(b'\n')
 }
 
@@ -58,7 +56,7 @@ pub fn tree_line<'a>(printer: Printer<'a>, label: &[u8], text: &[u8], tree: &[u8
             .put(b' ')
             .put_nodes(text, tree)
             .put(b'\n'),
-        Err(refusal) => refused_line(printer, label, refusal),
+        Err(refusal) => refused_line(printer, label, refusal.number()),
     }
 }
 
@@ -74,7 +72,7 @@ pub fn inverse_line<'a>(printer: Printer<'a>, label: &[u8], text: &[u8], tree: &
             let end = size as usize;
             tree_line(printer, label, text, &inverse[0..end])
         }
-        Err(refusal) => refused_line(printer, label, refusal),
+        Err(refusal) => refused_line(printer, label, refusal.number()),
     }
 }
 

@@ -98,7 +98,7 @@ fn put_listing<'a>(printer: Printer<'a>, text: &[u8], features: Features) -> Pri
             let end = size as usize;
             put_tree(printer, text, &tree[0..end])
         }
-        Err(refusal) => refused_line(printer, b"text", refusal),
+        Err(refusal) => refused_line(printer, b"text", refusal.number()),
     }
 }
 
@@ -123,7 +123,7 @@ fn put_steps<'a>(printer: Printer<'a>, text: &[u8], tree: &[u8]) -> Printer<'a>
             let counted = number_line(printer, b"steps", n as u32);
             step_lines(counted, text, tree, n)
         }
-        Err(refusal) => refused_line(printer, b"steps", refusal),
+        Err(refusal) => refused_line(printer, b"steps", refusal.number()),
     }
 }
 

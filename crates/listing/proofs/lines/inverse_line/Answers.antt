@@ -1,8 +1,9 @@
 -- The inverse fits: it is as long as its tree. Assumes nothing.
 use Prim.Native.Nat.{ℕ}
-use mathlib.Core.Path.{ap}
+use mathlib.Core.Path.{sym, ap, ◌∙◌}
 use native.Mathlib.Omega.{arith}
 use lib.ListN.{replicate, length-replicate}
+use Rattle.notation.specs.Refusals.{refusal}
 use Rattle.notation.specs.Entries.{inverse, outcome}
 use Rattle.listing.specs.Listing.{MAX-TREE}
 use Rattle.listing.proofs.Fields.{wrote-field, inverse-given, inverse-refused}
@@ -26,4 +27,4 @@ returns-in-Err c =
     let a = c.args in
     let r = unlent (inverse a.text.now a.tree.now) (replicate MAX-TREE 0) _ _
     (λ l e. omega (arith, inverse-long a.text.now a.tree.now l e, c.requires, length-replicate {0} {A = ℕ} MAX-TREE 0)) (ap outcome c.in-Err.is) c.inv.ensures in
-    wrote-field a.label.now (inverse-refused a.text.now a.tree.now _ r) c.refused_line.ensures
+    wrote-field a.label.now (inverse-refused a.text.now a.tree.now _ (r ∙ ap refusal (sym c.number.ensures))) c.refused_line.ensures

@@ -1,6 +1,6 @@
 -- The tree fits: it has at most a record for each byte of its text. Assumes nothing.
 use Prim.Native.Nat.{ℕ}
-use mathlib.Core.Path.{ap}
+use mathlib.Core.Path.{sym, ap, ◌∙◌}
 use native.Mathlib.Omega.{arith}
 use lib.ListN.{replicate, length-replicate}
 use Rattle.notation.specs.Refusals.{refusal}
@@ -29,4 +29,4 @@ returns-in-Err c =
     let a = c.args in
     let r = unlent (reading a.features a.text.now) (replicate MAX-TREE 0) _ _
     (λ l e. omega (arith, reading-long a.features a.text.now l e, c.if-text-gt-MAX_INPUT.false, length-replicate {0} {A = ℕ} MAX-TREE 0)) (ap outcome c.in-Err.is) c.parse_notation.ensures in
-    wrote-to (listing a.features a.text.now) (text-fits a.features a.text.now (refusal _) c.if-text-gt-MAX_INPUT.false r) c.refused_line.ensures
+    wrote-to (listing a.features a.text.now) (text-fits a.features a.text.now (refusal _) c.if-text-gt-MAX_INPUT.false (r ∙ ap refusal (sym c.number.ensures))) c.refused_line.ensures

@@ -69,11 +69,13 @@ put_group-put_nodes-requires-2 t c =
       (c.first_end-middle.ensures.packed_first, o.ok_first),
     )
 
+-- Either list would do here; that it is the second, the return asks.
 pub put_group-put_nodes-requires-3 : goal.put_group-put_nodes-requires-3
 put_group-put_nodes-requires-3 t c =
-    let o = two (goal.at.put_group-put_nodes-requires-3 t c).After-first_end-middle in (
-      list-less c.args.bytes.now c.first_end-middle.result (length c.args.bytes.now) _ c.first_end-middle.ensures.least (node-room c.requires.good_node.is_node) c.decreases,
-      (c.first_end-middle.ensures.packed_second, o.inside.ok_second),
+    let l = c.first_end-middle.ensures in
+    let o = (two (goal.at.put_group-put_nodes-requires-3 t c).After-first_end-middle).inside in (
+      list-less c.args.bytes.now _ _ _ (omega (arith, l.least)) (node-room c.requires.good_node.is_node) c.decreases,
+      (assumption (l.packed_second, l.packed_first), assumption (o.ok_second, o.ok_first)),
     )
 
 pub put_group-returns : goal.put_group-returns
