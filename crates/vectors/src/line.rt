@@ -95,7 +95,8 @@ impl Line {
         requires within { least ≤ N }
         ensures { length self.new ≤ length self.old + N }
     {
-        let mut digits = [0u8; N];
+        let mut all = [0u8; N];
+        let digits = &mut all[..];
         let mut rest = n;
         for digit in digits.iter_mut().rev() {
             *digit = glyph((rest % base) as u8);
