@@ -42,10 +42,10 @@ returns c =
     let k = c.in_ok-check.ensures.found in
     let found = c.in-Ok.found.now in
     let between : (6 ≤ kind_number c.kind-kind.result) × (kind_number c.kind-kind.result ≤ 7) =
-        elim c.else-ne.branch [
-          else-ne-via-then-ne+else-ne-2 w ↦ let e = same _ Move w.ne-then-ne.ensures w.if-ne-2.false in (omega (arith, e), omega (arith, e))
-          | else-ne-via-else-ne w ↦ let e = same _ Rotation c.ne.ensures w.if-ne.false in (omega (arith, e), omega (arith, e))
-        ] in record {
+    elim c.else-ne.branch [
+      | else-ne-via-then-ne+else-ne-2 w ↦ let e = same _ Move w.ne-then-ne.ensures w.if-ne-2.false in (omega (arith, e), omega (arith, e))
+      | else-ne-via-else-ne w ↦ let e = same _ Rotation c.ne.ensures w.if-ne.false in (omega (arith, e), omega (arith, e))
+    ] in record {
       result_value = ap result c.family_of.ensures.result_value
           ∙ family-named found _ c.kind-kind.ensures between.0 between.1 ∙ family-is a.text.now a.tree.now a.«record» k.accepted c.in-Ok.ensures;
       inside = ap (λ (p : Span). inside a.text.now p) c.family_of.ensures.result_value
