@@ -44,7 +44,7 @@ pub fn classify(c: u32) -> Option<CharSet>
 }
 
 // Whether a family name may hold the ASCII character. It is the usual case and does without the table, which the compiler
-// builds anew at each read.
+// builds anew at each read. By two tests: one `matches!` of letters and underscore takes five instructions more.
 #[tactic(auto, using(crate::proofs::Sets::ascii_family))]
 pub fn is_ascii_family_char(c: u32) -> bool
     requires { c ≤ 127 }
